@@ -1,0 +1,44 @@
+// What is run: cases, each with one stream for each hart.
+use tm_base::{List, Text, Words};
+
+/// How the harts share a window: all of each line, a part of each line, or lines of their own.
+#[derive(Clone, Copy, Debug, PartialEq, Eq)]
+pub enum Kind2 {
+    True,
+    False,
+    Own,
+}
+
+/// A window of shared memory, of which the first `lines` lines are declared. `number` is below 3.
+#[derive(Clone, Copy, Debug, PartialEq, Eq)]
+pub struct Window {
+    pub number: u32,
+    pub kind: Kind2,
+    pub lines: u32,
+}
+
+/// The words of one hart in one case, and the first values of x0 to x31.
+#[derive(Drop)]
+pub struct Stream {
+    pub words: Words,
+    pub regs: [u64; 32],
+}
+
+/// One stream for each hart, and the first values of the 768 dwords of the three windows.
+#[derive(Drop)]
+pub struct Case {
+    pub name: Text,
+    pub streams: List<Stream>,
+    pub first: List<u64>,
+}
+
+/// All cases of a test, and what they share. `line` is the line size in bytes.
+#[derive(Drop)]
+pub struct Cases {
+    pub name: Text,
+    pub harts: u32,
+    pub line: u32,
+    pub passes: u32,
+    pub windows: List<Window>,
+    pub cases: List<Case>,
+}

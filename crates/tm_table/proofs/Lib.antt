@@ -1,0 +1,6 @@
+pub mod Own
+pub mod Fields
+pub mod Signs
+pub mod Layouts
+pub mod Decoding
+pub mod Worked

@@ -1,0 +1,15 @@
+pub mod Lists
+pub mod Place
+pub mod Run
+pub mod Writers
+pub mod Kinds
+pub mod Marks
+pub mod Course
+pub mod Whole
+pub mod Verdict
+pub mod Work
+pub mod Slots
+pub mod Trails
+pub mod Checked
+pub mod Sound
+pub mod Laws

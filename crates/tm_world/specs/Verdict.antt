@@ -1,0 +1,70 @@
+-- End values, and the verdict over them, on one hart's own steps (this project's own).
+use Rattle.std.specs.Prelude.{◌≡◌, ℕ, ◌+◌, ◌-◌, ◌*◌, ◌/◌, ◌%◌, ◌^◌, ◌<◌, Bool, ◌&&◌, not, nat_lt, ◌==◌, List, [], ◌∷◌, length, slice_index, slice_get, Option, Some, None, IsTrue, All, map, if◌then◌else◌, option_map}
+use Rattle.tm_table.specs.declared.state.Access.TheVariants.{Write}
+use Rattle.tm_table.specs.State.{Hart}
+use Rattle.tm_plan.specs.declared.program.Program.{Program}
+use Rattle.tm_plan.specs.declared.masks.CaseMask.{CaseMask}
+use Rattle.tm_plan.specs.Map.{verdict_at, windows_base}
+use Rattle.tm_plan.specs.Collected.{count_from, owned}
+use Rattle.tm_world.specs.Place.{passes, exit_of, inside}
+use Rattle.tm_world.specs.Run.{Step, now, access_of, got, phase, earliest, Always}
+
+-- ---- end values
+
+-- the run phase of pass k of case c
+abbrev pub run_phase : Program → ℕ → ℕ → ℕ
+run_phase p c k = 2 * (c * passes p + k) + 1
+
+-- the hart's state after the first step that leaves stream (h, c) in phase q
+abbrev pub left_with : Program → ℕ → ℕ → ℕ → Hart → List Step → Option Hart
+left_with p h c q first = earliest (λ past s.
+    if (phase (exit_of p h) past == q) && (inside p h c (now first past).pc && not (inside p h c s.after.pc)) then Some s.after else None)
+
+-- what the hart's first read of b in phase q returned
+abbrev pub first_read : Program → ℕ → ℕ → ℕ → List Step → Option ℕ
+first_read p h b q = earliest (λ past s. if phase (exit_of p h) past == q then got (access_of s) b else None)
+
+-- what is compared: a register, or a shared byte
+pub data Part : Type 0 where
+  Register : (r : ℕ) → Part
+  Byte : (b : ℕ) → Part
+
+-- The end value of a register of hart h, or of a byte that hart h collects, in pass k of case c: the register's value where the
+-- hart leaves the stream, and what the hart's first read of the byte in the phase after it returned.
+abbrev pub end_value : Program → ℕ → ℕ → ℕ → Hart → List Step → Part → Option ℕ
+end_value p h c k first own (Register r) = option_map (λ (s : Hart). slice_index s.x r) (left_with p h c (run_phase p c k) first own)
+end_value p h c k first own (Byte b) = first_read p h b (run_phase p c k + 1) own
+
+-- ---- the verdict
+
+-- The parts of saved dword i of hart h: x1 to x30 in dwords 0 to 29, and from dword 30 on the bytes of the dwords that it collects.
+abbrev pub parts : Program → ℕ → ℕ → List Part
+parts p h i = if nat_lt i 30 then Register (i + 1) ∷ [] else map (λ j. Byte (slice_index (owned p.cases h) (i - 30) + j)) (count_from 0 8)
+
+-- how many dwords hart h saves in a pass
+abbrev pub saved : Program → ℕ → ℕ
+saved p h = 30 + length (owned p.cases h)
+
+-- the mask has the part as checked
+abbrev pub is_checked : CaseMask → ℕ → Part → Bool
+is_checked m h (Register r) = slice_index m.regs h / 2 ^ r % 2 == 1
+is_checked m h (Byte b) = slice_index m.bytes (b - windows_base) == 255
+
+-- Dword i has the same checked parts at the end of pass k as at the end of pass 0.
+abbrev pub Same : Program → CaseMask → ℕ → ℕ → Hart → List Step → ℕ → ℕ → Type 0
+Same p m h c first own k i = All (λ part. IsTrue (is_checked m h part) → end_value p h c k first own part ≡ end_value p h c 0 first own part) (parts p h i)
+
+-- The verdict is 0 where no checked part differs between a pass and pass 0. Else it names the least pass with a difference, k, and
+-- in it the least dword that differs, i, as k * 2 ^ 32 + i + 1.
+pub data IsVerdict (p : Program) (m : CaseMask) (h c : ℕ) (first : Hart) (own : List Step) : ℕ → Type 0 where
+  agree : ((k i : ℕ) → k < passes p → i < saved p h → Same p m h c first own k i) → IsVerdict p m h c first own 0
+  differ : (k i : ℕ) → k < passes p → i < saved p h
+      → (Same p m h c first own k i → ⊥)
+      → ((k' i' : ℕ) → k' < k → i' < saved p h → Same p m h c first own k' i')
+      → ((i' : ℕ) → i' < i → Same p m h c first own k i')
+      → IsVerdict p m h c first own (k * 2 ^ 32 + i + 1)
+
+-- Each number that is written to a verdict cell of hart h is the verdict over what was before.
+abbrev pub WritesExactly : Program → ℕ → Hart → List Step → Type 0
+WritesExactly p h first = Always (λ past s. (c : ℕ) (m : CaseMask) (v : ℕ) → slice_get p.masks.cases c ≡ Some m
+    → access_of s ≡ Write (verdict_at c h) 8 v → IsVerdict p m h c first past v)

@@ -1,0 +1,14 @@
+// Laws over the definitions, each as the contract of a function that does nothing.
+ghost use Rattle.tm_world.specs.Kinds.{Legal, Half, Plain};
+ghost use Rattle.tm_world.specs.Laws.{PassesToPrefixes};
+
+use tm_plan::Program;
+
+/// Each prefix of a legal run is a legal run, and the same holds of half runs and of plain runs.
+pub fn prefixes(program: &Program)
+    ensures legal { PassesToPrefixes (Legal program.now) }
+    ensures half { PassesToPrefixes (Half program.now) }
+    ensures plain { PassesToPrefixes (Plain program.now) }
+{
+    let _ = program;
+}
