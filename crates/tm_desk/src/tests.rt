@@ -1,0 +1,131 @@
+use super::*;
+use std::fmt::Display;
+use std::fs;
+use std::io::{self, ErrorKind, Print};
+use std::test::Fail;
+use tm_base::List;
+
+#[test]
+fn a_desk_in_memory_fails_where_told(rt: HostRuntime) -> Result<(), Fail> {
+    let alloc = rt.alloc();
+    let mut fails = List::new(alloc);
+    fails.push(2)?;
+    fails.push(7)?;
+    let mut desk = MemDesk::new(alloc, fails);
+    desk.put_file("a", b"one")?;
+    desk.put_file("b", b"other")?;
+    assert_eq!(rt; desk.read("a", 3)?.as_slice(), b"one".as_slice());
+    assert!(rt; matches!(desk.read("a", 3), Err(DeskError::Failed)));
+    assert!(rt; matches!(desk.read("a", 2), Err(DeskError::TooLong { max: 2 })));
+    assert!(rt; matches!(desk.read("none", 2), Err(DeskError::Failed)));
+    desk.write("a", b"")?;
+    assert_eq!(rt; desk.read("a", 0)?.as_slice(), b"".as_slice());
+    assert_eq!(rt; desk.write("a", b"lost"), Err(DeskError::Failed));
+    assert_eq!(rt; desk.read("b", 5)?.as_slice(), b"other".as_slice());
+    Ok(())
+}
+
+#[test]
+fn a_calm_desk_holds_an_empty_file_under_every_other_name(rt: HostRuntime) -> Result<(), Fail> {
+    let mut desk = CalmDesk::new(rt.alloc());
+    desk.put_file("a", b"one")?;
+    desk.write("b", b"two")?;
+    for (name, held) in [("a", "one"), ("b", "two"), ("c", "")] {
+        assert_eq!(rt;
+            desk.read(name, 3)?.as_slice(),
+            held.as_bytes(),
+            "at {name}"
+        );
+    }
+    assert!(rt; matches!(desk.read("a", 2), Err(DeskError::TooLong { max: 2 })));
+    Ok(())
+}
+
+#[test]
+fn a_sink_in_memory_takes_pieces_and_fails_where_told(rt: HostRuntime) -> Result<(), Fail> {
+    let alloc = rt.alloc();
+    let mut fails = List::new(alloc);
+    fails.push(4)?;
+    let mut sink = MemSink::new(alloc, 2, fails);
+    put_all(&mut sink, b"abcde")?;
+    assert_eq!(rt; sink.taken(), b"abcde".as_slice());
+    assert_eq!(rt; put_all(&mut sink, b"f"), Err(SinkError::Failed));
+    assert_eq!(rt; sink.taken(), b"abcde".as_slice());
+    assert_eq!(rt; sink.put(b"fgh"), Ok(2));
+    assert_eq!(rt; sink.taken(), b"abcdefg".as_slice());
+    let mut calm = CalmSink::new(alloc);
+    assert_eq!(rt; calm.put(b"abc"), Ok(3));
+    assert_eq!(rt; calm.taken(), b"abc".as_slice());
+    Ok(())
+}
+
+#[test]
+fn real_files_are_written_and_read(rt: HostRuntime) -> Result<(), Fail> {
+    let alloc = rt.alloc();
+    let mut desk = RealDesk::new(alloc, rt.clone()?);
+    desk.write(FILE, b"some more bytes")?;
+    desk.write(FILE, b"some bytes")?;
+    assert_eq!(rt; desk.read(FILE, 10)?.as_slice(), b"some bytes".as_slice());
+    assert_eq!(rt;
+        desk.read(FILE, u64::MAX)?.as_slice(),
+        b"some bytes".as_slice()
+    );
+    assert!(rt; matches!(desk.read(FILE, 9), Err(DeskError::TooLong { max: 9 })));
+    assert_eq!(rt; desk.faults, 0);
+    assert!(rt; matches!(desk.read("none", 9), Err(DeskError::Failed)));
+    assert_eq!(rt; desk.write("none/x", b""), Err(DeskError::Failed));
+    assert_eq!(rt; desk.faults, 2);
+    fs::remove_file(&rt, FILE)?;
+    Ok(())
+}
+
+#[test]
+fn a_real_sink_takes_bytes_or_counts_a_fault(rt: HostRuntime) -> Result<(), Fail> {
+    let mut sink = RealSink::new(rt.stdout());
+    put_all(&mut sink, b"some bytes\n")?;
+    assert_eq!(rt; sink.put(b""), Ok(0));
+    assert_eq!(rt; sink.faults, 0);
+    for (answer, error, faults) in REFUSALS {
+        let mut sink = RealSink::new(Refusing { answer });
+        assert_eq!(rt; sink.put(b"x"), Err(error));
+        assert_eq!(rt; sink.faults, faults);
+    }
+    Ok(())
+}
+
+/// The file that the test of the real desk writes and removes.
+const FILE: &str = "tm_desk_real_file";
+
+/// What a stream answers, what its sink makes of it, and the faults after it.
+const REFUSALS: [(Option<ErrorKind>, SinkError, u64); 3] = [
+    (None, SinkError::Failed, 1),
+    (Some(ErrorKind::BrokenPipe), SinkError::Failed, 1),
+    (Some(ErrorKind::OutOfMemory), SinkError::NoMemory, 0),
+];
+
+/// A stream that takes nothing, or fails.
+#[derive(Drop)]
+struct Refusing {
+    answer: Option<ErrorKind>,
+}
+
+impl Print for Refusing {
+    fn print<D: Display + Drop>(&self, _value: D) -> io::Result<()> {
+        Ok(())
+    }
+
+    fn println<D: Display + Drop>(&self, _value: D) -> io::Result<()> {
+        Ok(())
+    }
+
+    fn write_all(&self, _bytes: &[u8]) -> io::Result<()> {
+        Ok(())
+    }
+
+    fn write_some(&self, _bytes: &[u8]) -> io::Result<usize> {
+        match self.answer {
+            Some(kind) => Err(kind.into()),
+            None => Ok(0),
+        }
+    }
+}
