@@ -1,0 +1,13 @@
+pub mod SplitLemmas
+pub mod EmitLemmas
+pub mod PrintedLemmas
+pub mod WithoutLemmas
+pub mod OperandLemmas
+pub mod EmittedLemmas
+pub mod LineLemmas
+pub mod SpelledLemmas
+pub mod ProgramLemmas
+pub mod SymbolLemmas
+pub mod TableLemmas
+pub mod BuildLemmas
+pub mod LeavesLemmas

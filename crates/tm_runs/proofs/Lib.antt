@@ -1,0 +1,13 @@
+pub mod Compose
+pub mod Split
+pub mod Steps
+pub mod Tables
+pub mod Bytes
+pub mod Rows
+pub mod Places
+pub mod Worlds
+pub mod Memory
+pub mod Half
+pub mod Parts
+pub mod Paths
+pub mod Arrivals

@@ -1,0 +1,112 @@
+-- What the rows of the table have in common: fields in range, and effects on dwords alone.
+use Rattle.std.proofs.Common.{◌≡◌, ℕ, ◌+◌, ◌^◌, ◌<◌, ℤ, pos, negsuc, false, Option, None, Some, refl, sym, ap, subst, arith, option_map}
+use Rattle.std.specs.Prelude.{◌≤ℤ◌}
+use Rattle.std.proofs.lemmas.Int.{ints}
+use Rattle.std.proofs.lemmas.Nat.{xor_lt, and_le_l}
+use Rattle.tm_table.specs.declared.instr.Op.{Op}
+use Rattle.tm_table.specs.declared.instr.Op.TheVariants.{Lui, Addi, Slli, Add, Xor, And, Ld, Sd, Beq, Bne, Jal}
+use Rattle.tm_table.specs.declared.instr.Instr.{Instr}
+use Rattle.tm_table.specs.declared.table.Layout.{Layout}
+use Rattle.tm_table.specs.declared.table.Layout.TheVariants.{R, I, S, B, U, J, Shift6, Shift5, Order, Whole}
+use Rattle.tm_table.specs.declared.table.Row.{Row}
+use Rattle.tm_table.specs.declared.state.Access.{Access}
+use Rattle.tm_table.specs.State.{Hart}
+use Rattle.tm_table.specs.Table.{row_of}
+use Rattle.tm_table.specs.Words.{low, split, decoded, word_of, FitsAs, FitsBy, Fits}
+use Rattle.tm_table.specs.Row.{Effect, Gives, Loads, Stores, Branches, Jumps, effect, word64, row, row_word}
+use Rattle.tm_table.proofs.Signs.{low-lt}
+use Rattle.tm_table.proofs.Decoding.{word-decoded}
+use Rattle.tm_plan.specs.Slots.{instr_of}
+use Rattle.tm_runs.specs.Machine.{target}
+
+-- less than 2 MiB on or back
+abbrev pub IsNear : ℤ → Type 0
+IsNear (pos n) = n < 2097152
+IsNear (negsuc n) = n < 2097152
+
+-- registers that there are, and a jump that isn't far
+pub record InReach (i : Instr) : Type 0 where
+  pub rd : i.rd < 32
+  pub rs1 : i.rs1 < 32
+  pub rs2 : i.rs2 < 32
+  pub imm : IsNear i.imm
+
+near : (z : ℤ) (a b : ℕ) → a < 2097152 → b < 2097152 → (negsuc a ≤ℤ z) × (z ≤ℤ pos b) → IsNear z
+near (pos n) a b p q h = omega (arith, ints, h)
+near (negsuc n) a b p q h = omega (arith, ints, h)
+
+zero-near : (z : ℤ) → z ≡ pos 0 → IsNear z
+zero-near z e = subst IsNear (sym e) (omega arith)
+
+from-near : (z : ℤ) (b : ℕ) → b < 2097152 → (pos 0 ≤ℤ z) × (z ≤ℤ pos b) → IsNear z
+from-near (pos n) b q h = omega (arith, ints, h)
+from-near (negsuc n) b q h = omega (arith, ints, h)
+
+reach-as : (l : Layout) (i : Instr) → FitsAs l i → InReach i
+reach-as R i h = record { rd = h.0; rs1 = h.1; rs2 = h.2; imm = zero-near i.imm h.3 }
+reach-as I i h = record { rd = h.0; rs1 = h.1; rs2 = omega (arith, h.2); imm = near i.imm 2047 2047 (omega arith) (omega arith) h.3 }
+reach-as S i h = record { rd = omega (arith, h.0); rs1 = h.1; rs2 = h.2; imm = near i.imm 2047 2047 (omega arith) (omega arith) h.3 }
+reach-as B i h = record { rd = omega (arith, h.0); rs1 = h.1; rs2 = h.2; imm = near i.imm 4095 4095 (omega arith) (omega arith) h.3 }
+reach-as U i h = record { rd = h.0; rs1 = omega (arith, h.1); rs2 = omega (arith, h.2); imm = from-near i.imm 1048575 (omega arith) h.3 }
+reach-as J i h = record { rd = h.0; rs1 = omega (arith, h.1); rs2 = omega (arith, h.2); imm = near i.imm 1048575 1048575 (omega arith) (omega arith) h.3 }
+reach-as Shift6 i h = record { rd = h.0; rs1 = h.1; rs2 = omega (arith, h.2); imm = from-near i.imm 63 (omega arith) h.3 }
+reach-as Shift5 i h = record { rd = h.0; rs1 = h.1; rs2 = omega (arith, h.2); imm = from-near i.imm 31 (omega arith) h.3 }
+reach-as Order i h = record { rd = omega (arith, h.0); rs1 = omega (arith, h.1); rs2 = omega (arith, h.2); imm = from-near i.imm 255 (omega arith) h.3 }
+reach-as Whole i h = record { rd = omega (arith, h.0); rs1 = omega (arith, h.1); rs2 = omega (arith, h.2); imm = zero-near i.imm h.3 }
+
+reach-by : (o : Option Row) (i : Instr) → FitsBy o i → InReach i
+reach-by None i h = absurd h
+reach-by (Some r) i h = reach-as r.layout i h
+
+reach : (i : Instr) → Fits i → InReach i
+unfolding Fits
+reach i h = reach-by (row_of i.op) i h
+
+-- the word of a decoded instruction, which is in reach
+pub word-reach : (w : ℕ) (i : Instr) → w < 2 ^ 32 → instr_of w ≡ Some i → InReach i × (word_of i ≡ w)
+unfolding instr_of
+word-reach w i b e = let f = word-decoded w i b e in (reach i f.0, f.1)
+
+-- a row's word is that of an instruction, of which it is the step
+pub row-decoded : (hart : Hart) (w read : ℕ) (after : Hart) (access : Access) → row_word hart w read ≡ Some (after, access) → (i : Instr) × (instr_of w ≡ Some i) × (row hart i read ≡ (after, access))
+unfolding instr_of row_word
+row-decoded hart w read after access e = by (decoded (split w)) refl e
+  where
+    by : (o : Option Instr) → decoded (split w) ≡ o → option_map (λ (i : Instr). row hart i read) o ≡ Some (after, access) → (i : Instr) × (decoded (split w) ≡ Some i) × (row hart i read ≡ (after, access))
+    by None d e' = cc
+    by (Some i) d e' = let s : ◌≡◌ {A = Hart × Access} (row hart i read) (after, access) = cc in (i, d, s)
+
+pub decoded-row : (hart : Hart) (w read : ℕ) (i : Instr) → instr_of w ≡ Some i → row_word hart w read ≡ Some (row hart i read)
+unfolding instr_of row_word
+decoded-row hart w read i e = ap (option_map (λ (j : Instr). row hart j read)) e
+
+-- an effect on dwords, with results of 64 bits, and with jumps from pc by n
+abbrev pub IsPlain : ℕ → ℕ → Effect → Type 0
+IsPlain pc n (Gives value) = value < 2 ^ 64
+IsPlain pc n (Loads addr width with_sign) = (width ≡ 8) × (with_sign ≡ false)
+IsPlain pc n (Stores addr width value) = (width ≡ 8) × (value < 2 ^ 64)
+IsPlain pc n (Branches taken) = Unit {0}
+IsPlain pc n (Jumps link goes) = (link ≡ word64 (pc + 4)) × (goes ≡ word64 (pc + n))
+
+word64-lt : (n : ℕ) → word64 n < 2 ^ 64
+word64-lt n = omega arith
+
+pub plain : (op : Op) (pc a b n : ℕ) → a < 2 ^ 64 → b < 2 ^ 64 → IsPlain pc n (effect op pc a b n)
+unfolding effect
+plain Lui pc a b n p q = low-lt 64 _
+plain Addi pc a b n p q = word64-lt _
+plain Slli pc a b n p q = word64-lt _
+plain Add pc a b n p q = word64-lt _
+plain Xor pc a b n p q = xor_lt 64 a b p q
+plain And pc a b n p q = let le = and_le_l a b in omega arith
+plain Ld pc a b n p q = (refl, refl)
+plain Sd pc a b n p q = (refl, q)
+plain Beq pc a b n p q = tt
+plain Bne pc a b n p q = tt
+plain Jal pc a b n p q = (refl, refl)
+plain _ pc a b n p q = omega arith
+
+-- where a jump goes, without a number that wraps
+pub target-word64 : (pc : ℕ) (z : ℤ) → 2097152 < pc → pc < 2 ^ 63 → IsNear z → word64 (pc + low 64 z) ≡ target pc z
+target-word64 pc (pos n) p q h = omega arith
+target-word64 pc (negsuc n) p q h = omega arith

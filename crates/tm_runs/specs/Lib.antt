@@ -1,0 +1,5 @@
+pub mod Machine
+pub mod Runs
+pub mod World
+pub mod Shadow
+pub mod Course

@@ -1,0 +1,4 @@
+pub mod Refusals
+pub mod Stops
+pub mod Reports
+pub mod Owing

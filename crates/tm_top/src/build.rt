@@ -1,0 +1,43 @@
+// The command that builds an image.
+ghost use Rattle.std.specs.Prelude.{IfErr, OnOk};
+ghost use Rattle.tm_top.specs.Words.{words_of};
+ghost use Rattle.tm_top.specs.Changes.{desk_change, sink_change, OtherFilesStay};
+ghost use Rattle.tm_top.specs.Owed.{IsDone};
+ghost use Rattle.tm_top.specs.Steps.{Stopped};
+
+use crate::command::BuildWords;
+use crate::inputs::make_image;
+use crate::steps::{print_line, write_output};
+use crate::stop::Stop;
+use std::alloc::Global;
+use tm_desk::{Desk, Sink};
+
+/// Reads and refuses the inputs, builds, writes and prints.
+#[tactic(auto, using(crate::proofs::Stops::input_stopped, crate::proofs::Stops::write_stopped))]
+pub fn build_command<D: Desk, O: Sink>(
+    alloc: Global,
+    b: &BuildWords<'_>,
+    desk: &mut D,
+    out: &mut O,
+) -> Result<(), Stop>
+    ensures done { OnOk result (IsDone (words_of b.now)
+        (desk_change D.tells D.held D.faults desk.old desk.new)
+        (sink_change O.tells O.taken O.faults out.old out.new)) }
+    ensures stopped { IfErr result (λ stop. Stopped stop (words_of b.now)
+        (desk_change D.tells D.held D.faults desk.old desk.new)
+        (sink_change O.tells O.taken O.faults out.old out.new)) }
+    ensures others { OtherFilesStay (desk_change D.tells D.held D.faults desk.old desk.new) b.now.out.now }
+{
+    let made = match make_image(alloc, b, desk) {
+        Ok(made) => made,
+        Err(stop) => return Err(stop),
+    };
+    match write_output(desk, b.out, &made.file) {
+        Ok(()) => (),
+        Err(stop) => return Err(stop),
+    }
+    match print_line(out, &made.line) {
+        Ok(()) => Ok(()),
+        Err(stop) => Err(stop),
+    }
+}

@@ -1,0 +1,55 @@
+// The image of a build's two texts.
+ghost use Rattle.std.specs.Prelude.{◌≡◌, ◌≤◌, IfOk, IfErr, length, None};
+ghost use Rattle.tm_image.specs.Inputs.{topology_refusal, template_inputs};
+ghost use Rattle.tm_top.specs.Texts.{built_line};
+ghost use Rattle.tm_top.specs.Inputs.{topology_limit, template_limit};
+ghost use Rattle.tm_top.specs.Owed.{IsMadeOf};
+ghost use Rattle.tm_top.specs.Steps.{ImageStop};
+
+use crate::fault::AnyFault;
+use crate::made::Made;
+use crate::stop::Stop;
+use std::alloc::Global;
+use tm_base::{Bytes, NoMemory, Text, push_decimal};
+use tm_image::{BuildFault, Role, build};
+use tm_plan::Program;
+
+/// The line that says what was built.
+#[tactic(auto, unfolding(crate::specs::Texts::built_line))]
+fn line_of(alloc: Global, program: &Program, file: &[u8]) -> Result<Text, NoMemory>
+    ensures { IfOk result (λ text. text ≡ built_line program.now file.now) }
+{
+    let mut text = Bytes::new(alloc);
+    text.append(b"built: harts ")?;
+    push_decimal(&mut text, u64::from(program.cases.harts))?;
+    text.append(b", cases ")?;
+    push_decimal(&mut text, program.cases.cases.as_slice().len() as u64)?;
+    text.append(b", bytes ")?;
+    push_decimal(&mut text, file.len() as u64)?;
+    text.push(b'\n')?;
+    Ok(text)
+}
+
+/// Builds the image of two texts, of which the topology is accepted.
+pub fn image_of(alloc: Global, topo: &Bytes, template: &Bytes, seed: u64) -> Result<Made, Stop>
+    requires topo { length topo.now ≤ topology_limit }
+    requires accepted { topology_refusal topo.now ≡ None }
+    requires template { length template.now ≤ template_limit }
+    ensures ok { IfOk result (λ made. IsMadeOf topo.now template.now seed made.file made.line) }
+    ensures err { IfErr result (λ stop. ImageStop stop (template_inputs template.now)) }
+{
+    let image = match build(alloc, topo.as_slice(), template.as_slice(), seed) {
+        Ok(image) => image,
+        Err(BuildFault::Input(fault)) => {
+            return Err(Stop::Refused(Role::Template, AnyFault::Input(fault)));
+        }
+        Err(BuildFault::NoMemory) => return Err(Stop::NoMemory),
+    };
+    match line_of(alloc, &image.program, image.file.as_slice()) {
+        Ok(line) => Ok(Made {
+            file: image.file,
+            line,
+        }),
+        Err(_) => Err(Stop::NoMemory),
+    }
+}

@@ -1,0 +1,11 @@
+// Why a command stops before it is done.
+use crate::fault::AnyFault;
+use tm_image::Role;
+
+/// An input was refused, the outside failed at the file of a role, or there was no memory.
+#[derive(Clone, Copy, Debug, PartialEq, Eq)]
+pub enum Stop {
+    Refused(Role, AnyFault),
+    Failed(Role),
+    NoMemory,
+}
