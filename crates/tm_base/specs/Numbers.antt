@@ -20,6 +20,7 @@ unfoldable pub reading_at : ℕ → ℕ → List ℕ → Option ℕ → Result �
 reading_at from base digits (Some p) = Err (BadDigit (from + p))
 reading_at from base digits None = value_of base digits
 
+-- the reading of digits of a base that begin at a place: none at all is a fault of its own
 unfoldable pub digits_reading : ℕ → ℕ → List ℕ → Result ℕ NumberFault
 digits_reading from base digits =
     if length digits == 0 then Err Empty

@@ -23,6 +23,7 @@ dword_check found j =
 unfoldable pub register_checks : ℕ → List Instr
 register_checks n = flat_map (λ r. register_check (8 * (30 - r) + 7 * n + 2) r) (count_from 1 30)
 
+-- the checks of n collected dwords, each with its way to the end
 unfoldable pub dword_checks : ℕ → List Instr
 dword_checks n = flat_map (λ j. dword_check (7 * (n - (j + 1)) + 2) j) (count_from 0 n)
 

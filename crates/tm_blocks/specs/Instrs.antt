@@ -12,12 +12,15 @@ addi rd rs1 n = record { op = Addi; rd = rd; rs1 = rs1; rs2 = 0; imm = pos n }
 abbrev pub slli : (rd rs1 n : ℕ) → Instr
 slli rd rs1 n = record { op = Slli; rd = rd; rs1 = rs1; rs2 = 0; imm = pos n }
 
+-- rd = x[rs1] + x[rs2]
 abbrev pub add : (rd rs1 rs2 : ℕ) → Instr
 add rd rs1 rs2 = record { op = Add; rd = rd; rs1 = rs1; rs2 = rs2; imm = pos 0 }
 
+-- rd = x[rs1] xor x[rs2], bit by bit
 abbrev pub xor : (rd rs1 rs2 : ℕ) → Instr
 xor rd rs1 rs2 = record { op = Xor; rd = rd; rs1 = rs1; rs2 = rs2; imm = pos 0 }
 
+-- rd = x[rs1] and x[rs2], bit by bit
 abbrev pub and : (rd rs1 rs2 : ℕ) → Instr
 and rd rs1 rs2 = record { op = And; rd = rd; rs1 = rs1; rs2 = rs2; imm = pos 0 }
 

@@ -23,6 +23,7 @@ parts_of p topo template seed = record {
 unfoldable pub image_file : Program → (topo template : List ℕ) → ℕ → List ℕ
 image_file p topo template seed = elf_file (parts_of p topo template seed)
 
+-- the file of what the two texts ask for, or their fault
 abbrev pub built_of : (topo template : List ℕ) → ℕ → Result (List Instr) InputFault → Result (List ℕ) InputFault
 built_of topo template seed (Ok stream) = Ok (image_file (program_of stream) topo template seed)
 built_of topo template seed (Err fault) = Err fault
@@ -31,6 +32,7 @@ built_of topo template seed (Err fault) = Err fault
 unfoldable pub built : (topo template : List ℕ) → ℕ → Result (List ℕ) InputFault
 built topo template seed = built_of topo template seed (inputs topo template)
 
+-- the program of what the two texts ask for, or their fault
 abbrev pub program_from : Result (List Instr) InputFault → Result Program InputFault
 program_from (Ok stream) = Ok (program_of stream)
 program_from (Err fault) = Err fault

@@ -26,6 +26,7 @@ line_at text place = count_by (λ b. b == 10) (take place text) + 1
 unfoldable pub difference : List ℕ → List ℕ → Option ℕ
 difference text wanted = if bytes_eq text wanted then None else Some (line_at text (common text wanted))
 
+-- the fault of a role at a line, where there is one
 abbrev pub not_yet : Role → Option ℕ → Option InputFault
 not_yet role None = None
 not_yet role (Some line) = Some (NotYet role line)
@@ -39,6 +40,7 @@ abbrev pub of_template : Result (List Instr) ℕ → Result (List Instr) InputFa
 of_template (Ok stream) = Ok stream
 of_template (Err line) = Err (NotYet Template line)
 
+-- the stream of a template, or the fault with its line
 unfoldable pub template_inputs : List ℕ → Result (List Instr) InputFault
 template_inputs template = of_template (template_of template)
 

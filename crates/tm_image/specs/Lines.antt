@@ -10,6 +10,7 @@ abbrev pub number_text : ℤ → List ℕ
 number_text (pos n) = decimal n
 number_text (negsuc n) = 45 ∷ decimal (n + 1)
 
+-- a register's name
 abbrev pub register_text : ℕ → List ℕ
 register_text r = 120 ∷ decimal r
 

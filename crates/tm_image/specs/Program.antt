@@ -55,6 +55,7 @@ marks_around n = record {
   halts = (text_base + 4 * (halt_place n - 1)) ∷ [];
 }
 
+-- the program of a stream's words
 abbrev pub program_with : List ℕ → Program
 program_with words = record {
   cases = cases_of words;

@@ -26,6 +26,7 @@ number_up_to most text = if_printed most text (number_of text)
 unfoldable pub behind : List ℕ → List ℕ → Option (List ℕ)
 behind start text = if bytes_eq (take (length start) text) start then Some (drop (length start) text) else None
 
+-- the same of what stands behind something, if anything does
 abbrev pub number_in : ℕ → Option (List ℕ) → Option ℕ
 number_in most None = None
 number_in most (Some text) = number_up_to most text
@@ -40,6 +41,7 @@ negative None = None
 negative (Some zero) = None
 negative (Some (suc n)) = Some (negsuc n)
 
+-- without a `-` a number up to 2047, behind one the negative of a number up to 2048
 abbrev pub signed_number : List ℕ → Option (List ℕ) → Option ℤ
 signed_number text None = option_map pos (number_up_to 2047 text)
 signed_number text (Some digits) = negative (number_up_to 2048 digits)
@@ -54,6 +56,7 @@ abbrev pub before : List ℕ → Option (List ℕ) → Option (List ℕ × List 
 before first None = None
 before first (Some rest) = Some (first, rest)
 
+-- a text cut at a place, where a comma and a blank stand there
 abbrev pub cut_at : ℕ → List ℕ → Option (List ℕ × List ℕ)
 cut_at n text = before (take n text) (behind (codes ", ") (drop n text))
 
@@ -61,10 +64,12 @@ cut_at n text = before (take n text) (behind (codes ", ") (drop n text))
 unfoldable pub cut : List ℕ → Option (List ℕ × List ℕ)
 cut text = cut_at (prefix_len (λ b. not (b == 44)) text) text
 
+-- a register and the rest of its text, if it is one
 abbrev pub with_rest : List ℕ → Option ℕ → Option (ℕ × List ℕ)
 with_rest rest None = None
 with_rest rest (Some r) = Some (r, rest)
 
+-- the same of a text that was cut
 abbrev pub register_cut : Option (List ℕ × List ℕ) → Option (ℕ × List ℕ)
 register_cut None = None
 register_cut (Some (first, rest)) = with_rest rest (register_of first)
@@ -73,10 +78,12 @@ register_cut (Some (first, rest)) = with_rest rest (register_of first)
 unfoldable pub first_register : List ℕ → Option (ℕ × List ℕ)
 first_register text = register_cut (cut text)
 
+-- the instruction with a third register, if it is one
 abbrev pub third : Op → ℕ → ℕ → Option ℕ → Option Instr
 third op rd rs1 None = None
 third op rd rs1 (Some rs2) = Some (record { op = op; rd = rd; rs1 = rs1; rs2 = rs2; imm = pos 0 })
 
+-- the ADDI with a number, if it is one
 abbrev pub third_number : ℕ → ℕ → Option ℤ → Option Instr
 third_number rd rs1 None = None
 third_number rd rs1 (Some imm) = Some (record { op = Addi; rd = rd; rs1 = rs1; rs2 = 0; imm = imm })
@@ -86,10 +93,12 @@ abbrev pub last_operand : Op → ℕ → ℕ → List ℕ → Option Instr
 last_operand Addi rd rs1 text = third_number rd rs1 (immediate_of text)
 last_operand op rd rs1 text = third op rd rs1 (register_of text)
 
+-- the operands from the second on
 abbrev pub second_operand : Op → ℕ → Option (ℕ × List ℕ) → Option Instr
 second_operand op rd None = None
 second_operand op rd (Some (rs1, rest)) = last_operand op rd rs1 rest
 
+-- the operands from the first on
 abbrev pub first_operand : Op → Option (ℕ × List ℕ) → Option Instr
 first_operand op None = None
 first_operand op (Some (rd, rest)) = second_operand op rd (first_register rest)
@@ -98,14 +107,17 @@ first_operand op (Some (rd, rest)) = second_operand op rd (first_register rest)
 unfoldable pub operands : Op → List ℕ → Option Instr
 operands op text = first_operand op (first_register text)
 
+-- the line of an XOR, if it begins so
 abbrev pub emit_xor : Option (List ℕ) → Option Instr
 emit_xor None = None
 emit_xor (Some text) = operands Xor text
 
+-- the line of an ADD, else of an XOR
 abbrev pub emit_add : Option (List ℕ) → Option (List ℕ) → Option Instr
 emit_add (Some text) xor = operands Add text
 emit_add None xor = emit_xor xor
 
+-- the line of an ADDI, else of one of the other two
 abbrev pub emit_addi : Option (List ℕ) → Option (List ℕ) → Option (List ℕ) → Option Instr
 emit_addi (Some text) add xor = operands Addi text
 emit_addi None add xor = emit_add add xor
@@ -131,6 +143,7 @@ abbrev pub then_stream : Instr → Result (List Instr) ℕ → Result (List Inst
 then_stream i (Err line) = Err line
 then_stream i (Ok stream) = Ok (i ∷ stream)
 
+-- the stream from an instruction on, or the line's number where it is none
 abbrev pub or_line : ℕ → Option Instr → Result (List Instr) ℕ → Result (List Instr) ℕ
 or_line line None more = Err line
 or_line line (Some i) more = then_stream i more

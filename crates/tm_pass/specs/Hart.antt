@@ -45,9 +45,11 @@ bytes_table = table_at 1 0 + 256 + 6144
 unfoldable pub first_bytes : List Instr
 first_bytes = copy first_table windows_base declared_dwords
 
+-- where the hart begins
 unfoldable pub entry : List Instr
 entry = constant 31 (private_at 0) ++ first_bytes
 
+-- the count of exits, in the dword 256 bytes into the private area, goes up by one
 unfoldable pub arrive : List Instr
 arrive = ld 1 256 31 ∷ addi 1 1 1 ∷ sd 1 256 31 ∷ []
 
@@ -55,6 +57,7 @@ arrive = ld 1 256 31 ∷ addi 1 1 1 ∷ sd 1 256 31 ∷ []
 unfoldable pub choose : (to_between to_last : ℕ) → List Instr
 choose to_between to_last = ld 1 256 31 ∷ addi 2 0 2 ∷ beq 1 2 (4 * to_between) ∷ addi 2 0 4 ∷ beq 1 2 (4 * to_last) ∷ []
 
+-- what stands before the stream
 unfoldable pub run : List Instr
 run = load_registers registers_table
 
@@ -62,9 +65,11 @@ run = load_registers registers_table
 unfoldable pub leave : (back : ℕ) → List Instr
 leave back = save_registers ++ (jump_back (4 * back) ∷ [])
 
+-- from the first end state to the second pass; back is how far it is from the jump to arrive
 unfoldable pub between : (back : ℕ) → List Instr
 between back = collect windows_base (save_at 0 0) declared_dwords ++ first_bytes ++ (jump_back (4 * back) ∷ [])
 
+-- from the second end state to halt
 unfoldable pub last : List Instr
 last = collect windows_base (save_at 0 1) declared_dwords
     ++ compare (save_at 0 0) (save_at 0 1) masks_table bytes_table (verdict_at 0 0) 1 declared_dwords
@@ -75,6 +80,7 @@ last = collect windows_base (save_at 0 1) declared_dwords
 abbrev pub exit_place : ℕ
 exit_place = length entry + length arrive
 
+-- the 5 words of choose stand between the exit mark and run
 abbrev pub start_place : ℕ
 start_place = exit_place + 5 + length run
 

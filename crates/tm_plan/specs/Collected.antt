@@ -45,6 +45,7 @@ slots_of (Some s) = length s.words
 abbrev pub pass_work : Cases → ℕ → Case → ℕ
 pass_work cases h case = slots_of (slice_get case.streams h) + 256 + 32 * cases.harts + 32 * (30 + length (owned cases h))
 
+-- the steps that hart h may work in these cases
 abbrev pub work_in : Cases → ℕ → List Case → ℕ
 work_in cases h [] = 0
 work_in cases h (case ∷ more) = (64 + cases.passes * pass_work cases h case) + work_in cases h more
@@ -53,6 +54,7 @@ work_in cases h (case ∷ more) = (64 + cases.passes * pass_work cases h case) +
 unfoldable pub work_of : Cases → ℕ → ℕ
 work_of cases h = 64 + work_in cases h cases.cases
 
+-- the sum of f over a list
 abbrev pub sum_of : (ℕ → ℕ) → List ℕ → ℕ
 sum_of f [] = 0
 sum_of f (x ∷ xs) = f x + sum_of f xs

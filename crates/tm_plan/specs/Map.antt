@@ -5,6 +5,7 @@ use Rattle.std.specs.Prelude.{ℕ, ◌+◌, ◌*◌, Bool, ◌&&◌, nat_le, nat
 unfoldable pub guest_base : ℕ
 guest_base = 0x80000000
 
+-- where the guest's memory ends
 unfoldable pub guest_end : ℕ
 guest_end = 0x81000000
 
@@ -28,6 +29,7 @@ verdict_at c h = 0x80C01000 + 8 * (16 * c + h)
 unfoldable pub private_at : ℕ → ℕ
 private_at h = 0x80C10000 + 0x20000 * h
 
+-- how long a private area is
 unfoldable pub private_size : ℕ
 private_size = 0x20000
 
@@ -39,9 +41,11 @@ save_at h k = private_at h + 0x1000 + 0x2000 * k
 unfoldable pub windows_base : ℕ
 windows_base = 0x80E80000
 
+-- how long the three windows are together
 unfoldable pub windows_size : ℕ
 windows_size = 6144
 
+-- the first byte of window w
 unfoldable pub window_at : ℕ → ℕ
 window_at w = windows_base + 0x800 * w
 

@@ -43,11 +43,13 @@ pub record IsShapedStream (cases : Cases) (h : ℕ) (s : Stream) : Type 0 where
   pub bases : (w : ℕ) → w < 3 → slice_index s.regs (28 + w) ≡ window_at w
   pub own : slice_index s.regs 31 ≡ private_at h
 
+-- One stream for each hart, and a first value for each of the 768 dwords of the windows.
 pub record IsShapedCase (cases : Cases) (case : Case) : Type 0 where
   pub streams : length case.streams ≡ cases.harts
   pub first : length case.first ≡ 768
   pub each : (h : ℕ) (s : Stream) → slice_get case.streams h ≡ Some s → IsShapedStream cases h s
 
+-- A window of at least one line and at most 2048 bytes.
 pub record IsShapedWindow (line : ℕ) (w : Window) : Type 0 where
   pub number : w.number < 3
   pub some : 1 ≤ w.lines

@@ -36,5 +36,6 @@ case_tables [] masks = []
 case_tables (case ∷ cases) [] = []
 case_tables (case ∷ cases) (mask ∷ masks) = case_table case mask ++ case_tables cases masks
 
+-- the tables of all cases, one after another
 unfoldable pub table_bytes : Cases → Masks → List ℕ
 table_bytes cases masks = case_tables cases.cases masks.cases

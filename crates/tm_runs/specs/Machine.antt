@@ -11,6 +11,7 @@ use Rattle.tm_table.specs.Row.{Effect, Gives, Loads, Stores, Branches, Jumps, ef
 abbrev pub Table : Type 0
 Table = ℕ → ℕ
 
+-- a table with another value at one place
 abbrev pub put : Table → ℕ → ℕ → Table
 put f r v = λ x. if nat_eq x r then v else f x
 
@@ -78,6 +79,7 @@ act (Jumps link goes) w i v s = moved i s Quiet (target s.pc i.imm) (put s.regs 
 abbrev pub effect_in : Instr → State → Effect
 effect_in i s = effect i.op s.pc (get s.regs i.rs1) (get s.regs i.rs2) (low 64 i.imm)
 
+-- the state after an instruction that reads v, if it reads
 abbrev pub after : World → Instr → ℕ → State → State
 after w i v s = act (effect_in i s) w i v s
 
@@ -85,6 +87,7 @@ after w i v s = act (effect_in i s) w i v s
 abbrev pub MayAccess : World → ℕ → Type 0
 MayAccess w a = (a % 8 ≡ 0) × IsTrue (w.guest a)
 
+-- the access of an effect, if it has one, may be made
 abbrev pub MayAct : Effect → World → Type 0
 MayAct (Loads addr width with_sign) w = (width ≡ 8) × (with_sign ≡ false) × MayAccess w addr
 MayAct (Stores addr width value) w = (width ≡ 8) × MayAccess w addr
@@ -94,6 +97,7 @@ MayAct _ w = Unit {0}
 abbrev pub May : World → Instr → State → Type 0
 May w i s = MayAct (effect_in i s) w
 
+-- an effect that loads may read v
 abbrev pub ReadsAs : Effect → World → State → ℕ → Type 0
 ReadsAs (Loads addr width with_sign) w s v = (v < 2 ^ 64) × (IsTrue (w.own addr) → v ≡ s.mem addr)
 ReadsAs _ w s v = Unit {0}

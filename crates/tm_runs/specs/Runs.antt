@@ -26,10 +26,12 @@ abbrev pub At : (ℕ → Option Instr) → ℕ → List Instr → Type 0
 At text a [] = Unit {0}
 At text a (i ∷ is) = (text a ≡ Some i) × At text (a + 4) is
 
+-- E holds of the newest entry
 abbrev pub Newest : (Entry → Type 0) → List Entry → Type 0
 Newest E [] = Unit {0}
 Newest E (e ∷ es) = E e
 
+-- E holds of each entry
 abbrev pub Each : (Entry → Type 0) → List Entry → Type 0
 Each E [] = Unit {0}
 Each E (e ∷ es) = E e × Each E es
@@ -42,9 +44,11 @@ pub record Does (lo hi : ℕ) (A : Access → Type 0) (e : Entry) : Type 0 where
   pub most : e.next ≤ hi
   pub access : A e.access
 
+-- the newest entry goes from one of these words to one of them or behind the last, with an access that A allows
 abbrev pub Within : ℕ → ℕ → (Access → Type 0) → State → Type 0
 Within lo hi A t = Newest (Does lo hi A) t.log
 
+-- no access
 abbrev pub IsQuiet : Access → Type 0
 IsQuiet a = a ≡ Quiet
 

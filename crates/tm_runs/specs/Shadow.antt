@@ -13,6 +13,7 @@ use Rattle.tm_runs.specs.World.{Sizes, world_of, start}
 abbrev pub entry_of : Step → Entry
 entry_of s = record { pc = pc_of s; next = s.after.pc; word = s.event.word; access = access_of s; regs = λ r. slice_index s.after.x r }
 
+-- the entries of steps, in the same order
 abbrev pub entries_of : List Step → List Entry
 entries_of [] = []
 entries_of (s ∷ past) = entry_of s ∷ entries_of past

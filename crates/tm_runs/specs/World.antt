@@ -16,6 +16,7 @@ holds base n a = nat_le base a && nat_le (a + 8) (base + n)
 unfoldable pub is_fixed_dword : Program → ℕ → Bool
 is_fixed_dword p a = holds text_base (4 * length p.text) a || holds tables_base (length p.tables) a
 
+-- the 8 bytes from a lie in hart h's private area
 unfoldable pub is_private_dword : ℕ → ℕ → Bool
 is_private_dword h a = holds (private_at h) private_size a
 
@@ -30,6 +31,7 @@ support None true word = None
 support None false None = None
 support None false (Some w) = instr_of w
 
+-- the instruction at a program counter outside hart h's streams and its halt mark
 unfoldable pub support_at : Program → ℕ → ℕ → Option Instr
 support_at p h pc = support (stream_at p h pc) (pc == halt_of p h) (word_at p pc)
 
@@ -38,6 +40,7 @@ abbrev pub bounds : Program → ℕ → Option ℕ → Option (ℕ × ℕ)
 bounds p h None = None
 bounds p h (Some c) = Some (start_of p h c, end_of p h c)
 
+-- the start and the end of hart h's stream that holds this program counter
 unfoldable pub bounds_at : Program → ℕ → ℕ → Option (ℕ × ℕ)
 bounds_at p h pc = bounds p h (stream_at p h pc)
 

@@ -30,6 +30,7 @@ KeepsOrder p h first own = IsFront (visited p h first own) (whole_way p)
 abbrev pub IsFresh : Stream → Hart → Type 0
 IsFresh stream hart = (r : ℕ) → 1 ≤ r → r < 32 → slice_index hart.x r ≡ slice_index stream.regs r
 
+-- The hart comes into each of its streams with fresh registers.
 abbrev pub EntersFresh : Program → ℕ → Hart → List Step → Type 0
 EntersFresh p h first = Always (λ past s. (c : ℕ) (stream : Stream) → stream_in p.cases c h ≡ Some stream
     → IsTrue (comes_to p h (Enter c) (now first past).pc s.after.pc) → IsFresh stream s.after)
@@ -48,6 +49,7 @@ reads_in a n (Read addr width value) = nat_lt addr (a + n) && nat_lt a (addr + w
 reads_in a n Quiet = false
 reads_in a n (Write addr width value) = false
 
+-- it writes
 abbrev pub is_write : Access → Bool
 is_write (Write addr width value) = true
 is_write Quiet = false
@@ -119,6 +121,7 @@ pub record Barrier (p : Program) (h q : ℕ) (past : List Step) (s : Step) : Typ
   pub still : IsTrue (any (signals h) (this_phase p h past)) → IsStill p h (access_of s)
   pub leave : pc_of s ≡ exit_of p h → Leaves p h q past
 
+-- The hart keeps the barrier at each step.
 abbrev pub KeepsBarrier : Program → ℕ → Hart → List Step → Type 0
 KeepsBarrier p h first = Always (λ past s. Barrier p h (phase (exit_of p h) past) past s)
 
@@ -142,6 +145,7 @@ abbrev pub case_before : Program → ℕ → Option ℕ
 case_before p zero = None
 case_before p (suc q) = case_of_phase p q
 
+-- In each phase after a run phase the hart collects as said.
 abbrev pub KeepsCollecting : Program → ℕ → Hart → List Step → Type 0
 KeepsCollecting p h first = Always (λ past s. let q = phase (exit_of p h) past in IfSome (case_before p q) (λ c. Collects p h c q past s))
 

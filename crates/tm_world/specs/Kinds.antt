@@ -18,6 +18,7 @@ use Rattle.tm_world.specs.Writers.{writers, settled, wrote}
 abbrev pub IsReachable : ℕ → ℕ → Type 0
 IsReachable addr width = (addr % width ≡ 0) × (guest_base ≤ addr) × (addr + width ≤ guest_end)
 
+-- the access of a next step, if it has one, can be made
 abbrev pub IsPossible : Access → Type 0
 IsPossible Quiet = Unit {0}
 IsPossible (Read addr width value) = IsReachable addr width
@@ -133,6 +134,7 @@ pub record Free (p : Program) (h c : ℕ) (before : Hart) (s : Step) : Type 0 wh
   pub lands : (start_of p h c ≤ s.after.pc) × (s.after.pc ≤ end_of p h c)
   pub counter : s.after.pc < 2 ^ 64
 
+-- outside streams a step follows the table and reads what it is owed; inside stream (h, c) it is free
 abbrev pub HalfStep : Program → ℕ → Option ℕ → Hart → List Step → Step → Type 0
 HalfStep p h None before past s = Follows p h before s × Reads (half_owed p h past) (access_of s)
 HalfStep p h (Some c) before past s = Free p h c before s

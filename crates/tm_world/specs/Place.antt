@@ -8,9 +8,11 @@ use Rattle.tm_plan.specs.Collected.{any, count_from}
 abbrev pub harts : Program → ℕ
 harts p = p.cases.harts
 
+-- C
 abbrev pub case_count : Program → ℕ
 case_count p = length p.cases.cases
 
+-- K
 abbrev pub passes : Program → ℕ
 passes p = p.cases.passes
 
@@ -19,12 +21,15 @@ passes p = p.cases.passes
 abbrev pub start_of : Program → ℕ → ℕ → ℕ
 start_of p h c = slice_index p.marks.starts (h * case_count p + c)
 
+-- the address behind the last word of stream (h, c)
 abbrev pub end_of : Program → ℕ → ℕ → ℕ
 end_of p h c = slice_index p.marks.ends (h * case_count p + c)
 
+-- hart h's barrier exit
 abbrev pub exit_of : Program → ℕ → ℕ
 exit_of p h = slice_index p.marks.exits h
 
+-- where hart h halts
 abbrev pub halt_of : Program → ℕ → ℕ
 halt_of p h = slice_index p.marks.halts h
 
@@ -37,9 +42,11 @@ inside p h c pc = nat_le (start_of p h c) pc && nat_lt pc (end_of p h c)
 abbrev pub is_text : Program → ℕ → Bool
 is_text p = within text_base (4 * length p.text)
 
+-- a byte of the tables
 abbrev pub is_table : Program → ℕ → Bool
 is_table p = within tables_base (length p.tables)
 
+-- a byte of hart h's flag
 abbrev pub is_flag : ℕ → ℕ → Bool
 is_flag h = within (flag_at h) 8
 
@@ -47,6 +54,7 @@ is_flag h = within (flag_at h) 8
 abbrev pub is_verdict : Program → ℕ → ℕ → Bool
 is_verdict p h b = any (λ c. within (verdict_at c h) 8 b) (count_from 0 (case_count p))
 
+-- a byte of hart h's private area
 abbrev pub is_private : ℕ → ℕ → Bool
 is_private h = within (private_at h) private_size
 

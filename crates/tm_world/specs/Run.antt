@@ -13,12 +13,15 @@ pub record Step : Type 0 where
   pub event : Event
   pub after : Hart
 
+-- whose step it is
 abbrev pub hart_of : Step → ℕ
 hart_of s = s.event.hart
 
+-- where the instruction stands
 abbrev pub pc_of : Step → ℕ
 pc_of s = s.event.pc
 
+-- what it does in memory
 abbrev pub access_of : Step → Access
 access_of s = s.event.access
 
@@ -103,6 +106,7 @@ read_value (Write addr width value) = 0
 abbrev pub IsFitting : ℕ → ℕ → Type 0
 IsFitting width value = ((width ≡ 1) ⊎ ((width ≡ 2) ⊎ ((width ≡ 4) ⊎ (width ≡ 8)))) × (value < 256 ^ width)
 
+-- an access has a width, and a value that fits it
 abbrev pub HasShape : Access → Type 0
 HasShape Quiet = Unit {0}
 HasShape (Read addr width value) = IsFitting width value

@@ -9,6 +9,7 @@ use Rattle.tm_plan.specs.Slots.{instr_of, load_width, store_width, is_branch, is
 use Rattle.tm_world.specs.Lists.{those}
 use Rattle.tm_world.specs.Writers.{may_store, stream_in}
 
+-- A slot: the resources that it reads and writes, and how it may go on.
 pub record Slot : Type 0 where
   pub reads : List ℕ
   pub writes : List ℕ
@@ -35,9 +36,11 @@ is_own_byte cases c h b = is_declared cases b && (may_store cases c h b && not (
 abbrev pub load_bytes : Instr → List ℕ
 load_bytes i = count_from (slot_addr i) (load_width i.op)
 
+-- the bytes that a store writes
 abbrev pub store_bytes : Instr → List ℕ
 store_bytes i = count_from (slot_addr i) (store_width i.op)
 
+-- the target slot of a branch or JAL at slot n
 abbrev pub target_of : ℕ → Instr → Option ℕ
 target_of n i = if is_jump i.op then Some (slot_target n i) else None
 
@@ -55,14 +58,17 @@ slot_of cases c h n i = record {
 abbrev pub no_slot : Slot
 no_slot = record { reads = []; writes = []; races = false; target = None; decides = false }
 
+-- the slot of an instruction, if there is one
 abbrev pub slot_or_none : Cases → ℕ → ℕ → ℕ → Option Instr → Slot
 slot_or_none cases c h n None = no_slot
 slot_or_none cases c h n (Some i) = slot_of cases c h n i
 
+-- the slot of a word, if there is one
 abbrev pub word_slot : Cases → ℕ → ℕ → ℕ → Option ℕ → Slot
 word_slot cases c h n None = no_slot
 word_slot cases c h n (Some w) = slot_or_none cases c h n (instr_of w)
 
+-- the slots of a stream, if there is one
 abbrev pub words_slots : Cases → ℕ → ℕ → Option Stream → ℕ → Slot
 words_slots cases c h None n = no_slot
 words_slots cases c h (Some s) n = word_slot cases c h n (slice_get s.words n)
@@ -76,9 +82,11 @@ slots_in cases c h = words_slots cases c h (stream_in cases c h)
 abbrev pub Reads : (ℕ → Slot) → ℕ → ℕ → Type 0
 Reads stream i r = Contains (stream i).reads r
 
+-- slot i writes r
 abbrev pub Writes : (ℕ → Slot) → ℕ → ℕ → Type 0
 Writes stream i r = Contains (stream i).writes r
 
+-- slot i loads a byte with another may-writer
 abbrev pub Races : (ℕ → Slot) → ℕ → Type 0
 Races stream i = (stream i).races ≡ true
 

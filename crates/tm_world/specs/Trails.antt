@@ -2,6 +2,7 @@
 use Rattle.std.specs.Prelude.{ℕ, suc, List, [], ◌∷◌, Contains}
 use Rattle.tm_world.specs.Slots.{Slot, Reads, Writes, Races, Jumps, Decides, Covers, SurelyOverwrites}
 
+-- What a trail may say.
 pub data Fact : Type 0 where
   -- resource r, before slot j
   At : (r j : ℕ) → Fact

@@ -29,6 +29,7 @@ is_store_to b w = of_instr (instr_of w)
     of_instr None = false
     of_instr (Some i) = stores_to b i
 
+-- some word of the stream, if there is one, is a store that covers b
 abbrev pub some_store_to : ℕ → Option Stream → Bool
 some_store_to b None = false
 some_store_to b (Some s) = any (is_store_to b) s.words
