@@ -11,3 +11,4 @@ pub mod Half
 pub mod Parts
 pub mod Paths
 pub mod Arrivals
+pub mod Story
