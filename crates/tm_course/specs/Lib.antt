@@ -1,0 +1,2 @@
+pub mod OneHart
+pub mod Claims

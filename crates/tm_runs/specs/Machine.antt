@@ -110,7 +110,7 @@ Reads w i s v = ReadsAs (effect_in i s) w s v
 abbrev pub StreamAccess : World → Access → Type 0
 StreamAccess w Quiet = Unit {0}
 StreamAccess w (Read a width v) = Unit {0}
-StreamAccess w (Write a width v) = (i : ℕ) → i < width → IsTrue (w.window (a + i))
+StreamAccess w (Write a width v) = (1 ≤ width) × ((i : ℕ) → i < width → IsTrue (w.window (a + i)))
 
 -- any step inside a stream, of which little is known
 pub record Strays (w : World) (lo hi : ℕ) (s t : State) : Type 0 where

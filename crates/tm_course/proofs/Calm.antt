@@ -1,0 +1,122 @@
+-- Parts of support code whose steps come to no mark and write no verdict.
+use Rattle.std.proofs.Common.{eq-eqb, suc, [], ◌∷◌, ◌++◌, ◌==◌, ◌||◌, ap, append-nil, ◌≡◌, ◌≢◌, ◌⊎◌, inl, inr, ℕ, ◌+◌, ◌*◌, ◌<◌, ◌≤◌, Bool, true, false, true≢false, refl, sym, ◌∙◌, arith, List}
+use Rattle.std.specs.Prelude.{IsTrue, if◌then◌else◌}
+use Rattle.std.proofs.lemmas.Bool.Decides.{nat_tests}
+use Rattle.tm_table.specs.declared.state.Access.{Access}
+use Rattle.tm_table.specs.declared.state.Access.TheVariants.{Quiet, Read, Write}
+use Rattle.tm_world.specs.Marks.{Mark}
+use Rattle.tm_world.specs.Course.{writes_in}
+use Rattle.tm_world.specs.Run.{Writes}
+use Rattle.tm_runs.specs.Machine.{World, Entry}
+use Rattle.tm_runs.specs.Runs.{Does}
+use Rattle.tm_plan.specs.Collected.{any}
+use Rattle.tm_world.specs.Lists.{count}
+use Rattle.tm_runs.specs.Course.{Sofar, Story, Calm, trail}
+use Rattle.tm_runs.proofs.Story.{sofar-one}
+use Rattle.tm_blocks.specs.Laws.{Uses}
+use Rattle.tm_course.proofs.Ground.{Ground, Fact, is_out, is_end, is_halt, reports, exit_at, start_at, end_at, halt_at, cell}
+
+-- an access that writes behind the verdict cell, if it writes
+pub record IsMild (a : Access) : Type 0 where
+  pub silent : writes_in cell 8 a ≡ false
+  pub spares : Writes (λ b. 2160066560 ≤ b) a
+
+pub mild-uses : (R W : ℕ → Type 0) → ((a : ℕ) → W a → cell + 8 ≤ a) → (x : Access) → Uses R W x → IsMild x
+mild-uses R W f Quiet u = record { silent = refl; spares = tt }
+mild-uses R W f (Read a width v) u = record { silent = refl; spares = tt }
+mild-uses R W f (Write a width v) u = let l : cell + 8 ≤ a = f a u.1 in record { silent = grind (arith, nat_tests); spares = λ i _. omega arith }
+
+pub mild-quiet : (x : Access) → x ≡ Quiet → IsMild x
+mild-quiet Quiet e = record { silent = refl; spares = tt }
+mild-quiet (Read a width v) e = cc
+mild-quiet (Write a width v) e = cc
+
+-- these words are none of the stream's, and behind the first of them stands no mark
+pub record Away (n lo hi : ℕ) : Type 0 where
+  pub exit : (hi < exit_at) ⊎ (exit_at ≤ lo)
+  pub stream : (hi < start_at) ⊎ (end_at n ≤ lo)
+  pub halt : hi < halt_at n
+
+or-false-left : (a b : Bool) → (a || b) ≡ false → a ≡ false
+or-false-left true b e = e
+or-false-left false b e = refl
+
+or-false-right : (a b : Bool) → (a || b) ≡ false → b ≡ false
+or-false-right true b e = absurd (true≢false e)
+or-false-right false b e = e
+
+module _ (w : World) (mark : ℕ → ℕ → List Mark) (n : ℕ) (ground : Ground w mark n) (fresh : ℕ → ℕ) where
+  -- an entry that comes neither to the stream's start nor to halt
+  pub plain : (e : Entry) → e.next ≢ start_at → e.next ≢ halt_at n → IsMild e.access → (past : List Entry) → Fact n fresh past e
+  plain e x y m past = record {
+    fresh = λ at _ r _ _. absurd (x at);
+    verdict = λ v. absurd (true≢false (sym v ∙ m.silent));
+    halt = λ at. absurd (y at);
+    spares = λ _. m.spares;
+  }
+
+  -- an entry away from marks
+  pub calm : (e : Entry) → e.next ≢ exit_at → e.next ≢ halt_at n → (e.next < start_at) ⊎ (end_at n < e.next) → IsMild e.access → Calm mark (Fact n fresh) e
+  calm e x y z m = record { mark = ground.none e.pc e.next x y z; fact = plain e (by z) y m }
+    where
+      by : (e.next < start_at) ⊎ (end_at n < e.next) → e.next ≢ start_at
+      by (inl p) = λ q. omega arith
+      by (inr p) = λ q. omega arith
+
+  pub calm-does : (lo hi : ℕ) (A : Access → Type 0) → Away n lo hi → ((a : Access) → A a → IsMild a) → (e : Entry) → Does lo hi A e → Calm mark (Fact n fresh) e
+  calm-does lo hi A away mild e d = calm e (by-exit away.exit) (λ q. omega (arith, away.halt, d.most)) (by-stream away.stream) (mild e.access d.access)
+    where
+      by-exit : (hi < exit_at) ⊎ (exit_at ≤ lo) → e.next ≢ exit_at
+      by-exit (inl p) = λ q. omega (arith, d.most)
+      by-exit (inr p) = λ q. omega (arith, d.least)
+
+      by-stream : (hi < start_at) ⊎ (end_at n ≤ lo) → (e.next < start_at) ⊎ (end_at n < e.next)
+      by-stream (inl p) = inl (omega (arith, d.most))
+      by-stream (inr p) = inr (omega (arith, d.least))
+
+  -- one calm entry more
+  pub calm-one : (ms : List Mark) (k : ℕ) (e : Entry) (log : List Entry) → Calm mark (Fact n fresh) e → Sofar mark (Fact n fresh) (is_out n) ms k log → Sofar mark (Fact n fresh) (is_out n) ms (suc k) (e ∷ log)
+  calm-one ms k e log c so = let m = sofar-one mark (Fact n fresh) (is_out n) ms [] k e log c.mark (c.fact log) so in record { way = m.way ∙ append-nil ms; story = m.story; few = m.few }
+
+  -- ---- what the marks say of the log
+
+  any-append : (ms ks : List Mark) → any is_halt (ms ++ ks) ≡ (any is_halt ms || any is_halt ks)
+  any-append [] ks = refl
+  any-append (x ∷ ms) ks = by (is_halt x) (any-append ms ks)
+    where
+      by : (b : Bool) → any is_halt (ms ++ ks) ≡ (any is_halt ms || any is_halt ks) → (b || any is_halt (ms ++ ks)) ≡ ((b || any is_halt ms) || any is_halt ks)
+      by true e = refl
+      by false e = e
+
+  -- no verdict was written where halt was not come to
+  pub silent : (log : List Entry) → Story (Fact n fresh) log → any is_halt (trail mark log) ≡ false → any reports log ≡ false
+  silent [] story e = refl
+  silent (x ∷ past) story e = by (reports x) refl (silent past story.1 (or-false-left _ _ (sym (any-append (trail mark past) (mark x.pc x.next)) ∙ e)))
+    where
+      by : (b : Bool) → reports x ≡ b → any reports past ≡ false → (b || any reports past) ≡ false
+      by false r before = before
+      by true r before =
+          let at : x.next ≡ halt_at n = (story.0.verdict r).3 in
+          let halts : any is_halt (mark x.pc x.next) ≡ true = ap (λ (ms : List Mark). any is_halt ms) (ap (mark x.pc) at ∙ ground.halt x.pc) in
+          absurd (true≢false (sym halts ∙ or-false-right _ _ (sym (any-append (trail mark past) (mark x.pc x.next)) ∙ e)))
+
+  count-append : (ms ks : List Mark) → count is_end (ms ++ ks) ≡ count is_end ms + count is_end ks
+  count-append [] ks = omega arith
+  count-append (x ∷ ms) ks = by (is_end x) (count-append ms ks)
+    where
+      by : (b : Bool) → count is_end (ms ++ ks) ≡ count is_end ms + count is_end ks → (if b then suc (count is_end (ms ++ ks)) else count is_end (ms ++ ks)) ≡ (if b then suc (count is_end ms) else count is_end ms) + count is_end ks
+      by true e = omega arith
+      by false e = e
+
+  -- each end that was come to is an end of the stream
+  pub ended : (log : List Entry) → count is_end (trail mark log) ≤ count (λ t. t.next == end_at n) log
+  ended [] = omega arith
+  ended (x ∷ past) = by (x.next == end_at n) refl (ended past)
+    where
+      whole : count is_end (trail mark past ++ mark x.pc x.next) ≡ count is_end (trail mark past) + count is_end (mark x.pc x.next)
+      whole = count-append (trail mark past) (mark x.pc x.next)
+
+      by : (b : Bool) → (x.next == end_at n) ≡ b → count is_end (trail mark past) ≤ count (λ t. t.next == end_at n) past
+          → count is_end (trail mark past ++ mark x.pc x.next) ≤ (if b then suc (count (λ t. t.next == end_at n) past) else count (λ t. t.next == end_at n) past)
+      by true e l = omega (arith, whole, ground.one_end x.pc x.next)
+      by false e l = omega (arith, whole, ground.no_end x.pc x.next (λ q. true≢false (sym (eq-eqb x.next (end_at n) q) ∙ e)))

@@ -1,0 +1,6 @@
+pub mod Ground
+pub mod Calm
+pub mod Given
+pub mod Memory
+pub mod Begin
+pub mod Behind

@@ -1,0 +1,31 @@
+-- Programs of one hart with one case and two passes (this project's own).
+use Rattle.std.specs.Prelude.{◌≡◌, ℕ, ◌+◌, ◌-◌, ◌*◌, [], ◌∷◌, length}
+use Rattle.tm_plan.specs.declared.cases.Case.{Case}
+use Rattle.tm_plan.specs.declared.cases.Stream.{Stream}
+use Rattle.tm_plan.specs.declared.cases.Kind2.TheVariants.{True}
+use Rattle.tm_plan.specs.declared.masks.CaseMask.{CaseMask}
+use Rattle.tm_plan.specs.declared.program.Program.{Program}
+use Rattle.tm_plan.specs.Map.{text_base}
+use Rattle.tm_plan.specs.Shaped.{IsProgram}
+use Rattle.tm_plan.specs.Tables.{table_bytes}
+use Rattle.tm_runs.specs.World.{Sizes}
+use Rattle.tm_pass.specs.Hart.{hart_words, exit_place, start_place, halt_place}
+
+-- A program of one hart, with one case of one stream, two passes, and one line of 64 bytes of window 0: its text is the hart's words
+-- around the stream, its marks are theirs, and its tables are those of its cases and masks.
+pub record IsOfOneHart (p : Program) (case : Case) (stream : Stream) (mask : CaseMask) : Type 0 where
+  pub program : IsProgram p
+  pub sizes : Sizes p
+  pub harts : p.cases.harts ≡ 1
+  pub passes : p.cases.passes ≡ 2
+  pub line : p.cases.line ≡ 64
+  pub windows : p.cases.windows ≡ record { number = 0; kind = True; lines = 1 } ∷ []
+  pub cases : p.cases.cases ≡ case ∷ []
+  pub streams : case.streams ≡ stream ∷ []
+  pub masks : p.masks.cases ≡ mask ∷ []
+  pub starts : p.marks.starts ≡ (text_base + 4 * start_place) ∷ []
+  pub ends : p.marks.ends ≡ (text_base + 4 * (start_place + length stream.words)) ∷ []
+  pub exits : p.marks.exits ≡ (text_base + 4 * exit_place) ∷ []
+  pub halts : p.marks.halts ≡ (text_base + 4 * (halt_place (length stream.words) - 1)) ∷ []
+  pub text : p.text ≡ hart_words stream.words
+  pub tables : p.tables ≡ table_bytes p.cases p.masks
