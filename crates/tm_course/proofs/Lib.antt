@@ -4,3 +4,5 @@ pub mod Given
 pub mod Memory
 pub mod Begin
 pub mod Behind
+pub mod Fitting
+pub mod Laying

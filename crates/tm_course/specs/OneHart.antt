@@ -1,5 +1,5 @@
 -- Programs of one hart with one case and two passes (this project's own).
-use Rattle.std.specs.Prelude.{◌≡◌, ℕ, ◌+◌, ◌-◌, ◌*◌, [], ◌∷◌, length}
+use Rattle.std.specs.Prelude.{◌≡◌, ℕ, ◌+◌, ◌-◌, ◌*◌, ◌^◌, ◌<◌, [], ◌∷◌, length, slice_index}
 use Rattle.tm_plan.specs.declared.cases.Case.{Case}
 use Rattle.tm_plan.specs.declared.cases.Stream.{Stream}
 use Rattle.tm_plan.specs.declared.cases.Kind2.TheVariants.{True}
@@ -22,6 +22,8 @@ pub record IsOfOneHart (p : Program) (case : Case) (stream : Stream) (mask : Cas
   pub windows : p.cases.windows ≡ record { number = 0; kind = True; lines = 1 } ∷ []
   pub cases : p.cases.cases ≡ case ∷ []
   pub streams : case.streams ≡ stream ∷ []
+  pub regs : length stream.regs ≡ 32
+  pub fits : (r : ℕ) → slice_index stream.regs r < 2 ^ 64
   pub masks : p.masks.cases ≡ mask ∷ []
   pub starts : p.marks.starts ≡ (text_base + 4 * start_place) ∷ []
   pub ends : p.marks.ends ≡ (text_base + 4 * (start_place + length stream.words)) ∷ []
