@@ -66,19 +66,21 @@ words-append (i ∷ a) b = ap (λ (ws : List ℕ). word_of i ∷ ws) (words-appe
 
 -- ---- marks that are ends
 
-count-none : (f : Mark → Bool) (ms : List Mark) → ((c : ℕ) → f (End c) ≡ false) → count is_end (those f ms) ≡ 0
-count-none f [] h = refl
-count-none f (m ∷ ms) h = by m (f m) refl (count-none f ms h)
-  where
-    by : (m : Mark) (b : Bool) → f m ≡ b → count is_end (those f ms) ≡ 0 → count is_end (if b then m ∷ those f ms else those f ms) ≡ 0
-    by m false e later = later
-    by Exit true e later = later
-    by (Enter c) true e later = later
-    by (End c) true e later = absurd (true≢false (sym e ∙ h c))
-    by Halt true e later = later
-    by (Stray c) true e later = later
+-- none of these marks that is an end passes the test
+pub data NoEnd (f : Mark → Bool) : List Mark → Type 0 where
+  Nothing : NoEnd f []
+  Other : {m : Mark} {ms : List Mark} → (is_end m ≡ true → f m ≡ false) → NoEnd f ms → NoEnd f (m ∷ ms)
 
-count-less : (f : Mark → Bool) (ms : List Mark) → count is_end (those f ms) ≤ count is_end ms
+pub count-none : (f : Mark → Bool) (ms : List Mark) → NoEnd f ms → count is_end (those f ms) ≡ 0
+count-none f [] h = refl
+count-none f (m ∷ ms) (Other h more) = by (f m) refl (is_end m) refl (count-none f ms more)
+  where
+    by : (b : Bool) → f m ≡ b → (c : Bool) → is_end m ≡ c → count is_end (those f ms) ≡ 0 → count is_end (if b then m ∷ those f ms else those f ms) ≡ 0
+    by false e c q later = later
+    by true e true q later = absurd (true≢false (sym e ∙ h q))
+    by true e false q later = subst (λ (x : Bool). (if x then suc (count is_end (those f ms)) else count is_end (those f ms)) ≡ 0) (sym q) later
+
+pub count-less : (f : Mark → Bool) (ms : List Mark) → count is_end (those f ms) ≤ count is_end ms
 count-less f [] = omega arith
 count-less f (m ∷ ms) = by (f m) (is_end m) refl (count-less f ms)
   where

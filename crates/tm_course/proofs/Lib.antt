@@ -6,3 +6,6 @@ pub mod Begin
 pub mod Behind
 pub mod Fitting
 pub mod Laying
+pub mod Tables
+pub mod Grounded
+pub mod Way

@@ -1,0 +1,139 @@
+-- What the image of a program of one hart holds in its tables.
+use Rattle.std.proofs.Common.{◌≡◌, ℕ, zero, suc, ◌+◌, ◌-◌, ◌*◌, ◌/◌, ◌%◌, ◌^◌, ◌<◌, ◌≤◌, List, [], ◌∷◌, ◌++◌, length, drop, refl, sym, ap, ◌∙◌, subst, arith, append_assoc, append-nil, length-append, length-drop}
+use Rattle.std.specs.Prelude.{slice_get, slice_index, All}
+use Rattle.std.proofs.lemmas.List.{get_or_append_left, get_or-append-add}
+use Rattle.std.proofs.lemmas.List.Elements.{All-head}
+use Rattle.tm_plan.specs.declared.cases.Case.{Case}
+use Rattle.tm_plan.specs.declared.cases.Cases.{Cases}
+use Rattle.tm_plan.specs.declared.cases.Stream.{Stream}
+use Rattle.tm_plan.specs.declared.masks.CaseMask.{CaseMask}
+use Rattle.tm_plan.specs.declared.masks.Masks.{Masks}
+use Rattle.tm_plan.specs.declared.program.Program.{Program}
+use Rattle.tm_plan.specs.Map.{tables_base, private_at, private_size}
+use Rattle.tm_plan.specs.Shaped.{IsShapedMask}
+use Rattle.tm_plan.specs.Tables.{dword_bytes, dwords_bytes, hart_tables, case_tables, table_bytes}
+use Rattle.tm_world.specs.Place.{image_byte, byte_of}
+use Rattle.tm_runs.specs.World.{Sizes, image_dword, is_private_dword}
+use Rattle.tm_runs.proofs.Bytes.{joined-lt}
+use Rattle.tm_runs.proofs.Places.{image-lt}
+use Rattle.tm_runs.proofs.Worlds.{private-dword, image-dword, image-table, image-private}
+use Rattle.tm_course.specs.OneHart.{IsOfOneHart}
+use Rattle.tm_course.proofs.Ground.{registers_at, mask_at, bytes_at, count_at, private, fresh_in}
+use Rattle.tm_course.proofs.Laying.{shaped, shaped-case}
+
+-- ---- bytes of dwords
+
+byte-of-dword : (v i : ℕ) → i < 8 → slice_index (dword_bytes v) i ≡ byte_of v i
+unfolding dword_bytes
+byte-of-dword v zero l = omega arith
+byte-of-dword v (suc zero) l = refl
+byte-of-dword v (suc (suc zero)) l = refl
+byte-of-dword v (suc (suc (suc zero))) l = refl
+byte-of-dword v (suc (suc (suc (suc zero)))) l = refl
+byte-of-dword v (suc (suc (suc (suc (suc zero))))) l = refl
+byte-of-dword v (suc (suc (suc (suc (suc (suc zero)))))) l = refl
+byte-of-dword v (suc (suc (suc (suc (suc (suc (suc zero))))))) l = refl
+byte-of-dword v (suc (suc (suc (suc (suc (suc (suc (suc i)))))))) l = absurd (omega arith)
+
+length-dword : (v : ℕ) → length (dword_bytes v) ≡ 8
+unfolding dword_bytes
+length-dword v = refl
+
+length-dwords : (vs : List ℕ) → length (dwords_bytes vs) ≡ 8 * length vs
+length-dwords [] = refl
+length-dwords (v ∷ vs) = length-append (dword_bytes v) (dwords_bytes vs) ∙ omega (arith, length-dword v, length-dwords vs)
+
+-- what stands behind n bytes
+behind : (xs ys : List ℕ) (n k : ℕ) → length xs ≡ n → slice_index (xs ++ ys) (n + k) ≡ slice_index ys k
+behind xs ys n k e = ap (λ (m : ℕ). slice_index (xs ++ ys) (m + k)) (sym e) ∙ get_or-append-add xs ys k 0
+
+byte-of-dwords : (vs rest : List ℕ) (j i : ℕ) → j < length vs → i < 8 → slice_index (dwords_bytes vs ++ rest) (8 * j + i) ≡ byte_of (slice_index vs j) i
+byte-of-dwords [] rest j i l m = absurd (omega arith)
+byte-of-dwords (v ∷ vs) rest zero i l m =
+    let e : 8 * 0 + i ≡ i = omega arith in
+    ap (slice_index (dwords_bytes (v ∷ vs) ++ rest)) e
+    ∙ (ap (λ (b : List ℕ). slice_index b i) (append_assoc (dword_bytes v) (dwords_bytes vs) rest)
+    ∙ (get_or_append_left (dword_bytes v) (dwords_bytes vs ++ rest) 0 i (omega (arith, length-dword v)) ∙ byte-of-dword v i m))
+byte-of-dwords (v ∷ vs) rest (suc j) i l m =
+    let e : 8 * suc j + i ≡ 8 + (8 * j + i) = omega arith in
+    ap (slice_index (dwords_bytes (v ∷ vs) ++ rest)) e
+    ∙ (ap (λ (b : List ℕ). slice_index b (8 + (8 * j + i))) (append_assoc (dword_bytes v) (dwords_bytes vs) rest)
+    ∙ (behind (dword_bytes v) (dwords_bytes vs ++ rest) 8 (8 * j + i) (length-dword v) ∙ byte-of-dwords vs rest j i (omega arith) m))
+
+index-drop : (xs : List ℕ) (j : ℕ) → slice_index (drop 1 xs) j ≡ slice_index xs (suc j)
+index-drop [] j = refl
+index-drop (x ∷ xs) j = refl
+
+-- ---- the tables of one hart and one case
+
+one-table : (cases : Cases) (masks : Masks) (case : Case) (mask : CaseMask) (stream : Stream) (m : ℕ) → cases.cases ≡ case ∷ [] → masks.cases ≡ mask ∷ [] → case.streams ≡ stream ∷ [] → mask.regs ≡ m ∷ []
+    → table_bytes cases masks ≡ dwords_bytes (drop 1 stream.regs) ++ (dword_bytes m ++ (dwords_bytes case.first ++ mask.bytes))
+unfolding table_bytes
+one-table cases masks case mask stream m a b c d =
+    let regs = dwords_bytes (drop 1 stream.regs) in
+    let first = dwords_bytes case.first in
+    ap (λ (cs : List Case). case_tables cs masks.cases) a
+    ∙ (ap (λ (ms : List CaseMask). case_tables (case ∷ []) ms) b
+    ∙ (append-nil (hart_tables case.streams mask.regs ++ first ++ mask.bytes)
+    ∙ (ap (λ (ss : List Stream). hart_tables ss mask.regs ++ first ++ mask.bytes) c
+    ∙ (ap (λ (ms : List ℕ). hart_tables (stream ∷ []) ms ++ first ++ mask.bytes) d
+    ∙ (ap (λ (l : List ℕ). l ++ first ++ mask.bytes) (append-nil (regs ++ dword_bytes m))
+    ∙ (append_assoc (regs ++ dword_bytes m) first mask.bytes ∙ append_assoc regs (dword_bytes m) (first ++ mask.bytes)))))))
+
+single : (xs : List ℕ) → length xs ≡ 1 → xs ≡ slice_index xs 0 ∷ []
+single [] e = absurd (omega arith)
+single (x ∷ []) e = refl
+single (x ∷ y ∷ xs) e = absurd (omega arith)
+
+module _ (p : Program) (case : Case) (stream : Stream) (mask : CaseMask) (is : IsOfOneHart p case stream mask) where
+  pub shaped-mask : IsShapedMask p.cases mask
+  shaped-mask = All-head (IsShapedMask p.cases) mask [] (subst (λ (ms : List CaseMask). All (IsShapedMask p.cases) ms) is.masks is.program.masks.each)
+
+  -- the mask of the registers
+  pub mask-regs : mask.regs ≡ slice_index mask.regs 0 ∷ []
+  mask-regs = single mask.regs (shaped-mask.regs ∙ is.harts)
+
+  table : p.tables ≡ dwords_bytes (drop 1 stream.regs) ++ (dword_bytes (slice_index mask.regs 0) ++ (dwords_bytes case.first ++ mask.bytes))
+  table = is.tables ∙ one-table p.cases p.masks case mask stream (slice_index mask.regs 0) is.cases is.masks is.streams mask-regs
+
+  length-registers : length (drop 1 stream.regs) ≡ 31
+  length-registers = length-drop 1 stream.regs ∙ omega (arith, is.regs)
+
+  pub tables-size : length p.tables ≡ 12544
+  tables-size =
+      let a = dwords_bytes (drop 1 stream.regs) in
+      let b = dword_bytes (slice_index mask.regs 0) in
+      let c = dwords_bytes case.first in
+      ap length table
+      ∙ (length-append a (b ++ (c ++ mask.bytes))
+      ∙ omega (arith, length-append b (c ++ mask.bytes), length-append c mask.bytes, length-dwords (drop 1 stream.regs), length-registers, length-dword (slice_index mask.regs 0), length-dwords case.first, (shaped-case p case stream mask is).first, shaped-mask.bytes))
+
+  -- the image's bytes in the tables
+  byte-at : (k : ℕ) → k < 12544 → image_byte p (2155872256 + k) ≡ slice_index p.tables k
+  unfolding tables_base
+  byte-at k l = image-table p k is.sizes (omega (arith, tables-size))
+
+  pub register-dword : (r : ℕ) → 1 ≤ r → r < 32 → fresh_in (image_dword p) r ≡ slice_index stream.regs r
+  register-dword zero l m = absurd (omega arith)
+  register-dword (suc j) l m = image-dword p (2155872248 + 8 * suc j) (slice_index stream.regs (suc j)) is.sizes (is.fits (suc j)) by
+    where
+      by : (i : ℕ) → i < 8 → image_byte p (2155872248 + 8 * suc j + i) ≡ byte_of (slice_index stream.regs (suc j)) i
+      by i k =
+          let e : 2155872248 + 8 * suc j + i ≡ 2155872256 + (8 * j + i) = omega arith in
+          ap (image_byte p) e
+          ∙ (byte-at (8 * j + i) (omega arith)
+          ∙ (ap (λ (t : List ℕ). slice_index t (8 * j + i)) table
+          ∙ (byte-of-dwords (drop 1 stream.regs) (dword_bytes (slice_index mask.regs 0) ++ (dwords_bytes case.first ++ mask.bytes)) j i (omega (arith, length-registers)) k
+          ∙ ap (λ (v : ℕ). byte_of v i) (index-drop stream.regs j))))
+
+  pub image-small : (a : ℕ) → image_dword p a < 2 ^ 64
+  unfolding image_dword
+  image-small a = joined-lt (λ i. image_byte p (a + i)) 8 (λ i. image-lt p (a + i) is.sizes)
+
+  pub base-dword : image_dword p 2155872496 ≡ private
+  unfolding private_at
+  base-dword = register-dword 31 (omega arith) (omega arith) ∙ (shaped p case stream mask is).own
+
+  pub count-dword : image_dword p count_at ≡ 0
+  unfolding private_at private_size
+  count-dword = image-private p 0 count_at is.sizes (omega arith) (private-dword 0 count_at (omega arith) (omega arith))
