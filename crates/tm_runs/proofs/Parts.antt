@@ -68,7 +68,7 @@ module _ {w : World} {m : ℕ → ℕ → List Mark} where
       cases = part_each (λ c. flat_map (λ k. pass_way c) (count_from 0 (passes p))) (λ c. C c 0) (case_count p) 0 (λ c _ b. case c (omega arith))
 
 -- words in which there is no mark
-module _ (w : World) (m : ℕ → ℕ → List Mark) (lo hi : ℕ) (A : Access → Type 0) (clear : (from to : ℕ) → lo ≤ from → from < hi → lo ≤ to → to ≤ hi → m from to ≡ []) where
+module _ (w : World) (m : ℕ → ℕ → List Mark) (lo hi : ℕ) (A : Access → Type 0) (clear : (from to : ℕ) → lo ≤ from → from < hi → lo < to → to ≤ hi → m from to ≡ []) where
   trail_same : (es log : List Entry) → Each (Does lo hi A) es → trail m (es ++ log) ≡ trail m log
   trail_same [] log h = refl
   trail_same (e ∷ es) log h =

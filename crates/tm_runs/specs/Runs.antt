@@ -36,15 +36,15 @@ abbrev pub Each : (Entry → Type 0) → List Entry → Type 0
 Each E [] = Unit {0}
 Each E (e ∷ es) = E e × Each E es
 
--- a step from one of these words to one of them or to the address behind the last, with an access that A allows
+-- a step from one of these words to one of them but the first, or to the address behind the last, with an access that A allows
 pub record Does (lo hi : ℕ) (A : Access → Type 0) (e : Entry) : Type 0 where
   pub from : lo ≤ e.pc
   pub below : e.pc < hi
-  pub least : lo ≤ e.next
+  pub least : lo < e.next
   pub most : e.next ≤ hi
   pub access : A e.access
 
--- the newest entry goes from one of these words to one of them or behind the last, with an access that A allows
+-- the newest entry goes from one of these words to one of them but the first, or behind the last, with an access that A allows
 abbrev pub Within : ℕ → ℕ → (Access → Type 0) → State → Type 0
 Within lo hi A t = Newest (Does lo hi A) t.log
 
