@@ -17,6 +17,10 @@ constant rd value = addi rd 0 (value / 2 ^ 55) ∷ flat_map (shift_in rd value) 
 unfoldable pub load_registers : ℕ → List Instr
 load_registers table = constant 31 table ++ map (λ r. ld r (8 * (r - 1)) 31) (count_from 1 31)
 
+-- the same without its last instruction, which loads x31
+unfoldable pub load_registers_but_last : ℕ → List Instr
+load_registers_but_last table = constant 31 table ++ map (λ r. ld r (8 * (r - 1)) 31) (count_from 1 30)
+
 -- x1 to x30 go to dwords 0 to 29 at x31
 unfoldable pub save_registers : List Instr
 save_registers = map (λ r. sd r (8 * (r - 1)) 31) (count_from 1 30)

@@ -41,3 +41,9 @@ unfoldable pub compare : (first other masks bytes cell k n : ℕ) → List Instr
 compare first other masks bytes cell k n =
     constant 4 masks ++ (ld 5 0 4 ∷ []) ++ constant 1 first ++ constant 2 other ++ constant 4 bytes ++ checks n
     ++ verdict k ++ constant 7 cell ++ (sd 8 0 7 ∷ [])
+
+-- the same without its last instruction, which writes the verdict
+unfoldable pub compare_but_last : (first other masks bytes cell k n : ℕ) → List Instr
+compare_but_last first other masks bytes cell k n =
+    constant 4 masks ++ (ld 5 0 4 ∷ []) ++ constant 1 first ++ constant 2 other ++ constant 4 bytes ++ checks n
+    ++ verdict k ++ constant 7 cell

@@ -1,3 +1,5 @@
 pub mod Instrs
 pub mod Blocks
 pub mod Compare
+pub mod Verdict
+pub mod Laws

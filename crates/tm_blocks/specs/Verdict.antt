@@ -1,0 +1,28 @@
+-- The verdict as a number, apart from the machine that computes it (this project's own).
+use Rattle.std.specs.Prelude.{◌≡◌, ℕ, zero, suc, ◌+◌, ◌-◌, ◌*◌, ◌/◌, ◌%◌, ◌^◌, ◌<◌, Bool, true, false, ◌&&◌, not, nat_lt, ◌==◌, if◌then◌else◌, bit_and, bit_xor}
+
+-- Dword i of two saved states, a and b, differs where it is checked: dword i below 30 is register i + 1, checked where that bit of
+-- registers is set; of dword 30 + j the bits that are set in mask j are checked.
+unfoldable pub differs : (registers : ℕ) → (mask a b : ℕ → ℕ) → ℕ → Bool
+differs registers mask a b i =
+    if nat_lt i 30 then (registers / 2 ^ (i + 1) % 2 == 1) && not (a i == b i)
+    else not (bit_and (bit_xor (a i) (b i)) (mask (i - 30)) == 0)
+
+-- one more than the first of n numbers, from i on, that passes the test; 0 where none does
+abbrev pub first_from : (ℕ → Bool) → (i n : ℕ) → ℕ
+first_from test i zero = 0
+first_from test i (suc n) = if test i then suc i else first_from test (suc i) n
+
+-- a number other than 0 gets the pass above its 32 bits
+abbrev pub above : (k : ℕ) → ℕ → ℕ
+above k zero = 0
+above k (suc i) = k * 2 ^ 32 + suc i
+
+-- the verdict on pass k: 0 where none of the 30 registers and n dwords differs, else k * 2 ^ 32 + i + 1 for the first that does, i
+unfoldable pub verdict_number : (registers : ℕ) → (mask a b : ℕ → ℕ) → (k n : ℕ) → ℕ
+verdict_number registers mask a b k n = above k (first_from (differs registers mask a b) 0 (30 + n))
+
+-- a number is the verdict on pass k, where test says which of n dwords differ
+pub data IsNumber (test : ℕ → Bool) (k n : ℕ) : ℕ → Type 0 where
+  agree : ((i : ℕ) → i < n → test i ≡ false) → IsNumber test k n 0
+  differ : (i : ℕ) → i < n → test i ≡ true → ((j : ℕ) → j < i → test j ≡ false) → IsNumber test k n (k * 2 ^ 32 + i + 1)
