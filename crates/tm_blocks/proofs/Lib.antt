@@ -1,3 +1,5 @@
 pub mod Fitting
 pub mod Lists
 pub mod Lengths
+pub mod Dwords
+pub mod Constant
