@@ -3,3 +3,4 @@ pub mod Lists
 pub mod Lengths
 pub mod Dwords
 pub mod Constant
+pub mod Copy
