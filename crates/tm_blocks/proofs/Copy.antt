@@ -43,7 +43,7 @@ first_own w p q N j n v vs s sum own more apart (suc i) l e k o =
 
 -- dwords a + j on of those at the address in x[from] go to dwords b + j on of those at the address in x[to]
 module _ (w : World) (lo hi from a to b p q N : ℕ) (A : Access → Type 0) (from3 : from ≢ 3) (to3 : to ≢ 3) (source : Usable w p N) (goal : Usable w q N) (free : Changeable w q N) (allowed : (i v : ℕ) → i < N → A (Read (p + 8 * i) 8 v) × A (Write (q + 8 * i) 8 v)) where
-  copying_takes : (n j f g : ℕ) (s : State) → j + n ≡ N → lo ≤ s.pc → s.pc + 8 * n ≤ hi → get s.regs from ≡ f → f + 8 * a ≡ p → get s.regs to ≡ g → g + 8 * b ≡ q → At w.text s.pc (flat_map (copy_dword from a to b) (count_from j n)) → Takes w (Within lo hi A) (Copying w p q N j n s) (2 * n) s
+  pub copying_takes : (n j f g : ℕ) (s : State) → j + n ≡ N → lo ≤ s.pc → s.pc + 8 * n ≤ hi → get s.regs from ≡ f → f + 8 * a ≡ p → get s.regs to ≡ g → g + 8 * b ≡ q → At w.text s.pc (flat_map (copy_dword from a to b) (count_from j n)) → Takes w (Within lo hi A) (Copying w p q N j n s) (2 * n) s
   copying_takes zero j f g s sum x y ef pf eg qg at =
       Now (record { values = []; count = refl; small = λ i l. absurd (omega arith); own = λ d i l e k. absurd (omega arith); pc = omega arith; regs = λ r ne. refl; mem = refl; log = refl; fits = λ h. h })
   copying_takes (suc n) j f g s sum x y ef pf eg qg at =

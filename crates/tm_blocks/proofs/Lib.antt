@@ -4,3 +4,4 @@ pub mod Lengths
 pub mod Dwords
 pub mod Constant
 pub mod Copy
+pub mod Collect
