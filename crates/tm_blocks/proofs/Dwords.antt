@@ -76,3 +76,9 @@ changeable_back w a m n b e c = λ j l. subst (λ (x : ℕ). w.fixed x ≡ false
 -- nothing is read or written where no access is made
 pub quiet_uses : (lo hi : ℕ) (R W : ℕ → Type 0) (t : State) → Within lo hi IsQuiet t → Within lo hi (Uses R W) t
 quiet_uses lo hi R W t h = within_map lo hi lo hi (omega arith) (omega arith) (λ a e. subst (Uses R W) (sym e) tt) t h
+
+-- more reads and writes
+pub uses_map : {R W R' W' : ℕ → Type 0} → ((a : ℕ) → R a → R' a) → ((a : ℕ) → W a → W' a) → (x : Access) → Uses R W x → Uses R' W' x
+uses_map f g Quiet h = tt
+uses_map f g (Read a width v) h = (h.0, f a h.1)
+uses_map f g (Write a width v) h = (h.0, g a h.1)

@@ -5,3 +5,4 @@ pub mod Dwords
 pub mod Constant
 pub mod Copy
 pub mod Collect
+pub mod Registers
