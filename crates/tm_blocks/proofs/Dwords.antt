@@ -1,14 +1,15 @@
 -- Registers and dwords of a state, the accesses of a log, and steps inside a range of words.
 use Rattle.std.proofs.Common.{◌≡◌, ◌≢◌, ℕ, zero, suc, ◌+◌, ◌*◌, ◌%◌, ◌^◌, ◌<◌, ◌≤◌, ◌⊎◌, inl, inr, Bool, true, false, List, [], ◌∷◌, ◌++◌, length, map, refl, sym, ap, ap₂, ◌∙◌, arith, subst}
 use Rattle.std.specs.Prelude.{nat_eq, if◌then◌else◌, slice_index, IsTrue}
-use Rattle.std.proofs.lemmas.Bool.{cases_lt}
+use Rattle.std.proofs.lemmas.Bool.{eqb-true, eqb-false}
 use Rattle.tm_table.specs.declared.instr.Instr.{Instr}
 use Rattle.tm_table.specs.declared.state.Access.{Access}
 use Rattle.tm_table.specs.declared.state.Access.TheVariants.{Quiet, Read, Write}
 use Rattle.tm_plan.specs.Collected.{count_from}
-use Rattle.tm_runs.specs.Machine.{World, State, Entry, Table, put, get, computes, MayAccess}
+use Rattle.tm_runs.specs.Machine.{World, State, Entry, Table, put, get, computes, loaded, MayAccess}
 use Rattle.tm_runs.specs.Runs.{Within, IsQuiet}
 use Rattle.tm_runs.proofs.Compose.{within_map}
+use Rattle.tm_runs.proofs.Steps.{branched}
 use Rattle.tm_runs.proofs.Tables.{put_same, put_other, get_put, get_put_other}
 use Rattle.tm_blocks.specs.Laws.{Uses, Usable, Changeable, stored_all}
 
@@ -27,6 +28,22 @@ fit_put f r v small h (suc x) = by (nat_eq (suc x) r)
 pub fit_same : (f g : Table) → ((r : ℕ) → get g r ≡ get f r) → Fit f → Fit g
 fit_same f g e h r = let a = e r in let b = h r in omega arith
 
+-- where three registers alone change
+pub fit_three : (f g : Table) → get g 6 < 2 ^ 64 → get g 7 < 2 ^ 64 → get g 8 < 2 ^ 64 → ((r : ℕ) → r ≢ 6 → r ≢ 7 → r ≢ 8 → get g r ≡ get f r) → Fit f → Fit g
+fit_three f g six seven eight same h r = by6 (nat_eq r 6) refl
+  where
+    by8 : (b : Bool) → nat_eq r 8 ≡ b → r ≢ 6 → r ≢ 7 → get g r < 2 ^ 64
+    by8 true e n6 n7 = subst (λ (x : ℕ). get g x < 2 ^ 64) (sym (eqb-true r 8 e)) eight
+    by8 false e n6 n7 = subst (λ (x : ℕ). x < 2 ^ 64) (sym (same r n6 n7 (eqb-false r 8 e))) (h r)
+
+    by7 : (b : Bool) → nat_eq r 7 ≡ b → r ≢ 6 → get g r < 2 ^ 64
+    by7 true e n6 = subst (λ (x : ℕ). get g x < 2 ^ 64) (sym (eqb-true r 7 e)) seven
+    by7 false e n6 = by8 (nat_eq r 8) refl n6 (eqb-false r 7 e)
+
+    by6 : (b : Bool) → nat_eq r 6 ≡ b → get g r < 2 ^ 64
+    by6 true e = subst (λ (x : ℕ). get g x < 2 ^ 64) (sym (eqb-true r 6 e)) six
+    by6 false e = by7 (nat_eq r 7) refl (eqb-false r 6 e)
+
 -- dword j of those that may be accessed
 pub may_at : {w : World} {a n : ℕ} (j x : ℕ) → Usable w a n → j < n → x ≡ a + 8 * j → MayAccess w x
 may_at {w = w} j x u l e = rw e ((let al = u.aligned in omega arith), u.guest j l)
@@ -34,6 +51,13 @@ may_at {w = w} j x u l e = rw e ((let al = u.aligned in omega arith), u.guest j 
 -- a step that makes no access, to the next word
 pub on_quiet : {lo hi : ℕ} {A : Access → Type 0} (i : Instr) (s : State) (x : ℕ) → A Quiet → lo ≤ s.pc → s.pc + 4 ≤ hi → Within lo hi A (computes i s x)
 on_quiet i s x q a b = record { from = a; below = omega arith; least = omega arith; most = b; access = q }
+
+pub on_branch : {lo hi : ℕ} {A : Access → Type 0} (i : Instr) (pc : ℕ) (s : State) → A Quiet → lo ≤ s.pc → s.pc + 4 ≤ hi → lo < pc → pc ≤ hi → Within lo hi A (branched i pc s)
+on_branch i pc s q a b c d = record { from = a; below = omega arith; least = c; most = d; access = q }
+
+-- a load, to the next word
+pub on_read : {lo hi : ℕ} {A : Access → Type 0} (i : Instr) (a v : ℕ) (s : State) → A (Read a 8 v) → lo ≤ s.pc → s.pc + 4 ≤ hi → Within lo hi A (loaded i a v s)
+on_read i a v s r x y = record { from = x; below = omega arith; least = omega arith; most = y; access = r }
 
 -- what a row of stores leaves at the other dwords
 pub stored-other : (vs : List ℕ) (mem : Table) (b j x : ℕ) → ((i : ℕ) → j ≤ i → i < j + length vs → x ≢ b + 8 * i) → stored_all mem b j vs x ≡ mem x

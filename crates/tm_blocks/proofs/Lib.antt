@@ -6,3 +6,5 @@ pub mod Constant
 pub mod Copy
 pub mod Collect
 pub mod Registers
+pub mod Verdicts
+pub mod Checks
