@@ -8,3 +8,4 @@ pub mod Collect
 pub mod Registers
 pub mod Verdicts
 pub mod Checks
+pub mod Whole
