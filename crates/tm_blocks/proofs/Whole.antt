@@ -14,7 +14,7 @@ use Rattle.tm_blocks.specs.Blocks.{constant}
 use Rattle.tm_blocks.specs.Compare.{checks, verdict, compare, compare_but_last}
 use Rattle.tm_blocks.specs.Verdict.{differs, first_from, above, verdict_number}
 use Rattle.tm_blocks.specs.Laws.{accesses, with_access, EachAccess, Among, Nowhere, Uses, Usable, ReadsBack, Changeable, RegistersFit, HasConstant, Comparable, Compares, Mask, verdict_in, HasVerdict, CompareButLastRuns, after_verdict, LastStoreRuns, HasCompared, CompareRuns}
-use Rattle.tm_blocks.proofs.Lengths.{length-constant, length-checks}
+use Rattle.tm_blocks.proofs.Lengths.{length-constant, length-checks, length-compare_but_last, compare_parts}
 use Rattle.tm_blocks.proofs.Dwords.{may_at, fit_put, on_quiet, on_branch, on_read, quiet_uses, uses_map}
 use Rattle.tm_blocks.proofs.Constant.{constant_takes}
 use Rattle.tm_blocks.proofs.Checks.{Ready, Checked, checks_take}
@@ -201,3 +201,42 @@ compare_but_last_runs first other masks bytes cell k n pass here w s c at =
     seen t j since =
         let a = accessed (Uses (Compares first other masks bytes n) Nowhere) s.pc (s.pc + 4 * (301 + 7 * n)) since.entries s.log since.each in
         record { pc = j.pc; place = j.place; number = j.number; regs = j.regs; mem = j.mem; read = a.made; only = a.each; accesses = ap accesses since.log ∙ a.are; fits = j.fits }
+
+pub last_store_runs : (cell : ℕ) → LastStoreRuns cell
+last_store_runs cell w s usable free at place =
+    let low = usable.low in
+    let here : cell + 8 * 0 ≡ cell = omega arith in
+    step_sd cell refl at.0 (rw place (omega arith)) (may_at 0 _ usable (omega arith) (sym here)) (ap w.fixed (sym here) ∙ free 0 (omega arith)) refl (Now refl)
+
+-- the store of the verdict behind the rest
+pub verdict_stored : (first other masks bytes cell k n : ℕ) (s u t : State) → HasVerdict first other masks bytes cell k n s u → t ≡ after_verdict cell u → HasCompared first other masks bytes cell k n s t
+verdict_stored first other masks bytes cell k n s u t v is =
+    subst (HasCompared first other masks bytes cell k n s) (sym is) (record {
+      pc = omega (arith, v.pc);
+      regs = v.regs;
+      mem = ap (λ (f : Table). put f cell (get u.regs 8)) v.mem ∙ ap (put s.mem cell) v.number;
+      read = v.read;
+      only = v.only;
+      accesses = ap (λ (l : List Access). Write cell 8 (get u.regs 8) ∷ l) v.accesses ∙ ap (λ (x : ℕ). Write cell 8 x ∷ v.read ++ accesses s.log) v.number;
+      fits = v.fits;
+    })
+
+pub compare_runs : (first other masks bytes cell k n : ℕ) → k < 2 ^ 11 → CompareRuns first other masks bytes cell k n
+compare_runs first other masks bytes cell k n pass w s c usable free at =
+    let low = usable.low in
+    let lo = s.pc in
+    let hi = s.pc + 4 * (302 + 7 * n) in
+    let b = compare_but_last first other masks bytes cell k n in
+    let l : List Instr = sd 8 0 7 ∷ [] in
+    let parts = subst (At w.text s.pc) (compare_parts first other masks bytes cell k n) at in
+    takes_more (302 + 7 * n) (omega arith)
+    (takes_then (takes_map (within_map lo (s.pc + 4 * (301 + 7 * n)) lo hi (omega arith) (omega arith) (uses_map (λ a r. r) none)) (λ t p. p) (compare_but_last_runs first other masks bytes cell k n pass (omega arith) w s c (at_front w.text s.pc b l parts))) (λ u v.
+    let pc = v.pc in
+    takes_map (last_within u pc) (λ t e. verdict_stored first other masks bytes cell k n s u t v e)
+    (last_store_runs cell w u usable free (at_next w.text s.pc u.pc b l (301 + 7 * n) (length-compare_but_last first other masks bytes cell k n) pc parts) v.place)))
+  where
+    none : (a : ℕ) → Nowhere a → Among cell 1 a
+    none a x = absurd x
+
+    last_within : (u : State) → u.pc ≡ s.pc + 4 * (301 + 7 * n) → (t : State) → t ≡ after_verdict cell u → Within s.pc (s.pc + 4 * (302 + 7 * n)) (Uses (Compares first other masks bytes n) (Among cell 1)) t
+    last_within u pc t e = subst (Within s.pc (s.pc + 4 * (302 + 7 * n)) (Uses (Compares first other masks bytes n) (Among cell 1))) (sym e) (record { from = omega arith; below = omega arith; least = omega arith; most = omega arith; access = (refl, record { index = 0; below = omega arith; is = omega arith }) })
