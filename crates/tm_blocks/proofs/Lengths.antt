@@ -2,9 +2,9 @@
 use Rattle.std.proofs.Common.{◌≡◌, ℕ, zero, suc, ◌+◌, ◌-◌, ◌*◌, List, [], ◌∷◌, ◌++◌, length, flat_map, refl, ap, arith, length-append}
 use Rattle.tm_table.specs.declared.instr.Instr.{Instr}
 use Rattle.tm_plan.specs.Collected.{count_from}
-use Rattle.tm_blocks.specs.Instrs.{words_of}
-use Rattle.tm_blocks.specs.Blocks.{constant, load_registers, save_registers, copy_dword, copy_dwords, copy, collect}
-use Rattle.tm_blocks.specs.Compare.{dword_check, register_checks, dword_checks, checks, compare}
+use Rattle.tm_blocks.specs.Instrs.{ld, sd, words_of}
+use Rattle.tm_blocks.specs.Blocks.{constant, load_registers, load_registers_but_last, save_registers, copy_dword, copy_dwords, copy, collect}
+use Rattle.tm_blocks.specs.Compare.{dword_check, register_checks, dword_checks, checks, compare, compare_but_last}
 
 pub length-words_of : (code : List Instr) → length (words_of code) ≡ length code
 length-words_of [] = refl
@@ -27,6 +27,14 @@ length-constant rd value = refl
 pub length-load_registers : (table : ℕ) → length (load_registers table) ≡ 42
 unfolding load_registers constant
 length-load_registers table = refl
+
+pub length-load_registers_but_last : (table : ℕ) → length (load_registers_but_last table) ≡ 41
+unfolding load_registers_but_last constant
+length-load_registers_but_last table = refl
+
+pub load_registers_parts : (table : ℕ) → load_registers table ≡ load_registers_but_last table ++ ld 31 240 31 ∷ []
+unfolding load_registers load_registers_but_last constant
+load_registers_parts table = refl
 
 pub length-save_registers : length save_registers ≡ 30
 unfolding save_registers
@@ -59,3 +67,11 @@ length-checks n = simp (length-append, length-register_checks, length-dword_chec
 pub length-compare : (first other masks bytes cell k n : ℕ) → length (compare first other masks bytes cell k n) ≡ 302 + 7 * n
 unfolding compare
 length-compare first other masks bytes cell k n = simp (length-append, length-constant, length-checks) (omega arith)
+
+pub length-compare_but_last : (first other masks bytes cell k n : ℕ) → length (compare_but_last first other masks bytes cell k n) ≡ 301 + 7 * n
+unfolding compare_but_last
+length-compare_but_last first other masks bytes cell k n = simp (length-append, length-constant, length-checks) (omega arith)
+
+pub compare_parts : (first other masks bytes cell k n : ℕ) → compare first other masks bytes cell k n ≡ compare_but_last first other masks bytes cell k n ++ sd 8 0 7 ∷ []
+unfolding compare compare_but_last
+compare_parts first other masks bytes cell k n = refl

@@ -1,3 +1,11 @@
 pub mod Fitting
 pub mod Lists
 pub mod Lengths
+pub mod Dwords
+pub mod Constant
+pub mod Copy
+pub mod Collect
+pub mod Registers
+pub mod Verdicts
+pub mod Checks
+pub mod Whole

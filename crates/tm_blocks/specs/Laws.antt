@@ -136,10 +136,15 @@ LoadAllButLastRuns table = (w : World) (s : State) → Usable w table 31 → Rea
 abbrev pub after_last_load : (table : ℕ) → State → State
 after_last_load table s = loaded (ld 31 240 31) (table + 240) (s.mem (table + 240)) s
 
+-- the last load was made
+pub record HasLast (table : ℕ) (s t : State) : Type 0 where
+  pub is : t ≡ after_last_load table s
+  pub small : s.mem (table + 240) < 2 ^ 64
+
 -- the last load by itself
 abbrev pub LastLoadRuns : (table : ℕ) → Type 0
 LastLoadRuns table = (w : World) (s : State) → Usable w table 31 → ReadsBack w table 31 → At w.text s.pc (ld 31 240 31 ∷ []) → get s.regs 31 ≡ table
-    → Takes w (λ t. t ≡ after_last_load table s) (λ t. t ≡ after_last_load table s) 1 s
+    → Takes w (HasLast table s) (HasLast table s) 1 s
 
 abbrev pub LoadRegistersRuns : (table : ℕ) → Type 0
 LoadRegistersRuns table = (w : World) (s : State) → Usable w table 31 → ReadsBack w table 31 → At w.text s.pc (load_registers table)

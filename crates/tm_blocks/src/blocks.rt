@@ -2,6 +2,7 @@
 // 200, so that each dword is within reach of an instruction. Without memory a part may have been appended.
 ghost use Rattle.std.specs.Prelude.{◌≡◌, ◌++◌, ◌+◌, ◌<◌, ◌≤◌, OnOk};
 ghost use Rattle.tm_blocks.specs.Instrs.{words_of};
+ghost use Rattle.tm_blocks.specs.Laws.{ConstantRuns, LoadAllButLastRuns, LastLoadRuns, LoadRegistersRuns, SaveRegistersRuns, CopyRuns, CollectRuns};
 ghost use Rattle.tm_blocks.specs.Blocks.{shift_in, constant, load_registers, save_registers, copy_dword, copy_dwords, copy, collect};
 
 use crate::instrs::{addi, ld, sd, slli};
@@ -11,6 +12,7 @@ use tm_base::{NoMemory, Words};
 pub fn put_constant(out: &mut Words, rd: u8, value: u64) -> Result<(), NoMemory>
     requires { (1 ≤ rd) × (rd < 32) }
     ensures words { OnOk result (out.new ≡ out.old ++ words_of (constant rd value)) }
+    ensures runs { OnOk result (ConstantRuns rd value) }
 {
     addi(out, rd, 0, (value >> 55) as u16)?;
     for done in 0..5u32 {
@@ -32,6 +34,9 @@ fn put_bits(out: &mut Words, rd: u8, value: u64, k: u32) -> Result<(), NoMemory>
 /// Registers 1 to 31 become the 31 dwords at the address `table`.
 pub fn put_load_registers(out: &mut Words, table: u64) -> Result<(), NoMemory>
     ensures words { OnOk result (out.new ≡ out.old ++ words_of (load_registers table)) }
+    ensures runs { OnOk result (LoadRegistersRuns table) }
+    ensures runs_but_last { OnOk result (LoadAllButLastRuns table) }
+    ensures runs_last { OnOk result (LastLoadRuns table) }
 {
     put_constant(out, 31, table)?;
     for register in 1..32u8 {
@@ -43,6 +48,7 @@ pub fn put_load_registers(out: &mut Words, table: u64) -> Result<(), NoMemory>
 /// Registers 1 to 30 go to the 30 dwords at register 31.
 pub fn put_save_registers(out: &mut Words) -> Result<(), NoMemory>
     ensures words { OnOk result (out.new ≡ out.old ++ words_of save_registers) }
+    ensures runs { OnOk result SaveRegistersRuns }
 {
     for register in 1..31u8 {
         sd(out, register, 8 * u16::from(register - 1), 31)?;
@@ -54,6 +60,7 @@ pub fn put_save_registers(out: &mut Words) -> Result<(), NoMemory>
 pub fn put_copy(out: &mut Words, from: u64, to: u64, n: u16) -> Result<(), NoMemory>
     requires { n ≤ 200 }
     ensures words { OnOk result (out.new ≡ out.old ++ words_of (copy from to n)) }
+    ensures runs { OnOk result (CopyRuns from to n) }
 {
     put_constant(out, 1, from)?;
     put_constant(out, 2, to)?;
@@ -69,6 +76,7 @@ pub fn put_copy(out: &mut Words, from: u64, to: u64, n: u16) -> Result<(), NoMem
 pub fn put_collect(out: &mut Words, shared: u64, save: u64, n: u16) -> Result<(), NoMemory>
     requires { n ≤ 200 }
     ensures words { OnOk result (out.new ≡ out.old ++ words_of (collect shared save n)) }
+    ensures runs { OnOk result (CollectRuns shared save n) }
 {
     put_constant(out, 9, save)?;
     put_dwords(

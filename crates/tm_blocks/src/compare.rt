@@ -1,6 +1,7 @@
 // The comparison of two saved states, appended as its words.
 ghost use Rattle.std.specs.Prelude.{◌≡◌, ◌++◌, ◌<◌, ◌≤◌, OnOk};
 ghost use Rattle.tm_blocks.specs.Instrs.{words_of};
+ghost use Rattle.tm_blocks.specs.Laws.{CompareRuns, CompareButLastRuns, LastStoreRuns};
 ghost use Rattle.tm_blocks.specs.Compare.{register_check, register_checks, dword_check, dword_checks, checks, verdict, compare};
 
 use crate::blocks::put_constant;
@@ -28,6 +29,9 @@ pub fn put_compare(out: &mut Words, c: Comparison) -> Result<(), NoMemory>
     requires pass { c.pass < 2048 }
     requires few { c.dwords ≤ 64 }
     ensures words { OnOk result (out.new ≡ out.old ++ words_of (compare c.first c.other c.masks c.bytes c.cell c.pass c.dwords)) }
+    ensures runs { OnOk result (CompareRuns c.first c.other c.masks c.bytes c.cell c.pass c.dwords) }
+    ensures runs_but_last { OnOk result (CompareButLastRuns c.first c.other c.masks c.bytes c.cell c.pass c.dwords) }
+    ensures runs_last { OnOk result (LastStoreRuns c.cell) }
 {
     put_constant(out, 4, c.masks)?;
     ld(out, 5, 0, 4)?;

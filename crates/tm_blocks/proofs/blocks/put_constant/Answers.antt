@@ -4,6 +4,7 @@ use Rattle.tm_plan.specs.Collected.{count_from}
 use Rattle.tm_blocks.specs.Instrs.{addi}
 use Rattle.tm_blocks.specs.Blocks.{shift_in, constant}
 use Rattle.tm_blocks.proofs.Lists.{none_yet, one_more, all_done, and_then}
+use Rattle.tm_blocks.proofs.Constant.{constant_runs}
 use Rattle.tm_blocks.proofs.blocks.put_constant.Goals as goal
 
 pub loop-done-init : goal.loop-done-init
@@ -16,4 +17,4 @@ pub returns : goal.returns
 unfolding constant
 returns c =
     let bits : ℕ → List Instr = λ k. shift_in c.args.rd c.args.value (4 - k) in
-    record { words = and_then (addi c.args.rd 0 (c.args.value / 2 ^ 55) ∷ []) (flat_map bits (count_from 0 5)) _ _ _ c.in_ok-addi.ensures (all_done bits 0 c.loop-done.done 5 _ _ (omega arith) c.loop-done.invariant) }
+    record { words = and_then (addi c.args.rd 0 (c.args.value / 2 ^ 55) ∷ []) (flat_map bits (count_from 0 5)) _ _ _ c.in_ok-addi.ensures (all_done bits 0 c.loop-done.done 5 _ _ (omega arith) c.loop-done.invariant); runs = constant_runs c.args.rd c.args.value c.requires.0 (omega arith) }

@@ -4,6 +4,7 @@ use Rattle.tm_plan.specs.Collected.{count_from}
 use Rattle.tm_blocks.specs.Instrs.{ld, words_of}
 use Rattle.tm_blocks.specs.Blocks.{constant, load_registers}
 use Rattle.tm_blocks.proofs.Lists.{none_yet, one_more, all_single, and_then}
+use Rattle.tm_blocks.proofs.Registers.{load_registers_runs, load_all_but_last_runs, last_load_runs}
 use Rattle.tm_blocks.proofs.blocks.put_load_registers.Goals as goal
 
 abbrev loaded : ℕ → List Instr
@@ -22,4 +23,4 @@ pub returns : goal.returns
 unfolding load_registers
 returns c =
     let one : ℕ → Instr = λ r. ld r (8 * (r - 1)) 31 in
-    record { words = and_then (constant 31 c.args.table) (map one (count_from 1 31)) _ _ _ c.in_ok-put_constant.ensures.words (all_single one 1 (c.loop-register.register - 1) 31 _ _ (omega arith) c.loop-register.invariant) }
+    record { words = and_then (constant 31 c.args.table) (map one (count_from 1 31)) _ _ _ c.in_ok-put_constant.ensures.words (all_single one 1 (c.loop-register.register - 1) 31 _ _ (omega arith) c.loop-register.invariant); runs = load_registers_runs c.args.table; runs_but_last = load_all_but_last_runs c.args.table; runs_last = last_load_runs c.args.table }

@@ -3,6 +3,7 @@ use Rattle.tm_table.specs.declared.instr.Instr.{Instr}
 use Rattle.tm_blocks.specs.Instrs.{sd, words_of}
 use Rattle.tm_blocks.specs.Blocks.{save_registers}
 use Rattle.tm_blocks.proofs.Lists.{none_yet, one_more, all_single}
+use Rattle.tm_blocks.proofs.Registers.{save_registers_runs}
 use Rattle.tm_blocks.proofs.blocks.put_save_registers.Goals as goal
 
 abbrev saved : ℕ → List Instr
@@ -19,4 +20,4 @@ loop-register-preserved c =
 
 pub returns : goal.returns
 unfolding save_registers
-returns c = record { words = all_single (λ r. sd r (8 * (r - 1)) 31) 1 (c.loop-register.register - 1) 30 _ _ (omega arith) c.loop-register.invariant }
+returns c = record { words = all_single (λ r. sd r (8 * (r - 1)) 31) 1 (c.loop-register.register - 1) 30 _ _ (omega arith) c.loop-register.invariant; runs = save_registers_runs }

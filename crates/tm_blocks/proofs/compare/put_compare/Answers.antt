@@ -1,10 +1,11 @@
-use Rattle.std.proofs.Common.{List, [], ◌∷◌, ◌++◌}
+use Rattle.std.proofs.Common.{List, [], ◌∷◌, ◌++◌, arith}
 use Rattle.std.proofs.lemmas.Result.{on_ok_weaker}
 use Rattle.tm_table.specs.declared.instr.Instr.{Instr}
 use Rattle.tm_blocks.specs.Instrs.{ld, sd}
 use Rattle.tm_blocks.specs.Blocks.{constant}
 use Rattle.tm_blocks.specs.Compare.{checks, verdict, compare}
 use Rattle.tm_blocks.proofs.Lists.{and_then}
+use Rattle.tm_blocks.proofs.Whole.{compare_runs, compare_but_last_runs, last_store_runs}
 use Rattle.tm_blocks.proofs.compare.put_compare.Goals as goal
 
 pub returns : goal.returns
@@ -25,4 +26,7 @@ returns c =
     let six = and_then (masks ++ mask ++ first ++ other ++ bytes) checked _ _ _ five c.in_ok-put_checks.ensures.words in
     let seven = and_then (masks ++ mask ++ first ++ other ++ bytes ++ checked) judged _ _ _ six c.in_ok-put_verdict.ensures.words in
     let eight = and_then (masks ++ mask ++ first ++ other ++ bytes ++ checked ++ judged) cell _ _ _ seven c.in_ok-put_constant-5.ensures.words in
-    record { words = on_ok_weaker c.sd.result (λ h. and_then (masks ++ mask ++ first ++ other ++ bytes ++ checked ++ judged ++ cell) (sd 8 0 7 ∷ []) _ _ _ eight h) c.sd.ensures }
+    record { words = on_ok_weaker c.sd.result (λ h. and_then (masks ++ mask ++ first ++ other ++ bytes ++ checked ++ judged ++ cell) (sd 8 0 7 ∷ []) _ _ _ eight h) c.sd.ensures;
+      runs = on_ok_weaker c.sd.result (λ h. compare_runs c.args.c.first c.args.c.other c.args.c.masks c.args.c.bytes c.args.c.cell c.args.c.pass c.args.c.dwords c.requires.pass) c.sd.ensures;
+      runs_but_last = on_ok_weaker c.sd.result (λ h. compare_but_last_runs c.args.c.first c.args.c.other c.args.c.masks c.args.c.bytes c.args.c.cell c.args.c.pass c.args.c.dwords c.requires.pass (omega arith)) c.sd.ensures;
+      runs_last = on_ok_weaker c.sd.result (λ h. last_store_runs c.args.c.cell) c.sd.ensures }
