@@ -1,0 +1,12 @@
+// Laws over the definitions, each as the contract of a function that does nothing.
+ghost use Rattle.tm_alone.specs.Laws.{LegalRunsAreHalf, LegalStepsAreHalf};
+
+use tm_plan::Program;
+
+/// Each legal run is a half run, and so is what each tame hart does on it.
+pub fn legal_half(program: &Program)
+    ensures runs { LegalRunsAreHalf program.now }
+    ensures steps { LegalStepsAreHalf program.now }
+{
+    let _ = program;
+}
