@@ -9,7 +9,7 @@ use Rattle.tm_world.specs.Place.{harts, passes}
 use Rattle.tm_world.specs.Run.{Step, Run, own}
 use Rattle.tm_world.specs.Writers.{stream_in}
 use Rattle.tm_world.specs.Kinds.{Legal, Half, Plain, HalfPath, first_of_hart}
-use Rattle.tm_world.specs.Course.{OnHalf}
+use Rattle.tm_world.specs.Course.{OnHalf, HartCourse}
 use Rattle.tm_world.specs.Whole.{WritesRight}
 use Rattle.tm_world.specs.Work.{work_steps}
 use Rattle.tm_world.specs.Verdict.{Register, end_value}
@@ -19,6 +19,10 @@ use Rattle.tm_alone.specs.Stays.{outside_steps, outside_work, inside_steps, word
 -- On each legal run P holds of hart h's first state and its own steps.
 abbrev pub OnLegal : Program → ℕ → (Hart → List Step → Type 0) → Type 0
 OnLegal p h P = (r : Run) → Legal p r → P (first_of_hart r h) (own h r.steps)
+
+-- A hart that keeps the course is tame.
+abbrev pub CourseIsTame : Program → Type 0
+CourseIsTame p = Formed p → (h : ℕ) → HartCourse p h → Tame p h
 
 -- Each legal run of a program whose harts are all tame is a half run.
 abbrev pub LegalRunsAreHalf : Program → Type 0

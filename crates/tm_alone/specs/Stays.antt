@@ -1,5 +1,5 @@
 -- How long a hart stays inside its streams and outside them (this project's own).
-use Rattle.std.specs.Prelude.{ℕ, zero, suc, ◌+◌, List, [], ◌∷◌, slice_get, Option, None, Some, if◌then◌else◌}
+use Rattle.std.specs.Prelude.{ℕ, suc, ◌+◌, List, [], ◌∷◌, slice_get, Option, None, Some, if◌then◌else◌}
 use Rattle.tm_table.specs.State.{Hart}
 use Rattle.tm_plan.specs.declared.program.Program.{Program}
 use Rattle.tm_plan.specs.declared.cases.Case.{Case}
