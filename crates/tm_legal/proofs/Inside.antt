@@ -18,9 +18,9 @@ use Rattle.tm_world.specs.Writers.{stream_in}
 use Rattle.tm_world.specs.Kinds.{Follows, Free}
 use Rattle.tm_runs.proofs.Rows.{row-decoded}
 use Rattle.tm_runs.proofs.Bytes.{within-true}
-use Rattle.tm_alone.specs.Tame.{Formed}
-use Rattle.tm_alone.proofs.Rows.{IsOfKind, of-kind, IsMachine, after-machine, after-others}
-use Rattle.tm_alone.proofs.Streams.{Slot, slot-at, IsBased, Onward, next, goes-on, declared-window}
+use Rattle.tm_legal.specs.Tame.{Formed}
+use Rattle.tm_legal.proofs.Rows.{IsOfKind, of-kind, IsMachine, after-machine, after-others}
+use Rattle.tm_legal.proofs.Streams.{Slot, slot-at, IsBased, Onward, next, goes-on, declared-window}
 
 -- a row's step, with the effect by its op's kind
 pub record Rowed (hart : Hart) (s : Step) (i : Instr) : Type 0 where

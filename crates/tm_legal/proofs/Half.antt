@@ -14,16 +14,16 @@ use Rattle.tm_world.specs.Course.{OnHalf, KeepsOrder, EntersFresh}
 use Rattle.tm_world.proofs.Prefix.{earlier, Legal-earlier}
 use Rattle.tm_runs.specs.World.{Sizes}
 use Rattle.tm_runs.proofs.Places.{within-parts}
-use Rattle.tm_alone.specs.Tame.{Formed, Tame, SparesImage, OutsideSpares}
-use Rattle.tm_alone.specs.Laws.{OnLegal, LegalRunsAreHalf, LegalStepsAreHalf}
-use Rattle.tm_alone.proofs.Own.{own-here, own-there, owns, of-half}
-use Rattle.tm_alone.proofs.Rows.{IsMachine}
-use Rattle.tm_alone.proofs.Streams.{stream-of}
-use Rattle.tm_alone.proofs.Inside.{follows-machine, Moves, moves}
-use Rattle.tm_alone.proofs.Order.{NoStray, order-no_stray, no_stray-before, based, stream-some}
-use Rattle.tm_alone.proofs.Areas.{image-place}
-use Rattle.tm_alone.proofs.Phases.{Spares}
-use Rattle.tm_alone.proofs.Settling.{half-reads}
+use Rattle.tm_legal.specs.Tame.{Formed, Tame, SparesImage, OutsideSpares}
+use Rattle.tm_legal.specs.Laws.{OnLegal, LegalRunsAreHalf, LegalStepsAreHalf}
+use Rattle.tm_legal.proofs.Own.{own-here, own-there, owns, of-half}
+use Rattle.tm_legal.proofs.Rows.{IsMachine}
+use Rattle.tm_legal.proofs.Streams.{stream-of}
+use Rattle.tm_legal.proofs.Inside.{follows-machine, Moves, moves}
+use Rattle.tm_legal.proofs.Order.{NoStray, order-no_stray, no_stray-before, based, stream-some}
+use Rattle.tm_legal.proofs.Areas.{image-place}
+use Rattle.tm_legal.proofs.Phases.{Spares}
+use Rattle.tm_legal.proofs.Settling.{half-reads}
 
 -- ---- machine states
 

@@ -1,5 +1,5 @@
 // Laws over the definitions, each as the contract of a function that does nothing.
-ghost use Rattle.tm_alone.specs.Laws.{CourseIsTame, LegalRunsAreHalf, LegalStepsAreHalf, StaysShort, WorksLittle, EndsSoon};
+ghost use Rattle.tm_legal.specs.Laws.{CourseIsTame, LegalRunsAreHalf, LegalStepsAreHalf};
 
 use tm_plan::Program;
 
@@ -14,15 +14,6 @@ pub fn course_is_tame(program: &Program)
 pub fn legal_half(program: &Program)
     ensures runs { LegalRunsAreHalf program.now }
     ensures steps { LegalStepsAreHalf program.now }
-{
-    let _ = program;
-}
-
-/// On legal runs the stays in streams are short, so a bound on the steps outside streams on half runs is one on all steps.
-pub fn stays(program: &Program)
-    ensures short { StaysShort program.now }
-    ensures work { WorksLittle program.now }
-    ensures all { EndsSoon program.now }
 {
     let _ = program;
 }

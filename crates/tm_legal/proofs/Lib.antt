@@ -9,4 +9,3 @@ pub mod Phases
 pub mod Settling
 pub mod Half
 pub mod Tame
-pub mod Stays

@@ -1,3 +1,2 @@
-pub mod Tame
 pub mod Stays
 pub mod Laws

@@ -11,7 +11,7 @@ use Rattle.tm_world.specs.Writers.{may_write, may_write_window, writers}
 use Rattle.tm_runs.specs.World.{Sizes}
 use Rattle.tm_runs.proofs.Bytes.{within-false}
 use Rattle.tm_runs.proofs.Places.{within-parts}
-use Rattle.tm_alone.specs.Tame.{Formed}
+use Rattle.tm_legal.specs.Tame.{Formed}
 
 -- ---- lists of harts and cases
 

@@ -10,9 +10,9 @@ use Rattle.tm_world.specs.Place.{harts, exit_of, image_byte, byte_of, is_private
 use Rattle.tm_world.specs.Run.{Step, own, pc_of, access_of, phase, in_phase, Reads, written, last_write}
 use Rattle.tm_world.specs.Writers.{writers, wrote, settle, settled}
 use Rattle.tm_world.specs.Kinds.{phase_of, legal_owed, another, half_owed}
-use Rattle.tm_alone.specs.Tame.{Formed}
-use Rattle.tm_alone.proofs.Areas.{image-writers, private-writers, private-zero}
-use Rattle.tm_alone.proofs.Phases.{phase-exit, phase-other, in_phase-here, in_phase-there, in_phase-above, or-assoc, or-last, Spares, spared}
+use Rattle.tm_legal.specs.Tame.{Formed}
+use Rattle.tm_legal.proofs.Areas.{image-writers, private-writers, private-zero}
+use Rattle.tm_legal.proofs.Phases.{phase-exit, phase-other, in_phase-here, in_phase-there, in_phase-above, or-assoc, or-last, Spares, spared}
 
 -- ---- one writer
 

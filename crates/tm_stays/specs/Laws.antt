@@ -1,36 +1,17 @@
--- Laws of legal runs (this project's own).
-use Rattle.std.specs.Prelude.{◌≡◌, ℕ, ◌+◌, ◌*◌, ◌<◌, ◌≤◌, List, length, slice_get, Some}
+-- Laws of what a hart does inside its streams on legal runs (this project's own).
+use Rattle.std.specs.Prelude.{◌≡◌, ℕ, ◌+◌, ◌*◌, ◌<◌, ◌≤◌, length, slice_get, Some}
 use Rattle.tm_table.specs.declared.instr.Instr.{Instr}
-use Rattle.tm_table.specs.State.{Hart}
 use Rattle.tm_plan.specs.declared.program.Program.{Program}
 use Rattle.tm_plan.specs.declared.cases.Stream.{Stream}
 use Rattle.tm_plan.specs.Slots.{instr_of, load_width}
 use Rattle.tm_world.specs.Place.{harts, passes}
-use Rattle.tm_world.specs.Run.{Step, Run, own}
 use Rattle.tm_world.specs.Writers.{stream_in}
-use Rattle.tm_world.specs.Kinds.{Legal, Half, Plain, HalfPath, first_of_hart}
-use Rattle.tm_world.specs.Course.{OnHalf, HartCourse}
-use Rattle.tm_world.specs.Whole.{WritesRight}
+use Rattle.tm_world.specs.Course.{OnHalf}
 use Rattle.tm_world.specs.Work.{work_steps}
 use Rattle.tm_world.specs.Verdict.{Register, end_value}
-use Rattle.tm_alone.specs.Tame.{Formed, Tame}
-use Rattle.tm_alone.specs.Stays.{outside_steps, outside_work, inside_steps, words_in}
-
--- On each legal run P holds of hart h's first state and its own steps.
-abbrev pub OnLegal : Program → ℕ → (Hart → List Step → Type 0) → Type 0
-OnLegal p h P = (r : Run) → Legal p r → P (first_of_hart r h) (own h r.steps)
-
--- A hart that keeps the course is tame.
-abbrev pub CourseIsTame : Program → Type 0
-CourseIsTame p = Formed p → (h : ℕ) → HartCourse p h → Tame p h
-
--- Each legal run of a program whose harts are all tame is a half run.
-abbrev pub LegalRunsAreHalf : Program → Type 0
-LegalRunsAreHalf p = Formed p → ((h : ℕ) → h < harts p → Tame p h) → (r : Run) → Legal p r → Half p r
-
--- The same of one hart: on a legal run a tame hart's own steps are those of a half run.
-abbrev pub LegalStepsAreHalf : Program → Type 0
-LegalStepsAreHalf p = Formed p → (h : ℕ) → h < harts p → Tame p h → OnLegal p h (HalfPath p h)
+use Rattle.tm_legal.specs.Tame.{Formed, Tame}
+use Rattle.tm_legal.specs.Laws.{OnLegal}
+use Rattle.tm_stays.specs.Stays.{outside_steps, outside_work, inside_steps, words_in}
 
 -- On a legal run a tame hart takes inside its streams, in each pass, at most as many steps as they have words.
 abbrev pub StaysShort : Program → Type 0
@@ -45,10 +26,6 @@ WorksLittle p = Formed p → (h : ℕ) → h < harts p → Tame p h → (m : ℕ
 abbrev pub EndsSoon : Program → Type 0
 EndsSoon p = Formed p → (h : ℕ) → h < harts p → Tame p h → (m : ℕ) → OnHalf p h (λ first own. outside_steps p h first own ≤ m)
     → OnLegal p h (λ first own. (length own ≤ m + passes p * words_in h p.cases.cases) × (work_steps p h own ≤ m + passes p * words_in h p.cases.cases))
-
--- With one hart, where it writes only what it may, each byte that is read on a legal run is the one written last, else the image's.
-abbrev pub LegalIsPlain : Program → Type 0
-LegalIsPlain p = harts p ≡ 1 → (r : Run) → Legal p r → WritesRight p r → Plain p r
 
 -- no word of the stream is a load
 abbrev pub HasNoLoad : Stream → Type 0

@@ -12,9 +12,9 @@ use Rattle.tm_world.specs.Run.{Step, now, access_of, phase, Writes}
 use Rattle.tm_world.specs.Kinds.{stream_at}
 use Rattle.tm_world.specs.Course.{KeepsWrites, OutsideWrites}
 use Rattle.tm_runs.specs.World.{Sizes}
-use Rattle.tm_alone.specs.Tame.{OutsideSpares, SparesImage}
-use Rattle.tm_alone.specs.Laws.{CourseIsTame}
-use Rattle.tm_alone.proofs.Areas.{may-spares}
+use Rattle.tm_legal.specs.Tame.{OutsideSpares, SparesImage}
+use Rattle.tm_legal.specs.Laws.{CourseIsTame}
+use Rattle.tm_legal.proofs.Areas.{may-spares}
 
 pub writes-map : (P Q : ℕ → Type 0) (a : Access) → ((b : ℕ) → P b → Q b) → Writes P a → Writes Q a
 writes-map P Q Quiet f w = tt

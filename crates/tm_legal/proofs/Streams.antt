@@ -19,7 +19,7 @@ use Rattle.tm_world.specs.Place.{harts, start_of, end_of, inside, is_text, is_wi
 use Rattle.tm_world.specs.Writers.{stream_in}
 use Rattle.tm_runs.proofs.Places.{within-parts, word-place}
 use Rattle.tm_runs.proofs.Bytes.{within-true}
-use Rattle.tm_alone.specs.Tame.{Formed}
+use Rattle.tm_legal.specs.Tame.{Formed}
 
 -- ---- lists
 
