@@ -9,3 +9,4 @@ pub mod Phases
 pub mod Settling
 pub mod Half
 pub mod Tame
+pub mod Alone

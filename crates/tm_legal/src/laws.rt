@@ -1,5 +1,5 @@
 // Laws over the definitions, each as the contract of a function that does nothing.
-ghost use Rattle.tm_legal.specs.Laws.{CourseIsTame, LegalRunsAreHalf, LegalStepsAreHalf};
+ghost use Rattle.tm_legal.specs.Laws.{CourseIsTame, LegalRunsAreHalf, LegalStepsAreHalf, LegalIsPlain};
 
 use tm_plan::Program;
 
@@ -14,6 +14,13 @@ pub fn course_is_tame(program: &Program)
 pub fn legal_half(program: &Program)
     ensures runs { LegalRunsAreHalf program.now }
     ensures steps { LegalStepsAreHalf program.now }
+{
+    let _ = program;
+}
+
+/// With one hart that writes only what it may, a legal run is a plain one: each read gives what was written last.
+pub fn one_hart_reads(program: &Program)
+    ensures { LegalIsPlain program.now }
 {
     let _ = program;
 }
