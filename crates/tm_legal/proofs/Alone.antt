@@ -1,5 +1,5 @@
 -- One hart alone: what a legal run owes it is what it wrote last, so the run is a plain one.
-use Rattle.std.proofs.Common.{◌≡◌, ℕ, zero, suc, ◌+◌, ◌<◌, ◌≤◌, List, [], ◌∷◌, Bool, true, false, ◌==◌, Option, Some, None, ◌⊎◌, inl, inr, refl, sym, ap, ap₂, ◌∙◌, subst, arith, le_refl, eqb-true}
+use Rattle.std.proofs.Common.{◌≡◌, ℕ, zero, suc, ◌+◌, ◌<◌, ◌≤◌, List, [], ◌∷◌, Bool, true, false, ◌==◌, Option, Some, None, inl, inr, refl, sym, ap, ap₂, ◌∙◌, subst, arith, le_refl, eqb-true}
 use Rattle.std.specs.Prelude.{IsTrue, IfSome, if◌then◌else◌, unwrap_or}
 use Rattle.std.proofs.lemmas.Bool.{cases_Bool, false≢true, eqb-false}
 use Rattle.tm_table.specs.declared.state.Access.{Access}
@@ -12,7 +12,8 @@ use Rattle.tm_world.specs.Run.{Step, Run, Always, own, hart_of, pc_of, access_of
 use Rattle.tm_world.specs.Writers.{may_write, writers, wrote, settle, settled}
 use Rattle.tm_world.specs.Kinds.{phase_of, legal_owed, plain_owed, another, Legal, Plain}
 use Rattle.tm_world.specs.Whole.{WritesRight}
-use Rattle.tm_legal.specs.Laws.{LegalIsPlain}
+use Rattle.tm_world.proofs.Prefix.{earlier, Plain-earlier}
+use Rattle.tm_legal.specs.Laws.{LegalIsPlain, PlainIsLegal}
 use Rattle.tm_legal.proofs.Own.{own-here}
 use Rattle.tm_legal.proofs.Half.{written-none}
 use Rattle.tm_legal.proofs.Phases.{phase-exit, phase-other, in_phase-here, in_phase-there, in_phase-above, or-assoc, or-last}
@@ -33,12 +34,13 @@ phase-none p (s ∷ past) q b k f =
     let x = exit_of p 0 in
     let rest = phase-none p past q b k.1 f in
     elim (cases_Bool (phase x past == q)) [
-      inl t ↦
-        let e : phase x past ≡ q = eqb-true _ _ t in
-        let no : IsTrue (may_write p (phase x past) 0 b) → ⊥ = λ m. false≢true (sym f ∙ (ap (λ (n : ℕ). may_write p n 0 b) (sym e) ∙ m)) in
-        let w = written-none (λ c. IsTrue (may_write p (phase x past) 0 c)) (access_of s) b k.0 no in
-        ap (last_write b) (in_phase-here x q s past e) ∙ (ap (λ (o : Option ℕ). or_else o (last_write b (in_phase x q past))) w ∙ rest)
-    | inr t ↦ ap (last_write b) (in_phase-there x q s past (eqb-false _ _ t)) ∙ rest ]
+      | inl t ↦
+          let e : phase x past ≡ q = eqb-true _ _ t in
+          let no : IsTrue (may_write p (phase x past) 0 b) → ⊥ = λ m. false≢true (sym f ∙ (ap (λ (n : ℕ). may_write p n 0 b) (sym e) ∙ m)) in
+          let w = written-none (λ c. IsTrue (may_write p (phase x past) 0 c)) (access_of s) b k.0 no in
+          ap (last_write b) (in_phase-here x q s past e) ∙ (ap (λ (o : Option ℕ). or_else o (last_write b (in_phase x q past))) w ∙ rest)
+      | inr t ↦ ap (last_write b) (in_phase-there x q s past (eqb-false _ _ t)) ∙ rest
+    ]
 
 -- a later step leaves what had settled
 alone-kept : (p : Program) (s : Step) (past : List Step) (q b : ℕ) → q ≤ phase (exit_of p 0) past → alone p (s ∷ past) q b ≡ alone p past q b
@@ -64,17 +66,19 @@ alone-held p (s ∷ past) b k =
     let all : or_else (or_else w old) (alone p past q b) ≡ held p (s ∷ past) b = or-assoc w old _ ∙ (ap (or_else w) (alone-held p past b k.1) ∙ or-last w (last_write b past) (image_byte p b)) in
     let here : P q = ap (λ (l : List Step). or_else (last_write b l) (alone p (s ∷ past) q b)) (in_phase-here x q s past refl) ∙ (ap (or_else (or_else w old)) kept ∙ all) in
     elim (cases_Bool (pc_of s == x)) [
-      inr f ↦ subst P (sym (phase-other x s past f)) here
-    | inl t ↦
-        let none : in_phase x (suc q) (s ∷ past) ≡ [] = in_phase-there x (suc q) s past (λ u. omega arith) ∙ in_phase-above x (suc q) past (omega arith) in
-        subst P (sym (phase-exit x s past t))
-        (ap (λ (l : List Step). or_else (last_write b l) (alone p (s ∷ past) (suc q) b)) none
-        ∙ elim (cases_Bool (may_write p q 0 b)) [
-            inl m ↦ ap (λ (c : Bool). if c then or_else (last_write b (in_phase x q (s ∷ past))) (alone p (s ∷ past) q b) else alone p (s ∷ past) q b) m ∙ here
-          | inr m ↦
-              let quiet : last_write b (in_phase x q (s ∷ past)) ≡ None = phase-none p (s ∷ past) q b k m in
-              ap (λ (c : Bool). if c then or_else (last_write b (in_phase x q (s ∷ past))) (alone p (s ∷ past) q b) else alone p (s ∷ past) q b) m
-              ∙ (sym (ap (λ (o : Option ℕ). or_else o (alone p (s ∷ past) q b)) quiet) ∙ here) ]) ]
+      | inr f ↦ subst P (sym (phase-other x s past f)) here
+      | inl t ↦
+          let none : in_phase x (suc q) (s ∷ past) ≡ [] = in_phase-there x (suc q) s past (λ u. omega arith) ∙ in_phase-above x (suc q) past (omega arith) in
+          subst P (sym (phase-exit x s past t))
+          (ap (λ (l : List Step). or_else (last_write b l) (alone p (s ∷ past) (suc q) b)) none
+          ∙ elim (cases_Bool (may_write p q 0 b)) [
+            | inl m ↦ ap (λ (c : Bool). if c then or_else (last_write b (in_phase x q (s ∷ past))) (alone p (s ∷ past) q b) else alone p (s ∷ past) q b) m ∙ here
+            | inr m ↦
+                let quiet : last_write b (in_phase x q (s ∷ past)) ≡ None = phase-none p (s ∷ past) q b k m in
+                ap (λ (c : Bool). if c then or_else (last_write b (in_phase x q (s ∷ past))) (alone p (s ∷ past) q b) else alone p (s ∷ past) q b) m
+                ∙ (sym (ap (λ (o : Option ℕ). or_else o (alone p (s ∷ past) q b)) quiet) ∙ here)
+          ])
+    ]
 
 -- ---- one hart
 
@@ -133,3 +137,26 @@ module _ (p : Program) (one : harts p ≡ 1) where
 
 pub legal-plain : (p : Program) → LegalIsPlain p
 legal-plain p one r legal right = record { paths = legal.paths; reads = plain-reads p one r.steps legal.paths.only (keeps p one r.steps legal.paths.only right) legal.reads }
+
+-- ---- and back
+
+module _ (p : Program) (one : harts p ≡ 1) (rights : (r : Run) → Legal p r → WritesRight p r) where
+  legal-reads : (past : List Step) (s : Step) → hart_of s ≡ 0 → own 0 past ≡ past → Keeps p past → Reads (plain_owed p past) (access_of s) → Reads (legal_owed p past (hart_of s) (phase_of p past (hart_of s))) (access_of s)
+  legal-reads past s z o k r =
+      subst (λ (g : ℕ). Reads (legal_owed p past g (phase_of p past g)) (access_of s)) (sym z)
+      (reads-same p one (plain_owed p past) (legal_owed p past 0 (phase_of p past 0)) (access_of s) (λ b. sym (owed p one past b o k)) r)
+
+  plain-earlier : (o : ℕ → List ℕ) (steps : List Step) → Plain p (earlier o steps) → Legal p (earlier o steps)
+  plain-earlier o [] plain = record { paths = plain.paths; met = tt; reads = tt }
+  plain-earlier o (s ∷ past) plain =
+      let before = plain-earlier o past (Plain-earlier p o (s ∷ []) past plain) in
+      let z : hart_of s ≡ 0 = omega (arith, plain.paths.only.0) in
+      let k = keeps p one past before.paths.only (rights (earlier o past) before) in
+      record {
+        paths = plain.paths;
+        met = (λ g l n. absurd (n (omega arith)), before.met);
+        reads = (legal-reads past s z (all-own p one past before.paths.only) k plain.reads.0, before.reads);
+      }
+
+pub plain-legal : (p : Program) → PlainIsLegal p
+plain-legal p one rights r plain = plain-earlier p one rights r.opening r.steps plain

@@ -28,3 +28,7 @@ LegalStepsAreHalf p = Formed p → (h : ℕ) → h < harts p → Tame p h → On
 -- With one hart, where it writes only what it may, each byte that is read on a legal run is the one written last, else the image's.
 abbrev pub LegalIsPlain : Program → Type 0
 LegalIsPlain p = harts p ≡ 1 → (r : Run) → Legal p r → WritesRight p r → Plain p r
+
+-- And where it writes only what it may on legal runs, each plain run is legal.
+abbrev pub PlainIsLegal : Program → Type 0
+PlainIsLegal p = harts p ≡ 1 → ((r : Run) → Legal p r → WritesRight p r) → (r : Run) → Plain p r → Legal p r

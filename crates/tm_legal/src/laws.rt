@@ -1,5 +1,5 @@
 // Laws over the definitions, each as the contract of a function that does nothing.
-ghost use Rattle.tm_legal.specs.Laws.{CourseIsTame, LegalRunsAreHalf, LegalStepsAreHalf, LegalIsPlain};
+ghost use Rattle.tm_legal.specs.Laws.{CourseIsTame, LegalRunsAreHalf, LegalStepsAreHalf, LegalIsPlain, PlainIsLegal};
 
 use tm_plan::Program;
 
@@ -18,9 +18,10 @@ pub fn legal_half(program: &Program)
     let _ = program;
 }
 
-/// With one hart that writes only what it may, a legal run is a plain one: each read gives what was written last.
+/// With one hart that writes only what it may, legal runs are the plain ones: each read gives what was written last.
 pub fn one_hart_reads(program: &Program)
-    ensures { LegalIsPlain program.now }
+    ensures plain { LegalIsPlain program.now }
+    ensures legal { PlainIsLegal program.now }
 {
     let _ = program;
 }
