@@ -1,0 +1,12 @@
+pub mod Rows
+pub mod Own
+pub mod Weights
+pub mod Streams
+pub mod Inside
+pub mod Order
+pub mod Areas
+pub mod Phases
+pub mod Settling
+pub mod Half
+pub mod Tame
+pub mod Alone

@@ -1,0 +1,20 @@
+// Laws over the definitions, each as the contract of a function that does nothing.
+ghost use Rattle.tm_stays.specs.Laws.{StaysShort, WorksLittle, EndsSoon, PassesAlike};
+
+use tm_plan::Program;
+
+/// On legal runs the stays in streams are short, so a bound on the steps outside streams on half runs gives one on all steps.
+pub fn short_stays(program: &Program)
+    ensures short { StaysShort program.now }
+    ensures work { WorksLittle program.now }
+    ensures all { EndsSoon program.now }
+{
+    let _ = program;
+}
+
+/// In two passes of a case a stream without loads is left with the same registers, on any legal run.
+pub fn passes_alike(program: &Program)
+    ensures { PassesAlike program.now }
+{
+    let _ = program;
+}
