@@ -16,17 +16,19 @@ use Rattle.tm_runs.proofs.Story.{calmly, good, sofar-one}
 use Rattle.tm_blocks.specs.Instrs.{addi, ld, sd, beq}
 use Rattle.tm_blocks.specs.Blocks.{constant, copy, load_registers_but_last}
 use Rattle.tm_blocks.specs.Laws.{Uses, Among, Nowhere, HasAllButLast, after_last_load}
-use Rattle.tm_blocks.proofs.Lengths.{length-constant}
+use Rattle.tm_blocks.proofs.Lengths.{length-constant, length-load_registers_but_last}
+use Rattle.tm_blocks.proofs.Constant.{constant_runs}
+use Rattle.tm_blocks.proofs.Collect.{copy_runs}
+use Rattle.tm_blocks.proofs.Registers.{load_all_but_last_runs, last_load_runs}
 use Rattle.tm_course.proofs.Ground.{Ground, Fact, Hold, is_out, fresh_in, entry_at, arrive_at, exit_at, run_at, start_at, end_at, between_at, last_at, halt_at, registers_at, first_at, tables_end, cell, private, count_at, shared, arrive_part, choose_part}
 use Rattle.tm_course.proofs.Calm.{Away, IsMild, mild-uses, mild-quiet, plain, calm, calm-does}
 use Rattle.tm_course.proofs.Memory.{fits-put, stored-count, stored-tables, usable-table, back-table, usable-own, back-own, usable-shared, free-shared, among-behind}
-use Rattle.tm_course.proofs.Given.{Given, length-load_registers_but_last}
 
 -- the same instructions at the same address
 pub moved_to : (text : ℕ → Rattle.std.specs.Prelude.Option Instr) (a b : ℕ) (code : List Instr) → b ≡ a → At text a code → At text b code
 moved_to text a b code e h = subst (λ (x : ℕ). At text x code) (sym e) h
 
-module _ (given : Given) (w : World) (mark : ℕ → ℕ → List Mark) (n : ℕ) (image : Table) (ground : Ground w mark n) (way : List Mark) (most : ℕ) where
+module _ (w : World) (mark : ℕ → ℕ → List Mark) (n : ℕ) (image : Table) (ground : Ground w mark n) (way : List Mark) (most : ℕ) where
   -- ---- to the exit mark
 
   pub begin : (rest : List Mark) (s : State) → way ≡ rest → 49 ≤ most → s.pc ≡ entry_at → s.log ≡ [] → s.mem count_at ≡ 0 → ((a : ℕ) → registers_at ≤ a → a + 8 ≤ tables_end → s.mem a ≡ image a) → ((r : ℕ) → get s.regs r < 2 ^ 64)
@@ -38,7 +40,7 @@ module _ (given : Given) (w : World) (mark : ℕ → ℕ → List Mark) (n : ℕ
       takes_then
       (calmly mark (Fact n (fresh_in image)) (is_out n) way [] rest most 0 front (omega arith)
       (calm-does w mark n ground (fresh_in image) s.pc (s.pc + 44) IsQuiet (record { exit = inl (omega arith); stream = inl (omega arith); halt = omega arith }) mild-quiet) so
-      (given.constant 31 private (omega arith) (omega arith) (omega arith) w s (moved_to w.text entry_at s.pc (constant 31 private) at-entry at0)))
+      (constant_runs 31 private (omega arith) (omega arith) w s (moved_to w.text entry_at s.pc (constant 31 private) at-entry at0)))
       (λ t q.
       let p = q.0 in
       let at1 = at_next w.text entry_at t.pc (constant 31 private) code 11 (length-constant 31 private) (omega (arith, p.pc)) ground.entry in
@@ -55,7 +57,7 @@ module _ (given : Given) (w : World) (mark : ℕ → ℕ → List Mark) (n : ℕ
       (calmly mark (Fact n (fresh_in image)) (is_out n) way [] rest most 11 front (omega arith)
       (calm-does w mark n ground (fresh_in image) t.pc (t.pc + 4 * (22 + 2 * 8)) (Uses (Among first_at 8) (Among shared 8)) (record { exit = inl (omega (arith, p.pc)); stream = inl (omega (arith, p.pc)); halt = omega (arith, p.pc) }) (mild-uses (Among first_at 8) (Among shared 8) (λ a h. among-behind w mark n ground shared 8 a (omega arith) h)))
       q.2
-      (given.copy first_at shared 8 (omega arith) w t (usable-table w mark n ground first_at 8 (omega arith) (omega arith) refl) (usable-shared w mark n ground) (free-shared w mark n ground) (inl (omega arith)) at1)))
+      (copy_runs first_at shared 8 w t (usable-table w mark n ground first_at 8 (omega arith) (omega arith) refl) (usable-shared w mark n ground) (free-shared w mark n ground) (inl (omega arith)) at1)))
 
   -- ---- one step
 
@@ -171,9 +173,9 @@ module _ (given : Given) (w : World) (mark : ℕ → ℕ → List Mark) (n : ℕ
 
   -- ---- the first registers, and into the stream
 
-  pub enter : (ms rest : List Mark) (k o : ℕ) (s : State) → way ≡ ms ++ (Enter 0 ∷ rest) → way ≡ (ms ++ Enter 0 ∷ []) ++ rest → o + 42 ≤ most → image 2155872496 ≡ private → ((i : ℕ) → i < 31 → image (registers_at + 8 * i) < 2 ^ 64) → Hold mark n image k run_at ms o s
+  pub enter : (ms rest : List Mark) (k o : ℕ) (s : State) → way ≡ ms ++ (Enter 0 ∷ rest) → way ≡ (ms ++ Enter 0 ∷ []) ++ rest → o + 42 ≤ most → image 2155872496 ≡ private → Hold mark n image k run_at ms o s
       → Takes w Told (λ t. Hold mark n image k start_at (ms ++ Enter 0 ∷ []) (o + 42) t × ((r : ℕ) → 1 ≤ r → r < 32 → get t.regs r ≡ fresh_in image r)) 42 s
-  enter ms rest k o s front behind few base fit h =
+  enter ms rest k o s front behind few base h =
       let usable = usable-table w mark n ground registers_at 31 (omega arith) (omega arith) refl in
       let back = back-table w mark n ground registers_at 31 (omega arith) (omega arith) in
       let code = load_registers_but_last registers_at in
@@ -181,7 +183,7 @@ module _ (given : Given) (w : World) (mark : ℕ → ℕ → List Mark) (n : ℕ
       (calmly mark (Fact n (fresh_in image)) (is_out n) way ms (Enter 0 ∷ rest) most o front (omega arith)
       (calm-does w mark n ground (fresh_in image) s.pc (s.pc + 164) (Uses (Among registers_at 30) Nowhere) (record { exit = inr (omega (arith, h.pc)); stream = inl (omega (arith, h.pc)); halt = omega (arith, h.pc) }) (mild-uses (Among registers_at 30) Nowhere (λ a x. absurd x)))
       h.sofar
-      (given.load registers_at (omega arith) w s usable back (moved_to w.text run_at s.pc code h.pc (at_front w.text run_at code (ld 31 240 31 ∷ []) ground.run))))
+      (load_all_but_last_runs registers_at w s usable back (moved_to w.text run_at s.pc code h.pc (at_front w.text run_at code (ld 31 240 31 ∷ []) ground.run))))
       (λ t q.
       let p = q.0 in
       let at1 = at_next w.text run_at t.pc code (ld 31 240 31 ∷ []) 41 (length-load_registers_but_last registers_at) (omega (arith, h.pc, p.pc)) ground.run in
@@ -198,14 +200,14 @@ module _ (given : Given) (w : World) (mark : ℕ → ℕ → List Mark) (n : ℕ
         halt = λ e. absurd (omega (arith, next));
         spares = λ _. tt;
       }) q.2) in
-      takes_map (λ x e. subst Told (sym e) (here (ms ++ Enter 0 ∷ []) rest (o + 42) u.log behind few so)) (λ x e. subst (λ (y : State). Hold mark n image k start_at (ms ++ Enter 0 ∷ []) (o + 42) y × ((r : ℕ) → 1 ≤ r → r < 32 → get y.regs r ≡ fresh_in image r)) (sym e) (record {
+      takes_map (λ x e. subst Told (sym e.is) (here (ms ++ Enter 0 ∷ []) rest (o + 42) u.log behind few so)) (λ x e. subst (λ (y : State). Hold mark n image k start_at (ms ++ Enter 0 ∷ []) (o + 42) y × ((r : ℕ) → 1 ≤ r → r < 32 → get y.regs r ≡ fresh_in image r)) (sym e.is) (record {
         pc = next;
         base = last ∙ base;
         count = ap (λ (f : Table). f count_at) p.mem ∙ h.count;
         tables = λ a l m. ap (λ (f : Table). f a) p.mem ∙ h.tables a l m;
-        fits = fits-put t.regs 31 v (p.fits h.fits) (omega (arith, last, fit 30));
+        fits = fits-put t.regs 31 v (p.fits h.fits) e.small;
         sofar = so;
-      }, fresh)) (given.last_load registers_at w t usable back at1 p.base))
+      }, fresh)) (last_load_runs registers_at w t usable back at1 p.base))
     where
       loads : (t : State) (i : ℕ) → get t.regs (i + 1) ≡ image (registers_at + 8 * i) → get t.regs (suc i) ≡ fresh_in image (suc i)
       loads t i e = let a : suc i ≡ i + 1 = omega arith in let b : registers_at + 8 * i ≡ 2155872248 + 8 * suc i = omega arith in ap (get t.regs) a ∙ (e ∙ ap image b)

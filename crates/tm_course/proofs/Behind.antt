@@ -20,14 +20,16 @@ use Rattle.tm_blocks.specs.Instrs.{sd, jump_back}
 use Rattle.tm_blocks.specs.Blocks.{save_registers, copy, collect}
 use Rattle.tm_blocks.specs.Compare.{compare_but_last}
 use Rattle.tm_blocks.specs.Laws.{Uses, Among, Nowhere, Collects, Compares, dwords, first_registers, verdict_in, after_verdict}
-use Rattle.tm_blocks.proofs.Lengths.{length-save_registers, length-copy, length-collect}
+use Rattle.tm_blocks.proofs.Lengths.{length-save_registers, length-copy, length-collect, length-compare_but_last}
+use Rattle.tm_blocks.proofs.Collect.{copy_runs, collect_runs}
+use Rattle.tm_blocks.proofs.Registers.{save_registers_runs}
+use Rattle.tm_blocks.proofs.Whole.{compare_but_last_runs, last_store_runs}
 use Rattle.tm_course.proofs.Ground.{Ground, Fact, Hold, is_out, is_end, is_halt, reports, fresh_in, arrive_at, exit_at, start_at, end_at, between_at, last_at, halt_at, registers_at, mask_at, first_at, bytes_at, tables_end, cell, private, count_at, save_0, save_1, shared}
 use Rattle.tm_course.proofs.Calm.{Away, IsMild, mild-uses, mild-quiet, plain, calm, calm-does, calm-one, silent, ended}
 use Rattle.tm_course.proofs.Memory.{fits-put, stored-count, stored-tables, usable-table, back-table, usable-own, back-own, free-own, usable-shared, free-shared, usable-cell, free-cell, among-behind}
-use Rattle.tm_course.proofs.Given.{Given, length-compare_but_last}
 use Rattle.tm_course.proofs.Begin.{moved_to}
 
-module _ (given : Given) (w : World) (mark : ℕ → ℕ → List Mark) (n : ℕ) (image : Table) (ground : Ground w mark n) (way : List Mark) (most : ℕ) where
+module _ (w : World) (mark : ℕ → ℕ → List Mark) (n : ℕ) (image : Table) (ground : Ground w mark n) (way : List Mark) (most : ℕ) where
   abbrev Told : State → Type 0
   Told t = Good mark (Fact n (fresh_in image)) (is_out n) way most t.log
 
@@ -98,7 +100,7 @@ module _ (given : Given) (w : World) (mark : ℕ → ℕ → List Mark) (n : ℕ
       (calmly mark (Fact n (fresh_in image)) (is_out n) way ms rest most o front (omega arith)
       (calm-does w mark n ground (fresh_in image) s.pc (s.pc + 120) (Uses Nowhere (Among private 30)) (record { exit = inr (omega (arith, h.pc)); stream = inr (omega (arith, h.pc)); halt = omega (arith, h.pc) }) (mild-uses Nowhere (Among private 30) (λ a g. among-behind w mark n ground private 30 a (omega arith) g)))
       h.sofar
-      (given.save w s private h.base (usable-own w mark n ground private 30 (omega arith) (omega arith) refl) (free-own w mark n ground private 30 (omega arith) (omega arith)) (moved_to w.text (end_at n) s.pc save_registers h.pc (at_front w.text (end_at n) save_registers back ground.leave))))
+      (save_registers_runs w s private h.base (usable-own w mark n ground private 30 (omega arith) (omega arith) refl) (free-own w mark n ground private 30 (omega arith) (omega arith)) (moved_to w.text (end_at n) s.pc save_registers h.pc (at_front w.text (end_at n) save_registers back ground.leave))))
       (λ t q.
       let p = q.0 in
       jump ms rest k (o + 30) (4 * (80 + n)) (end_at n + 120) t front (omega arith) (at_next w.text (end_at n) (end_at n + 120) save_registers back 30 length-save_registers (omega arith) ground.leave).0 (omega arith) (omega arith) (omega arith) (record {
@@ -128,7 +130,7 @@ module _ (given : Given) (w : World) (mark : ℕ → ℕ → List Mark) (n : ℕ
       (calmly mark (Fact n (fresh_in image)) (is_out n) way ms rest most o front few
       (calm-does w mark n ground (fresh_in image) s.pc (s.pc + 4 * (82 + 2 * 8)) (Uses (Collects private shared 8) (Among save 38)) (record { exit = inr (omega (arith, h.pc)); stream = inr (omega (arith, h.pc)); halt = omega (arith, h.pc) }) (mild-uses (Collects private shared 8) (Among save 38) (λ a g. among-behind w mark n ground save 38 a (omega arith) g)))
       h.sofar
-      (given.collect shared save 8 (omega arith) (omega arith) (omega arith) w s private h.base (usable-own w mark n ground private 30 (omega arith) (omega arith) refl) (back-own w mark n ground private 30 (omega arith) (omega arith)) (usable-shared w mark n ground) (usable-own w mark n ground save 38 (omega arith) (omega arith) al) (free-own w mark n ground save 38 (omega arith) (omega arith)) (inl (omega arith)) (moved_to w.text place s.pc (collect shared save 8) h.pc code)))
+      (collect_runs shared save 8 w s private h.base (usable-own w mark n ground private 30 (omega arith) (omega arith) refl) (back-own w mark n ground private 30 (omega arith) (omega arith)) (usable-shared w mark n ground) (usable-own w mark n ground save 38 (omega arith) (omega arith) al) (free-own w mark n ground save 38 (omega arith) (omega arith)) (inl (omega arith)) (moved_to w.text place s.pc (collect shared save 8) h.pc code)))
 
   -- ---- the first bytes of the next pass
 
@@ -148,7 +150,7 @@ module _ (given : Given) (w : World) (mark : ℕ → ℕ → List Mark) (n : ℕ
       (calmly mark (Fact n (fresh_in image)) (is_out n) way ms rest most o front few
       (calm-does w mark n ground (fresh_in image) s.pc (s.pc + 4 * (22 + 2 * 8)) (Uses (Among first_at 8) (Among shared 8)) (record { exit = inr (omega (arith, h.pc)); stream = inr (omega (arith, h.pc)); halt = omega (arith, h.pc) }) (mild-uses (Among first_at 8) (Among shared 8) (λ a g. among-behind w mark n ground shared 8 a (omega arith) g)))
       h.sofar
-      (given.copy first_at shared 8 (omega arith) w s (usable-table w mark n ground first_at 8 (omega arith) (omega arith) refl) (usable-shared w mark n ground) (free-shared w mark n ground) (inl (omega arith)) (moved_to w.text place s.pc (copy first_at shared 8) h.pc code)))
+      (copy_runs first_at shared 8 w s (usable-table w mark n ground first_at 8 (omega arith) (omega arith) refl) (usable-shared w mark n ground) (free-shared w mark n ground) (inl (omega arith)) (moved_to w.text place s.pc (copy first_at shared 8) h.pc code)))
 
   pub between : (ms rest : List Mark) (k o : ℕ) (s : State) → way ≡ ms ++ rest → o + 137 ≤ most → Hold mark n image k (between_at n) ms o s → Takes w Told (Hold mark n image k arrive_at ms (o + 98 + 38 + 1)) 137 s
   between ms rest k o s front few h =
@@ -186,7 +188,7 @@ module _ (given : Given) (w : World) (mark : ℕ → ℕ → List Mark) (n : ℕ
       (calmly mark (Fact n (fresh_in image)) (is_out n) way ms (Halt ∷ []) most (o + 98) front (omega arith)
       (calm-does w mark n ground (fresh_in image) t.pc (t.pc + 4 * (301 + 7 * 8)) (Uses (Compares save_0 save_1 mask_at bytes_at 8) Nowhere) (record { exit = inr (omega (arith, q.pc)); stream = inr (omega (arith, q.pc)); halt = omega (arith, q.pc) }) (mild-uses (Compares save_0 save_1 mask_at bytes_at 8) Nowhere (λ a g. absurd g)))
       q.sofar
-      (given.compare save_0 save_1 mask_at bytes_at cell 1 8 (omega arith) (omega arith) (omega arith) (omega arith) (omega arith) (omega arith) (omega arith) w t (record {
+      (compare_but_last_runs save_0 save_1 mask_at bytes_at cell 1 8 (omega arith) (omega arith) w t (record {
         first_usable = usable-own w mark n ground save_0 38 (omega arith) (omega arith) refl;
         first_back = back-own w mark n ground save_0 38 (omega arith) (omega arith);
         other_usable = usable-own w mark n ground save_1 38 (omega arith) (omega arith) refl;
@@ -212,7 +214,7 @@ module _ (given : Given) (w : World) (mark : ℕ → ℕ → List Mark) (n : ℕ
       }) r.2 in
       let told : Told v = good mark (Fact n (fresh_in image)) (is_out n) way (ms ++ Halt ∷ []) [] most (suc (o + 98 + 357)) v.log (front ∙ sym (append-nil (ms ++ Halt ∷ []))) (omega arith) so in
       takes_map (λ x e. subst Told (sym e) told) (λ x e. subst Done (sym e) (record { pc = next; told = told; written = refl }))
-      (given.last_store cell w u (usable-cell w mark n ground) (free-cell w mark n ground) (moved_to w.text (last_at n + 1820) u.pc three (omega (arith, c.pc, q.pc)) last-at) c.place)))
+      (last_store_runs cell w u (usable-cell w mark n ground) (free-cell w mark n ground) (moved_to w.text (last_at n + 1820) u.pc three (omega (arith, c.pc, q.pc)) last-at) c.place)))
     where
       length-two : length (collect shared save_1 8) + length (compare_but_last save_0 save_1 mask_at bytes_at cell 1 8) ≡ 455
       length-two = omega (arith, length-collect shared save_1 8, length-compare_but_last save_0 save_1 mask_at bytes_at cell 1 8)

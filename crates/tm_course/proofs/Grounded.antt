@@ -1,6 +1,7 @@
 -- A program of one hart lies as its parts need it.
 use Rattle.std.proofs.Common.{◌≡◌, ◌≢◌, ◌⊎◌, inl, inr, ℕ, zero, suc, ◌+◌, ◌-◌, ◌*◌, ◌<◌, ◌≤◌, Bool, true, false, true≢false, ne_eqb, ◌||◌, List, [], ◌∷◌, ◌++◌, length, Some, refl, sym, ap, ap₂, ◌∙◌, subst, arith, append_assoc, length-append}
-use Rattle.std.specs.Prelude.{IsTrue, flat_map}
+use Rattle.std.specs.Prelude.{IsTrue, flat_map, slice_get}
+use Rattle.tm_table.specs.Words.{word_of}
 use Rattle.tm_table.specs.declared.instr.Instr.{Instr}
 use Rattle.tm_plan.specs.declared.cases.Case.{Case}
 use Rattle.tm_plan.specs.declared.cases.Stream.{Stream}
@@ -17,16 +18,16 @@ use Rattle.tm_runs.proofs.Tables.{at_front, at_next}
 use Rattle.tm_runs.proofs.Arrivals.{Quiet, arrivals-none, arrivals-exit, arrivals-halt, arrivals-enter, arrivals-end, inside-true, inside-false, quiet-off, quiet-in, enters, ends}
 use Rattle.tm_runs.proofs.Worlds.{held, private-dword, table-dword, own-private, own-fixed, not-fixed}
 use Rattle.tm_runs.proofs.Places.{guest-true, within-parts}
-use Rattle.tm_blocks.specs.Instrs.{ld, sd, jump, jump_back}
+use Rattle.tm_blocks.specs.Instrs.{ld, sd, jump, jump_back, words_of}
 use Rattle.tm_blocks.specs.Blocks.{constant, load_registers, load_registers_but_last, save_registers, copy, collect}
 use Rattle.tm_blocks.specs.Compare.{compare, compare_but_last}
-use Rattle.tm_blocks.proofs.Lengths.{length-constant, length-save_registers, length-copy, length-collect, length-compare}
+use Rattle.tm_blocks.proofs.Lengths.{length-words_of, length-constant, length-save_registers, length-copy, length-collect, length-compare}
 use Rattle.tm_pass.specs.Hart.{registers_table, masks_table, first_table, bytes_table, first_bytes, entry, arrive, choose, run, leave, between, last, before_stream, behind_stream}
-use Rattle.tm_pass.proofs.Numbers.{length-first_bytes, length-arrive, length-run, length-leave, length-between, length-last}
+use Rattle.tm_pass.proofs.Numbers.{length-first_bytes, length-arrive, length-run, length-leave, length-between, length-last, length-behind_stream}
 use Rattle.tm_course.specs.OneHart.{IsOfOneHart}
 use Rattle.tm_course.proofs.Ground.{Ground, is_end, entry_at, arrive_at, exit_at, run_at, start_at, end_at, between_at, last_at, halt_at, registers_at, mask_at, first_at, bytes_at, tables_end, cell, private, count_at, save_0, save_1, shared, arrive_part, choose_part}
 use Rattle.tm_course.proofs.Tables.{tables-size}
-use Rattle.tm_course.proofs.Laying.{Nothing, Other, count-none, count-less, one-case, shaped, start-is, end-is, exit-is, halt-is, stream-in, stream-out, before-at, behind-at}
+use Rattle.tm_course.proofs.Laying.{Nothing, Other, count-none, count-less, one-case, shaped, start-is, end-is, exit-is, halt-is, stream-in, stream-out, before-at, behind-at, get-behind, words-append, rear}
 
 -- ---- the parts, with their addresses in numbers
 
@@ -119,6 +120,20 @@ module _ (p : Program) (case : Case) (stream : Stream) (mask : CaseMask) (is : I
 
   rest : At text (end_at size) (leave_part size ++ between_part size ++ last_part)
   rest = behind-at p case stream mask is (leave_part size ++ between_part size ++ last_part) (jump 0 ∷ []) (behind-is size) refl
+
+  -- the word at the halt mark
+  pub halt-word : slice_get p.text (723 + size) ≡ Some 0x6F
+  unfolding word_of
+  halt-word =
+      let code = leave_part size ++ between_part size ++ last_part in
+      let more : List Instr = jump 0 ∷ [] in
+      let n : length code ≡ 624 = omega (arith, length-append code more, ap length (behind-is size), length-behind_stream size) in
+      let place : 723 + size ≡ 99 + size + 624 = omega arith in
+      ap (slice_get p.text) place
+      ∙ (rear p case stream mask is 624
+      ∙ (ap (λ (l : List Instr). slice_get (words_of l) 624) (behind-is size)
+      ∙ (ap (λ (ws : List ℕ). slice_get ws 624) (words-append code more)
+      ∙ get-behind (words_of code) (words_of more) 0 624 (omega (arith, n, length-words_of code)))))
 
   -- no mark of the case is near
   quiet : (from to : ℕ) → (to < start_at) ⊎ (end_at size < to) → (c : ℕ) → c < case_count p → Quiet p 0 from to c

@@ -60,7 +60,7 @@ fit-front : (a b : List Instr) → AllFit (a ++ b) → AllFit a
 fit-front [] b f = Nil
 fit-front (i ∷ a) b (Fit x f) = Fit x (fit-front a b f)
 
-words-append : (a b : List Instr) → words_of (a ++ b) ≡ words_of a ++ words_of b
+pub words-append : (a b : List Instr) → words_of (a ++ b) ≡ words_of a ++ words_of b
 words-append [] b = refl
 words-append (i ∷ a) b = ap (λ (ws : List ℕ). word_of i ∷ ws) (words-append a b)
 
@@ -156,7 +156,7 @@ module _ (p : Program) (case : Case) (stream : Stream) (mask : CaseMask) (is : I
       let n : length a ≡ 99 = length-words_of (before_stream size) ∙ length-before_stream size in
       ap (λ (t : List ℕ). slice_get t j) is.text ∙ (get-before (a ++ stream.words) b j (omega (arith, length-append a stream.words)) ∙ get-before a stream.words j (omega arith))
 
-  rear : (j : ℕ) → slice_get p.text (99 + size + j) ≡ slice_get (words_of (behind_stream size)) j
+  pub rear : (j : ℕ) → slice_get p.text (99 + size + j) ≡ slice_get (words_of (behind_stream size)) j
   unfolding hart_words
   rear j =
       let a = words_of (before_stream size) in

@@ -1,6 +1,5 @@
 pub mod Ground
 pub mod Calm
-pub mod Given
 pub mod Memory
 pub mod Begin
 pub mod Behind
@@ -9,3 +8,5 @@ pub mod Laying
 pub mod Tables
 pub mod Grounded
 pub mod Way
+pub mod Course
+pub mod Whole

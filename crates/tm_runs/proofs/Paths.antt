@@ -154,7 +154,7 @@ phase-entries exit own = count-entries (λ s. pc_of s == exit) (λ (e : Entry). 
 -- ---- marks
 
 -- a step of a half run stands at the hart's program counter
-stands : (p : Program) (h : ℕ) (o : Option ℕ) (before : Hart) (past : List Step) (s : Step) → HalfStep p h o before past s → pc_of s ≡ before.pc
+pub stands : (p : Program) (h : ℕ) (o : Option ℕ) (before : Hart) (past : List Step) (s : Step) → HalfStep p h o before past s → pc_of s ≡ before.pc
 stands p h None before past s f = f.0.place
 stands p h (Some c) before past s f = f.place
 
