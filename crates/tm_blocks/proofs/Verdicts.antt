@@ -32,13 +32,13 @@ module _ (M : ℕ) (mask a b : ℕ → ℕ) where
       let e : suc i ≡ i + 1 = omega arith in
       and_comm (2 ^ suc i) M ∙ (and_pow M (suc i) ∙ ap (λ (x : ℕ). M / 2 ^ x % 2 * 2 ^ suc i) e)
 
-  unset : (i x : ℕ) → x ≡ M / 2 ^ (i + 1) % 2 → bit_and (2 ^ suc i) M ≡ 0 → x ≢ 1
+  pub unset : (i x : ℕ) → x ≡ M / 2 ^ (i + 1) % 2 → bit_and (2 ^ suc i) M ≡ 0 → x ≢ 1
   unset i x e h one =
       let p = pow_pos (suc i) in
       let q : bit_and (2 ^ suc i) M ≡ 1 * 2 ^ suc i = bit i ∙ ap (λ (y : ℕ). y * 2 ^ suc i) (sym e ∙ one) in
       omega arith
 
-  set : (i x : ℕ) → x ≡ M / 2 ^ (i + 1) % 2 → x < 2 → bit_and (2 ^ suc i) M ≢ 0 → x ≡ 1
+  pub set : (i x : ℕ) → x ≡ M / 2 ^ (i + 1) % 2 → x < 2 → bit_and (2 ^ suc i) M ≢ 0 → x ≡ 1
   set i zero e l h = let q : bit_and (2 ^ suc i) M ≡ 0 * 2 ^ suc i = bit i ∙ ap (λ (y : ℕ). y * 2 ^ suc i) (sym e) in absurd (h (omega arith))
   set i (suc zero) e l h = refl
   set i (suc (suc x)) e l h = absurd (omega arith)
