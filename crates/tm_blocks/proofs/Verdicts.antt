@@ -71,8 +71,12 @@ first_small test i (suc n) = by (test i) (first_small test (suc i) n)
     by true h = omega arith
     by false h = omega arith
 
+-- the test fails
+abbrev Fails : (ℕ → Bool) → ℕ → Type 0
+Fails test i = test i ≡ false
+
 -- the number of the first that differs is the verdict
-first_is : (test : ℕ → Bool) (k i n : ℕ) → ((l : ℕ) → l < i → test l ≡ false) → IsNumber test k (i + n) (above k (first_from test i n))
+first_is : (test : ℕ → Bool) (k i n : ℕ) → ((l : ℕ) → l < i → test l ≡ false) → IsNumber (Fails test) k (i + n) (above k (first_from test i n))
 first_is test k i zero h = agree (λ l p. h l (omega arith))
 first_is test k i (suc n) h = by (test i) refl (first_is test k (suc i) n)
   where
@@ -83,17 +87,22 @@ first_is test k i (suc n) h = by (test i) refl (first_is test k (suc i) n)
         here (inl q) = h l q
         here (inr q) = let same : l ≡ i = omega arith in ap test same ∙ e
 
-    by : (c : Bool) → test i ≡ c → (((l : ℕ) → l < suc i → test l ≡ false) → IsNumber test k (suc i + n) (above k (first_from test (suc i) n))) → IsNumber test k (i + suc n) (above k (if c then suc i else first_from test (suc i) n))
+    by : (c : Bool) → test i ≡ c → (((l : ℕ) → l < suc i → test l ≡ false) → IsNumber (Fails test) k (suc i + n) (above k (first_from test (suc i) n))) → IsNumber (Fails test) k (i + suc n) (above k (if c then suc i else first_from test (suc i) n))
     by true e f =
         let number : k * 2 ^ 32 + i + 1 ≡ k * 2 ^ 32 + suc i = omega arith in
-        subst (IsNumber test k (i + suc n)) number (differ i (omega arith) e h)
+        subst (IsNumber (Fails test) k (i + suc n)) number (differ i (omega arith) (λ z. true≢false (sym e ∙ z)) h)
     by false e f =
         let all : suc i + n ≡ i + suc n = omega arith in
-        subst (λ (m : ℕ). IsNumber test k m (above k (first_from test (suc i) n))) all (f (least e))
+        subst (λ (m : ℕ). IsNumber (Fails test) k m (above k (first_from test (suc i) n))) all (f (least e))
 
-pub verdict_is : (registers : ℕ) (mask a b : ℕ → ℕ) (k n : ℕ) → IsNumber (differs registers mask a b) k (30 + n) (verdict_number registers mask a b k n)
+pub verdict_is : (registers : ℕ) (mask a b : ℕ → ℕ) (k n : ℕ) → IsNumber (Fails (differs registers mask a b)) k (30 + n) (verdict_number registers mask a b k n)
 unfolding verdict_number
 verdict_is registers mask a b k n =
     let e : 0 + (30 + n) ≡ 30 + n = omega arith in
-    subst (λ (m : ℕ). IsNumber (differs registers mask a b) k m (above k (first_from (differs registers mask a b) 0 (30 + n)))) e
+    subst (λ (m : ℕ). IsNumber (Fails (differs registers mask a b)) k m (above k (first_from (differs registers mask a b) 0 (30 + n)))) e
     (first_is (differs registers mask a b) k 0 (30 + n) (λ l p. absurd (omega arith)))
+
+-- another way to say which are the same
+pub number_map : (S T : ℕ → Type 0) (k n v : ℕ) → ((i : ℕ) → i < n → S i → T i) → ((i : ℕ) → i < n → T i → S i) → IsNumber S k n v → IsNumber T k n v
+number_map S T k n v to from (agree h) = agree (λ i l. to i l (h i l))
+number_map S T k n v to from (differ i l d h) = differ i l (λ t. d (from i l t)) (λ j p. to j (omega arith) (h j p))

@@ -23,10 +23,11 @@ above k (suc i) = k * 2 ^ 32 + suc i
 unfoldable pub verdict_number : (registers : ℕ) → (mask a b : ℕ → ℕ) → (k n : ℕ) → ℕ
 verdict_number registers mask a b k n = above k (first_from (differs registers mask a b) 0 (30 + n))
 
--- a number is the verdict on pass k, where test says which of n dwords differ
-pub data IsNumber (test : ℕ → Bool) (k n : ℕ) : ℕ → Type 0 where
-  agree : ((i : ℕ) → i < n → test i ≡ false) → IsNumber test k n 0
-  differ : (i : ℕ) → i < n → test i ≡ true → ((j : ℕ) → j < i → test j ≡ false) → IsNumber test k n (k * 2 ^ 32 + i + 1)
+-- A number is the verdict on pass k over n dwords: 0 where all are the same, and k * 2 ^ 32 + i + 1 where dword i is the least that
+-- is not.
+pub data IsNumber (Same : ℕ → Type 0) (k n : ℕ) : ℕ → Type 0 where
+  agree : ((i : ℕ) → i < n → Same i) → IsNumber Same k n 0
+  differ : (i : ℕ) → i < n → (Same i → ⊥) → ((j : ℕ) → j < i → Same j) → IsNumber Same k n (k * 2 ^ 32 + i + 1)
 
 -- ---- in terms of registers and bytes
 
