@@ -10,3 +10,4 @@ pub mod Verdicts
 pub mod Checks
 pub mod Whole
 pub mod Masks
+pub mod Pointwise
