@@ -106,3 +106,20 @@ verdict_is registers mask a b k n =
 pub number_map : (S T : ℕ → Type 0) (k n v : ℕ) → ((i : ℕ) → i < n → S i → T i) → ((i : ℕ) → i < n → T i → S i) → IsNumber S k n v → IsNumber T k n v
 number_map S T k n v to from (agree h) = agree (λ i l. to i l (h i l))
 number_map S T k n v to from (differ i l d h) = differ i l (λ t. d (from i l t)) (λ j p. to j (omega arith) (h j p))
+
+-- worked rows: x2 differs and is checked; no register is checked; byte 1 of the collected dword is checked, and is the same; it differs
+row_register : verdict_number 4 (λ j. 0) (λ i. i) (λ i. 0) 1 0 ≡ 4294967298
+unfolding verdict_number differs
+row_register = refl
+
+row_unchecked : verdict_number 0 (λ j. 0) (λ i. i) (λ i. 0) 1 0 ≡ 0
+unfolding verdict_number differs
+row_unchecked = refl
+
+row_same : verdict_number 0 (λ j. 65280) (λ i. 4660) (λ i. 4661) 1 1 ≡ 0
+unfolding verdict_number differs
+row_same = refl
+
+row_byte : verdict_number 0 (λ j. 65280) (λ i. 4660) (λ i. 4916) 3 1 ≡ 12884901919
+unfolding verdict_number differs
+row_byte = refl
