@@ -82,24 +82,30 @@ module _ (w : World) (lo hi first other masks bytes N M : ℕ) (table : Table) (
       ap₂ bit_and (ap₂ bit_xor (is_u (c.first_back (30 + j) (omega arith)) ∙ ap (λ (f : Table). f (first + 8 * (30 + j))) ready.mem) (is_v (c.other_back (30 + j) (omega arith)) ∙ ap (λ (f : Table). f (other + 8 * (30 + j))) ready.mem)) (is_k (c.bytes_back j (omega arith)) ∙ ap (λ (f : Table). f (bytes + 8 * j)) ready.mem) in
       let small : d < 2 ^ 64 = let q = and_le_r (bit_xor u v) k in omega arith in
       let same : (r : ℕ) → r ≢ 6 → r ≢ 7 → r ≢ 8 → get s6.regs r ≡ get s.regs r = λ r n6 n7 n8.
-          get_put_other s5.regs 6 d r n6 ∙ (get_put_other s4.regs 7 k r n7 ∙ (get_put_other s3.regs 6 (bit_xor u v) r n6 ∙ (get_put_other s2.regs 7 v r n7 ∙ (get_put_other s1.regs 6 u r n6 ∙ get_put_other s.regs 8 (31 + j) r n8)))) in
+      get_put_other s5.regs 6 d r n6 ∙ (get_put_other s4.regs 7 k r n7 ∙ (get_put_other s3.regs 6 (bit_xor u v) r n6 ∙ (get_put_other s2.regs 7 v r n7 ∙ (get_put_other s1.regs 6 u r n6 ∙ get_put_other s.regs 8 (31 + j) r n8)))) in
       let fit : RegistersFit s → RegistersFit s6 = fit_three s.regs s6.regs small fit_k (omega arith) same in
       step_bne (s.pc + 4 * (7 * suc n + 1)) refl at.1.1.1.1.1.1.0 (omega arith)
-      (λ ne. (on_branch _ _ s6 tt (omega arith) (omega arith) (omega arith) y, Now (record {
-        pc = refl;
-        answer = let e : 31 + j ≡ suc (30 + j) = omega arith in e ∙ sym (first_here test (30 + j) n (dword_other M _ _ _ j (λ z. ne (values ∙ z))));
-        mem = refl;
-        regs = same;
-        fits = fit;
-      })))
-      (λ eq. (on_branch _ _ s6 tt (omega arith) (omega arith) (omega arith) (omega arith), takes_map (λ t g. g) (λ t h. record {
-        pc = omega (arith, h.pc);
-        answer = h.answer ∙ (let e : 30 + suc j ≡ suc (30 + j) = omega arith in ap (λ (i : ℕ). first_from test i n) e ∙ sym (first_later test (30 + j) n (dword_same M _ _ _ j (sym values ∙ eq))));
-        mem = h.mem;
-        regs = λ r n6 n7 n8. h.regs r n6 n7 n8 ∙ same r n6 n7 n8;
-        fits = λ k. h.fits (fit k);
-      })
-      (dwords_take n (suc j) (branched (bne 6 0 (4 * (7 * (N - (j + 1)) + 2))) (s6.pc + 4) s6) (omega arith) (omega arith) (omega arith) (record { one = ready.one; two = ready.two; four = ready.four; five = ready.five; mem = ready.mem }) at.1.1.1.1.1.1.1))))))))))
+      (λ ne. (
+        on_branch _ _ s6 tt (omega arith) (omega arith) (omega arith) y,
+        Now (record {
+          pc = refl;
+          answer = let e : 31 + j ≡ suc (30 + j) = omega arith in e ∙ sym (first_here test (30 + j) n (dword_other M _ _ _ j (λ z. ne (values ∙ z))));
+          mem = refl;
+          regs = same;
+          fits = fit;
+        }),
+      ))
+      (λ eq. (
+        on_branch _ _ s6 tt (omega arith) (omega arith) (omega arith) (omega arith),
+        takes_map (λ t g. g) (λ t h. record {
+          pc = omega (arith, h.pc);
+          answer = h.answer ∙ (let e : 30 + suc j ≡ suc (30 + j) = omega arith in ap (λ (i : ℕ). first_from test i n) e ∙ sym (first_later test (30 + j) n (dword_same M _ _ _ j (sym values ∙ eq))));
+          mem = h.mem;
+          regs = λ r n6 n7 n8. h.regs r n6 n7 n8 ∙ same r n6 n7 n8;
+          fits = λ k. h.fits (fit k);
+        })
+            (dwords_take n (suc j) (branched (bne 6 0 (4 * (7 * (N - (j + 1)) + 2))) (s6.pc + 4) s6) (omega arith) (omega arith) (omega arith) (record { one = ready.one; two = ready.two; four = ready.four; five = ready.five; mem = ready.mem }) at.1.1.1.1.1.1.1),
+      )))))))))
 
   -- x6 is bit j + 1 of the mask, in its place
   record HasBit (j : ℕ) (s t : State) : Type 0 where
@@ -144,25 +150,33 @@ module _ (w : World) (lo hi first other masks bytes N M : ℕ) (table : Table) (
       let fl = c.first_usable.low in
       let ol = c.other_usable.low in
       step_beq (s.pc + 16) refl at.0 (omega arith)
-      (λ zero. (on_branch _ _ s tt (omega arith) (omega arith) (omega arith) (omega arith),
-      Now (record { place = inr (refl, register_unchecked M _ _ _ j l (sym six ∙ zero)); regs = λ r n6 n7. refl; mem = refl; fits = λ k. k })))
-      (λ some. (on_branch _ _ s tt (omega arith) (omega arith) (omega arith) (omega arith),
-      let s1 = branched (beq 6 0 16) (s.pc + 4) s in
-      step_ld (first + 8 * j) refl at.1.0 (rw ready.one (omega arith)) (may_at j _ c.first_usable (omega arith) refl)
-      (λ v _ _. on_read _ (first + 8 * j) v s1 (refl, First (record { index = j; below = omega arith; is = refl })) (omega arith) (omega arith))
-      (λ u fit_u is_u. let s2 = loaded (ld 6 (8 * (suc j - 1)) 1) (first + 8 * j) u s1 in
-      step_ld (other + 8 * j) refl at.1.1.0 (rw ready.two (omega arith)) (may_at j _ c.other_usable (omega arith) refl)
-      (λ v _ _. on_read _ (other + 8 * j) v s2 (refl, Other (record { index = j; below = omega arith; is = refl })) (omega arith) (omega arith))
-      (λ v fit_v is_v. let s3 = loaded (ld 7 (8 * (suc j - 1)) 2) (other + 8 * j) v s2 in
-      let one : u ≡ table (first + 8 * j) = is_u (c.first_back j (omega arith)) ∙ ap (λ (f : Table). f (first + 8 * j)) ready.mem in
-      let two : v ≡ table (other + 8 * j) = is_v (c.other_back j (omega arith)) ∙ ap (λ (f : Table). f (other + 8 * j)) ready.mem in
-      let same : (r : ℕ) → r ≢ 6 → r ≢ 7 → get s3.regs r ≡ get s.regs r = λ r n6 n7. get_put_other s2.regs 7 v r n7 ∙ get_put_other s.regs 6 u r n6 in
-      let fit : RegistersFit s → RegistersFit s3 = λ k. fit_put s2.regs 7 v fit_v (fit_put s.regs 6 u fit_u k) in
-      step_bne stop refl at.1.1.1.0 (omega arith)
-      (λ ne. (on_branch _ _ s3 tt (omega arith) (omega arith) (omega arith) q,
-      Now (record { place = inl (refl, register_other M _ _ _ j l (λ e. some (six ∙ e)) (λ e. ne (one ∙ (e ∙ sym two)))); regs = same; mem = refl; fits = fit })))
-      (λ eq. (on_branch _ _ s3 tt (omega arith) (omega arith) (omega arith) (omega arith),
-      Now (record { place = inr (omega arith, register_same M _ _ _ j l (sym one ∙ (eq ∙ two))); regs = same; mem = refl; fits = fit })))))))
+      (λ zero. (
+        on_branch _ _ s tt (omega arith) (omega arith) (omega arith) (omega arith),
+        Now (record { place = inr (refl, register_unchecked M _ _ _ j l (sym six ∙ zero)); regs = λ r n6 n7. refl; mem = refl; fits = λ k. k }),
+      ))
+      (λ some. (
+        on_branch _ _ s tt (omega arith) (omega arith) (omega arith) (omega arith),
+        let s1 = branched (beq 6 0 16) (s.pc + 4) s in
+            step_ld (first + 8 * j) refl at.1.0 (rw ready.one (omega arith)) (may_at j _ c.first_usable (omega arith) refl)
+            (λ v _ _. on_read _ (first + 8 * j) v s1 (refl, First (record { index = j; below = omega arith; is = refl })) (omega arith) (omega arith))
+            (λ u fit_u is_u. let s2 = loaded (ld 6 (8 * (suc j - 1)) 1) (first + 8 * j) u s1 in
+            step_ld (other + 8 * j) refl at.1.1.0 (rw ready.two (omega arith)) (may_at j _ c.other_usable (omega arith) refl)
+            (λ v _ _. on_read _ (other + 8 * j) v s2 (refl, Other (record { index = j; below = omega arith; is = refl })) (omega arith) (omega arith))
+            (λ v fit_v is_v. let s3 = loaded (ld 7 (8 * (suc j - 1)) 2) (other + 8 * j) v s2 in
+            let one : u ≡ table (first + 8 * j) = is_u (c.first_back j (omega arith)) ∙ ap (λ (f : Table). f (first + 8 * j)) ready.mem in
+            let two : v ≡ table (other + 8 * j) = is_v (c.other_back j (omega arith)) ∙ ap (λ (f : Table). f (other + 8 * j)) ready.mem in
+            let same : (r : ℕ) → r ≢ 6 → r ≢ 7 → get s3.regs r ≡ get s.regs r = λ r n6 n7. get_put_other s2.regs 7 v r n7 ∙ get_put_other s.regs 6 u r n6 in
+            let fit : RegistersFit s → RegistersFit s3 = λ k. fit_put s2.regs 7 v fit_v (fit_put s.regs 6 u fit_u k) in
+            step_bne stop refl at.1.1.1.0 (omega arith)
+            (λ ne. (
+              on_branch _ _ s3 tt (omega arith) (omega arith) (omega arith) q,
+              Now (record { place = inl (refl, register_other M _ _ _ j l (λ e. some (six ∙ e)) (λ e. ne (one ∙ (e ∙ sym two)))); regs = same; mem = refl; fits = fit }),
+            ))
+            (λ eq. (
+              on_branch _ _ s3 tt (omega arith) (omega arith) (omega arith) (omega arith),
+              Now (record { place = inr (omega arith, register_same M _ _ _ j l (sym one ∙ (eq ∙ two))); regs = same; mem = refl; fits = fit }),
+            )))),
+      ))
 
   -- the checks of dwords, and what stands behind them
   abbrev rest : List Instr

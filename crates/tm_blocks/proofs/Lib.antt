@@ -9,3 +9,5 @@ pub mod Registers
 pub mod Verdicts
 pub mod Checks
 pub mod Whole
+pub mod Masks
+pub mod Pointwise

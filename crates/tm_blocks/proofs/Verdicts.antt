@@ -32,13 +32,13 @@ module _ (M : ℕ) (mask a b : ℕ → ℕ) where
       let e : suc i ≡ i + 1 = omega arith in
       and_comm (2 ^ suc i) M ∙ (and_pow M (suc i) ∙ ap (λ (x : ℕ). M / 2 ^ x % 2 * 2 ^ suc i) e)
 
-  unset : (i x : ℕ) → x ≡ M / 2 ^ (i + 1) % 2 → bit_and (2 ^ suc i) M ≡ 0 → x ≢ 1
+  pub unset : (i x : ℕ) → x ≡ M / 2 ^ (i + 1) % 2 → bit_and (2 ^ suc i) M ≡ 0 → x ≢ 1
   unset i x e h one =
       let p = pow_pos (suc i) in
       let q : bit_and (2 ^ suc i) M ≡ 1 * 2 ^ suc i = bit i ∙ ap (λ (y : ℕ). y * 2 ^ suc i) (sym e ∙ one) in
       omega arith
 
-  set : (i x : ℕ) → x ≡ M / 2 ^ (i + 1) % 2 → x < 2 → bit_and (2 ^ suc i) M ≢ 0 → x ≡ 1
+  pub set : (i x : ℕ) → x ≡ M / 2 ^ (i + 1) % 2 → x < 2 → bit_and (2 ^ suc i) M ≢ 0 → x ≡ 1
   set i zero e l h = let q : bit_and (2 ^ suc i) M ≡ 0 * 2 ^ suc i = bit i ∙ ap (λ (y : ℕ). y * 2 ^ suc i) (sym e) in absurd (h (omega arith))
   set i (suc zero) e l h = refl
   set i (suc (suc x)) e l h = absurd (omega arith)
@@ -71,8 +71,12 @@ first_small test i (suc n) = by (test i) (first_small test (suc i) n)
     by true h = omega arith
     by false h = omega arith
 
+-- the test fails
+abbrev Fails : (ℕ → Bool) → ℕ → Type 0
+Fails test i = test i ≡ false
+
 -- the number of the first that differs is the verdict
-first_is : (test : ℕ → Bool) (k i n : ℕ) → ((l : ℕ) → l < i → test l ≡ false) → IsNumber test k (i + n) (above k (first_from test i n))
+first_is : (test : ℕ → Bool) (k i n : ℕ) → ((l : ℕ) → l < i → test l ≡ false) → IsNumber (Fails test) k (i + n) (above k (first_from test i n))
 first_is test k i zero h = agree (λ l p. h l (omega arith))
 first_is test k i (suc n) h = by (test i) refl (first_is test k (suc i) n)
   where
@@ -83,17 +87,39 @@ first_is test k i (suc n) h = by (test i) refl (first_is test k (suc i) n)
         here (inl q) = h l q
         here (inr q) = let same : l ≡ i = omega arith in ap test same ∙ e
 
-    by : (c : Bool) → test i ≡ c → (((l : ℕ) → l < suc i → test l ≡ false) → IsNumber test k (suc i + n) (above k (first_from test (suc i) n))) → IsNumber test k (i + suc n) (above k (if c then suc i else first_from test (suc i) n))
+    by : (c : Bool) → test i ≡ c → (((l : ℕ) → l < suc i → test l ≡ false) → IsNumber (Fails test) k (suc i + n) (above k (first_from test (suc i) n))) → IsNumber (Fails test) k (i + suc n) (above k (if c then suc i else first_from test (suc i) n))
     by true e f =
         let number : k * 2 ^ 32 + i + 1 ≡ k * 2 ^ 32 + suc i = omega arith in
-        subst (IsNumber test k (i + suc n)) number (differ i (omega arith) e h)
+        subst (IsNumber (Fails test) k (i + suc n)) number (differ i (omega arith) (λ z. true≢false (sym e ∙ z)) h)
     by false e f =
         let all : suc i + n ≡ i + suc n = omega arith in
-        subst (λ (m : ℕ). IsNumber test k m (above k (first_from test (suc i) n))) all (f (least e))
+        subst (λ (m : ℕ). IsNumber (Fails test) k m (above k (first_from test (suc i) n))) all (f (least e))
 
-pub verdict_is : (registers : ℕ) (mask a b : ℕ → ℕ) (k n : ℕ) → IsNumber (differs registers mask a b) k (30 + n) (verdict_number registers mask a b k n)
+pub verdict_is : (registers : ℕ) (mask a b : ℕ → ℕ) (k n : ℕ) → IsNumber (Fails (differs registers mask a b)) k (30 + n) (verdict_number registers mask a b k n)
 unfolding verdict_number
 verdict_is registers mask a b k n =
     let e : 0 + (30 + n) ≡ 30 + n = omega arith in
-    subst (λ (m : ℕ). IsNumber (differs registers mask a b) k m (above k (first_from (differs registers mask a b) 0 (30 + n)))) e
+    subst (λ (m : ℕ). IsNumber (Fails (differs registers mask a b)) k m (above k (first_from (differs registers mask a b) 0 (30 + n)))) e
     (first_is (differs registers mask a b) k 0 (30 + n) (λ l p. absurd (omega arith)))
+
+-- another way to say which are the same
+pub number_map : (S T : ℕ → Type 0) (k n v : ℕ) → ((i : ℕ) → i < n → S i → T i) → ((i : ℕ) → i < n → T i → S i) → IsNumber S k n v → IsNumber T k n v
+number_map S T k n v to from (agree h) = agree (λ i l. to i l (h i l))
+number_map S T k n v to from (differ i l d h) = differ i l (λ t. d (from i l t)) (λ j p. to j (omega arith) (h j p))
+
+-- worked rows: x2 differs and is checked; no register is checked; byte 1 of the collected dword is checked, and is the same; it differs
+row_register : verdict_number 4 (λ j. 0) (λ i. i) (λ i. 0) 1 0 ≡ 4294967298
+unfolding verdict_number differs
+row_register = refl
+
+row_unchecked : verdict_number 0 (λ j. 0) (λ i. i) (λ i. 0) 1 0 ≡ 0
+unfolding verdict_number differs
+row_unchecked = refl
+
+row_same : verdict_number 0 (λ j. 65280) (λ i. 4660) (λ i. 4661) 1 1 ≡ 0
+unfolding verdict_number differs
+row_same = refl
+
+row_byte : verdict_number 0 (λ j. 65280) (λ i. 4660) (λ i. 4916) 3 1 ≡ 12884901919
+unfolding verdict_number differs
+row_byte = refl

@@ -36,23 +36,27 @@ record Numbered (k v : ℕ) (s t : State) : Type 0 where
 verdict_takes : (w : World) (lo hi : ℕ) (A : Access → Type 0) → A Quiet → (k v : ℕ) (s : State) → k < 2 ^ 11 → v < 2 ^ 62 → get s.regs 8 ≡ v → lo ≤ s.pc → s.pc + 16 ≤ hi → At w.text s.pc (verdict k) → Takes w (Within lo hi A) (Numbered k v s) 4 s
 verdict_takes w lo hi A q k v s pass small is x y at =
     step_beq (s.pc + 16) refl at.0 (omega arith)
-    (λ zero. (on_branch _ _ s q (omega arith) (omega arith) (omega arith) (omega arith),
-    Now (record { pc = refl; number = zero ∙ sym (ap (above k) (sym is ∙ zero)); regs = λ r n6 n8. refl; mem = refl; fits = λ k. k })))
-    (λ some. (on_branch _ _ s q (omega arith) (omega arith) (omega arith) (omega arith),
-    let s1 = branched (beq 8 0 16) (s.pc + 4) s in
-    let s2 = computes (addi 6 0 k) s1 k in
-    let s3 = computes (slli 6 6 32) s2 (k * 2 ^ 32) in
-    let n = k * 2 ^ 32 + v in
-    step_addi k refl at.1.0 (omega arith) (on_quiet _ s1 _ q (omega arith) (omega arith))
-    (step_slli (k * 2 ^ 32) refl at.1.1.0 (omega arith) (on_quiet _ s2 _ q (omega arith) (omega arith))
-    (step_add n refl at.1.1.1.0 (rw is (omega arith)) (on_quiet _ s3 _ q (omega arith) (omega arith))
-    (Now (record {
-      pc = omega arith;
-      number = sym (above_is k v (λ e. some (is ∙ e)));
-      regs = λ r n6 n8. get_put_other s3.regs 8 n r n8 ∙ (get_put_other s2.regs 6 (k * 2 ^ 32) r n6 ∙ get_put_other s1.regs 6 k r n6);
-      mem = refl;
-      fits = λ h. fit_put s3.regs 8 n (omega arith) (fit_put s2.regs 6 (k * 2 ^ 32) (omega arith) (fit_put s1.regs 6 k (omega arith) h));
-    }))))))
+    (λ zero. (
+      on_branch _ _ s q (omega arith) (omega arith) (omega arith) (omega arith),
+      Now (record { pc = refl; number = zero ∙ sym (ap (above k) (sym is ∙ zero)); regs = λ r n6 n8. refl; mem = refl; fits = λ k. k }),
+    ))
+    (λ some. (
+      on_branch _ _ s q (omega arith) (omega arith) (omega arith) (omega arith),
+      let s1 = branched (beq 8 0 16) (s.pc + 4) s in
+          let s2 = computes (addi 6 0 k) s1 k in
+          let s3 = computes (slli 6 6 32) s2 (k * 2 ^ 32) in
+          let n = k * 2 ^ 32 + v in
+          step_addi k refl at.1.0 (omega arith) (on_quiet _ s1 _ q (omega arith) (omega arith))
+          (step_slli (k * 2 ^ 32) refl at.1.1.0 (omega arith) (on_quiet _ s2 _ q (omega arith) (omega arith))
+          (step_add n refl at.1.1.1.0 (rw is (omega arith)) (on_quiet _ s3 _ q (omega arith) (omega arith))
+          (Now (record {
+            pc = omega arith;
+            number = sym (above_is k v (λ e. some (is ∙ e)));
+            regs = λ r n6 n8. get_put_other s3.regs 8 n r n8 ∙ (get_put_other s2.regs 6 (k * 2 ^ 32) r n6 ∙ get_put_other s1.regs 6 k r n6);
+            mem = refl;
+            fits = λ h. fit_put s3.regs 8 n (omega arith) (fit_put s2.regs 6 (k * 2 ^ 32) (omega arith) (fit_put s1.regs 6 k (omega arith) h));
+          })))),
+    ))
 
 -- the accesses since a state, where each is one that A allows
 record Accessed (A : Access → Type 0) (log old : List Entry) : Type 0 where

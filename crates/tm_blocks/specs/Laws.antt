@@ -1,4 +1,7 @@
--- What every run of a part's words does, over all values that reads may return (this project's own).
+-- What every run of a part's words does, over all values that reads may return (this project's own). Each law is of a hart in any
+-- world, in any state at the part's first word: it comes, in so many steps, to the address behind the last, never back to the
+-- first, and each step until then makes the accesses alone that are named; what holds then says how the state differs from the one
+-- before, and which accesses were made.
 use Rattle.std.specs.Prelude.{◌≡◌, ◌≢◌, ℕ, suc, ◌+◌, ◌*◌, ◌%◌, ◌^◌, ◌<◌, ◌≤◌, ◌⊎◌, List, [], ◌∷◌, ◌++◌, length, slice_index, map, false, IsTrue}
 use Rattle.tm_table.specs.declared.state.Access.{Access}
 use Rattle.tm_table.specs.declared.state.Access.TheVariants.{Quiet, Read, Write}
@@ -103,6 +106,7 @@ pub record HasConstant (rd value : ℕ) (s t : State) : Type 0 where
   pub accesses : accesses t.log ≡ accesses s.log
   pub fits : RegistersFit s → RegistersFit t
 
+-- 11 steps, without an access
 abbrev pub ConstantRuns : (rd value : ℕ) → Type 0
 ConstantRuns rd value = (w : World) (s : State) → At w.text s.pc (constant rd value)
     → Takes w (Within s.pc (s.pc + 44) IsQuiet) (HasConstant rd value s) 11 s
@@ -128,6 +132,7 @@ pub record HasAll (table : ℕ) (s t : State) : Type 0 where
   pub accesses : accesses t.log ≡ reads table 0 (dwords s.mem table 31) ++ accesses s.log
   pub fits : RegistersFit s → RegistersFit t
 
+-- 41 steps, which read the first 30 dwords alone
 abbrev pub LoadAllButLastRuns : (table : ℕ) → Type 0
 LoadAllButLastRuns table = (w : World) (s : State) → Usable w table 31 → ReadsBack w table 31 → At w.text s.pc (load_registers_but_last table)
     → Takes w (Within s.pc (s.pc + 164) (Uses (Among table 30) Nowhere)) (HasAllButLast table s) 41 s
@@ -146,6 +151,7 @@ abbrev pub LastLoadRuns : (table : ℕ) → Type 0
 LastLoadRuns table = (w : World) (s : State) → Usable w table 31 → ReadsBack w table 31 → At w.text s.pc (ld 31 240 31 ∷ []) → get s.regs 31 ≡ table
     → Takes w (HasLast table s) (HasLast table s) 1 s
 
+-- 42 steps, which read the 31 dwords alone
 abbrev pub LoadRegistersRuns : (table : ℕ) → Type 0
 LoadRegistersRuns table = (w : World) (s : State) → Usable w table 31 → ReadsBack w table 31 → At w.text s.pc (load_registers table)
     → Takes w (Within s.pc (s.pc + 168) (Uses (Among table 31) Nowhere)) (HasAll table s) 42 s
@@ -163,6 +169,7 @@ pub record HasSaved (b : ℕ) (s t : State) : Type 0 where
   pub mem : t.mem ≡ stored_all s.mem b 0 (first_registers s)
   pub accesses : accesses t.log ≡ writes b 0 (first_registers s) ++ accesses s.log
 
+-- 30 steps, which write 30 dwords alone
 abbrev pub SaveRegistersRuns : Type 0
 SaveRegistersRuns = (w : World) (s : State) (b : ℕ) → get s.regs 31 ≡ b → Usable w b 30 → Changeable w b 30 → At w.text s.pc save_registers
     → Takes w (Within s.pc (s.pc + 120) (Uses Nowhere (Among b 30))) (HasSaved b s) 30 s
@@ -187,6 +194,7 @@ pub record HasCopied (w : World) (from to n : ℕ) (s t : State) : Type 0 where
   pub accesses : accesses t.log ≡ copies from to 0 values ++ accesses s.log
   pub fits : RegistersFit s → RegistersFit t
 
+-- 22 steps and 2 a dword, which read from the one address on and write from the other on
 abbrev pub CopyRuns : (from to n : ℕ) → Type 0
 CopyRuns from to n = (w : World) (s : State) → Usable w from n → Usable w to n → Changeable w to n → Disjoint from n to n → At w.text s.pc (copy from to n)
     → Takes w (Within s.pc (s.pc + 4 * (22 + 2 * n)) (Uses (Among from n) (Among to n))) (HasCopied w from to n s) (22 + 2 * n) s
@@ -208,6 +216,7 @@ pub record HasCollected (w : World) (b shared save n : ℕ) (s t : State) : Type
 abbrev pub Collects : (b shared n a : ℕ) → Type 0
 Collects b shared n a = Among b 30 a ⊎ Among shared n a
 
+-- 82 steps and 2 a dword, which read the dwords at x31 and the shared ones, and write from save on
 abbrev pub CollectRuns : (shared save n : ℕ) → Type 0
 CollectRuns shared save n = (w : World) (s : State) (b : ℕ) → get s.regs 31 ≡ b
     → Usable w b 30 → ReadsBack w b 30 → Usable w shared n → Usable w save (30 + n) → Changeable w save (30 + n) → Disjoint b 30 save 30
@@ -250,6 +259,7 @@ pub record HasVerdict (first other masks bytes cell k n : ℕ) (s t : State) : T
   pub accesses : accesses t.log ≡ read ++ accesses s.log
   pub fits : RegistersFit s → RegistersFit t
 
+-- up to 301 steps and 7 a dword, which read what is compared and write nothing
 abbrev pub CompareButLastRuns : (first other masks bytes cell k n : ℕ) → Type 0
 CompareButLastRuns first other masks bytes cell k n = (w : World) (s : State) → Comparable w first other masks bytes n → At w.text s.pc (compare_but_last first other masks bytes cell k n)
     → Takes w (Within s.pc (s.pc + 4 * (301 + 7 * n)) (Uses (Compares first other masks bytes n) Nowhere)) (HasVerdict first other masks bytes cell k n s) (301 + 7 * n) s
@@ -273,6 +283,7 @@ pub record HasCompared (first other masks bytes cell k n : ℕ) (s t : State) : 
   pub accesses : accesses t.log ≡ Write cell 8 (verdict_in s.mem first other masks bytes k n) ∷ read ++ accesses s.log
   pub fits : RegistersFit s → RegistersFit t
 
+-- up to 302 steps and 7 a dword, of which the last alone writes
 abbrev pub CompareRuns : (first other masks bytes cell k n : ℕ) → Type 0
 CompareRuns first other masks bytes cell k n = (w : World) (s : State) → Comparable w first other masks bytes n → Usable w cell 1 → Changeable w cell 1
     → At w.text s.pc (compare first other masks bytes cell k n)

@@ -1,5 +1,6 @@
 -- The verdict as a number, apart from the machine that computes it (this project's own).
-use Rattle.std.specs.Prelude.{◌≡◌, ℕ, zero, suc, ◌+◌, ◌-◌, ◌*◌, ◌/◌, ◌%◌, ◌^◌, ◌<◌, Bool, true, false, ◌&&◌, not, nat_lt, ◌==◌, if◌then◌else◌, bit_and, bit_xor}
+use Rattle.std.specs.Prelude.{◌≡◌, ℕ, zero, suc, ◌+◌, ◌-◌, ◌*◌, ◌/◌, ◌%◌, ◌^◌, ◌<◌, Bool, true, false, ◌&&◌, not, nat_lt, ◌==◌, if◌then◌else◌, bit_and, bit_xor, ◌⊎◌}
+use Rattle.tm_world.specs.Place.{byte_of}
 
 -- Dword i of two saved states, a and b, differs where it is checked: dword i below 30 is register i + 1, checked where that bit of
 -- registers is set; of dword 30 + j the bits that are set in mask j are checked.
@@ -22,7 +23,20 @@ above k (suc i) = k * 2 ^ 32 + suc i
 unfoldable pub verdict_number : (registers : ℕ) → (mask a b : ℕ → ℕ) → (k n : ℕ) → ℕ
 verdict_number registers mask a b k n = above k (first_from (differs registers mask a b) 0 (30 + n))
 
--- a number is the verdict on pass k, where test says which of n dwords differ
-pub data IsNumber (test : ℕ → Bool) (k n : ℕ) : ℕ → Type 0 where
-  agree : ((i : ℕ) → i < n → test i ≡ false) → IsNumber test k n 0
-  differ : (i : ℕ) → i < n → test i ≡ true → ((j : ℕ) → j < i → test j ≡ false) → IsNumber test k n (k * 2 ^ 32 + i + 1)
+-- A number is the verdict on pass k over n dwords: 0 where all are the same, and k * 2 ^ 32 + i + 1 where dword i is the least that
+-- is not.
+pub data IsNumber (Same : ℕ → Type 0) (k n : ℕ) : ℕ → Type 0 where
+  agree : ((i : ℕ) → i < n → Same i) → IsNumber Same k n 0
+  differ : (i : ℕ) → i < n → (Same i → ⊥) → ((j : ℕ) → j < i → Same j) → IsNumber Same k n (k * 2 ^ 32 + i + 1)
+
+-- ---- in terms of registers and bytes
+
+-- Dword i of two saved states has the same value where it is a register that is checked, and else the same bytes where the byte of
+-- its mask is 255.
+pub record Agrees (registers : ℕ) (mask a b : ℕ → ℕ) (i : ℕ) : Type 0 where
+  pub register : i < 30 → registers / 2 ^ (i + 1) % 2 ≡ 1 → a i ≡ b i
+  pub bytes : (j l : ℕ) → i ≡ 30 + j → l < 8 → byte_of (mask j) l ≡ 255 → byte_of (a i) l ≡ byte_of (b i) l
+
+-- each byte of a dword is 0 or 255
+abbrev pub IsMask : ℕ → Type 0
+IsMask m = (m < 2 ^ 64) × ((l : ℕ) → l < 8 → (byte_of m l ≡ 0) ⊎ (byte_of m l ≡ 255))

@@ -26,7 +26,9 @@ returns c =
     let six = and_then (masks ++ mask ++ first ++ other ++ bytes) checked _ _ _ five c.in_ok-put_checks.ensures.words in
     let seven = and_then (masks ++ mask ++ first ++ other ++ bytes ++ checked) judged _ _ _ six c.in_ok-put_verdict.ensures.words in
     let eight = and_then (masks ++ mask ++ first ++ other ++ bytes ++ checked ++ judged) cell _ _ _ seven c.in_ok-put_constant-5.ensures.words in
-    record { words = on_ok_weaker c.sd.result (λ h. and_then (masks ++ mask ++ first ++ other ++ bytes ++ checked ++ judged ++ cell) (sd 8 0 7 ∷ []) _ _ _ eight h) c.sd.ensures;
+    record {
+      words = on_ok_weaker c.sd.result (λ h. and_then (masks ++ mask ++ first ++ other ++ bytes ++ checked ++ judged ++ cell) (sd 8 0 7 ∷ []) _ _ _ eight h) c.sd.ensures;
       runs = on_ok_weaker c.sd.result (λ h. compare_runs c.args.c.first c.args.c.other c.args.c.masks c.args.c.bytes c.args.c.cell c.args.c.pass c.args.c.dwords c.requires.pass) c.sd.ensures;
       runs_but_last = on_ok_weaker c.sd.result (λ h. compare_but_last_runs c.args.c.first c.args.c.other c.args.c.masks c.args.c.bytes c.args.c.cell c.args.c.pass c.args.c.dwords c.requires.pass (omega arith)) c.sd.ensures;
-      runs_last = on_ok_weaker c.sd.result (λ h. last_store_runs c.args.c.cell) c.sd.ensures }
+      runs_last = on_ok_weaker c.sd.result (λ h. last_store_runs c.args.c.cell) c.sd.ensures;
+    }
