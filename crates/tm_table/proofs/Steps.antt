@@ -1,5 +1,5 @@
 -- Steps: their registers, widths and reads, and what they write.
-use Rattle.std.proofs.Common.{◌≡◌, ◌≢◌, ◌↔◌, ℕ, zero, suc, ◌<◌, List, IsSome, IsTrue, refl, sym, ◌∙◌, ap, subst, arith, inl, inr}
+use Rattle.std.proofs.Common.{◌≡◌, ◌≢◌, ◌↔◌, ℕ, zero, suc, ◌<◌, List, IsSome, IfSome, IsTrue, refl, sym, ◌∙◌, ap, subst, arith, inl, inr}
 use Rattle.std.specs.Prelude.{slice_set}
 use Rattle.tm_table.specs.declared.instr.Op.{Op}
 use Rattle.tm_table.specs.declared.instr.Op.TheVariants.{Lb, Lbu, Sb, Lh, Lhu, Sh, Lw, Lwu, Sw, Ld, Sd}
@@ -9,7 +9,7 @@ use Rattle.tm_table.specs.declared.table.Layout.TheVariants.{R, I, S, B, U, J, S
 use Rattle.tm_table.specs.State.{Hart}
 use Rattle.tm_table.specs.Table.{row_of}
 use Rattle.tm_table.specs.Words.{FitsAs, Fits}
-use Rattle.tm_table.specs.Row.{Effect, Gives, Loads, Stores, Branches, Jumps, put, effect, effect_at, after, row, HasWidth, read_in, loads, read_at, is_load}
+use Rattle.tm_table.specs.Row.{Effect, Gives, Loads, Stores, Branches, Jumps, put, effect, effect_at, after, row, IsWidth, HasWidth, read_in, loads, read_at, is_load}
 
 -- ---- registers
 
@@ -66,6 +66,17 @@ effect-width _ pc a b i = tt
 
 pub has-width : (hart : Hart) (i : Instr) (e : Effect) → e ≡ effect_at hart i → HasWidth e
 has-width hart i e is = subst HasWidth (sym is) (effect-width i.op _ _ _ _)
+
+width_in : (e : Effect) → HasWidth e → IfSome (loads e) (λ (p : ℕ × ℕ). IsWidth p.1)
+width_in (Gives value) h = tt
+width_in (Loads addr width with_sign) h = h
+width_in (Stores addr width value) h = tt
+width_in (Branches taken) h = tt
+width_in (Jumps link target) h = tt
+
+pub read-width : (hart : Hart) (i : Instr) → IfSome (read_at hart i) (λ (p : ℕ × ℕ). IsWidth p.1)
+unfolding read_at
+read-width hart i = width_in (effect_at hart i) (has-width hart i _ refl)
 
 -- the read of a step doesn't depend on the bytes
 reads-after : (e : Effect) (hart : Hart) (rd i bytes : ℕ) → loads e ≡ read_in (after e hart rd i bytes).1

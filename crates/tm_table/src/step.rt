@@ -1,7 +1,7 @@
-ghost use Rattle.std.specs.Prelude.{◌≡◌, ◌↔◌, ◌+◌, ◌<◌, ◌%◌, ◌^◌, ℕ, IsSome, IsTrue, unwrap_or};
+ghost use Rattle.std.specs.Prelude.{◌≡◌, ◌↔◌, ◌+◌, ◌<◌, ◌%◌, ◌^◌, ℕ, IsSome, IfSome, IsTrue, unwrap_or};
 ghost use Rattle.tm_table.specs.State.{hart_of};
 ghost use Rattle.tm_table.specs.Words.{low, Fits};
-ghost use Rattle.tm_table.specs.Row.{put as put_in, effect as op_effect, effect_at as instr_effect, after, row, read_in, loads as loads_of, read_at, is_load, IsGiven, HasWidth};
+ghost use Rattle.tm_table.specs.Row.{put as put_in, effect as op_effect, effect_at as instr_effect, after, row, read_in, loads as loads_of, read_at, is_load, IsGiven, IsWidth, HasWidth};
 
 use crate::instr::{Instr, Op};
 use crate::numbers::{flag, less, loaded, low_bytes, shift_down, shift_word_down, word};
@@ -39,6 +39,7 @@ pub fn needs_read(cpu: &Cpu, i: Instr) -> Option<(u64, u8)>
     ensures value { result ≡ read_at (hart_of cpu.now) i }
     ensures step { (bytes : ℕ) → result ≡ read_in (row (hart_of cpu.now) i bytes).1 }
     ensures some { IsSome result ↔ IsTrue (is_load i.op) }
+    ensures width { IfSome result (λ p. IsWidth p.1) }
 {
     loads(effect_at(cpu, i))
 }
