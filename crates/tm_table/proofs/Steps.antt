@@ -1,5 +1,5 @@
 -- Steps: their registers, widths and reads, and what they write.
-use Rattle.std.proofs.Common.{◌≡◌, ◌≢◌, ◌↔◌, ℕ, zero, suc, ◌<◌, List, IsSome, IfSome, IsTrue, refl, sym, ◌∙◌, ap, subst, arith, inl, inr}
+use Rattle.std.proofs.Common.{◌≡◌, ◌≢◌, ◌↔◌, ℕ, zero, suc, ◌<◌, List, IsSome, IfSome, IsTrue, refl, sym, subst, arith, inl, inr}
 use Rattle.std.specs.Prelude.{slice_set}
 use Rattle.tm_table.specs.declared.instr.Op.{Op}
 use Rattle.tm_table.specs.declared.instr.Op.TheVariants.{Lb, Lbu, Sb, Lh, Lhu, Sh, Lw, Lwu, Sw, Ld, Sd}

@@ -1,5 +1,5 @@
 -- Worked rows of the instruction table, computed: words as assemblers write them, and the step of each.
-use Rattle.std.proofs.Common.{◌≡◌, ℕ, List, [], ◌∷◌, pos, negsuc, Some, None, refl}
+use Rattle.std.proofs.Common.{◌≡◌, ℕ, [], ◌∷◌, pos, negsuc, Some, None, refl}
 use Rattle.tm_table.specs.declared.instr.Op.TheVariants.{Jal, Beq, Ld, Sd, Addi, Slliw, Fence}
 use Rattle.tm_table.specs.declared.instr.Instr.{Instr}
 use Rattle.tm_table.specs.declared.state.Access.TheVariants.{Quiet, Read, Write}

@@ -1,5 +1,5 @@
-use Rattle.std.proofs.Common.{◌≡◌, subst, sym, ◌∙◌, ap, rules}
-use Rattle.tm_table.specs.Words.{join, word_of, InRange, parts_of}
+use Rattle.std.proofs.Common.{◌≡◌, subst, sym, rules}
+use Rattle.tm_table.specs.Words.{word_of, InRange, parts_of}
 use Rattle.tm_table.proofs.Decoding.{encoded-in_range, decoded-word, word-lt}
 use Rattle.tm_table.proofs.coding.encode.Goals as goal
 
