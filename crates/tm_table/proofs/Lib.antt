@@ -4,4 +4,5 @@ pub mod Signs
 pub mod Layouts
 pub mod Decoding
 pub mod Steps
+pub mod Bounds
 pub mod Worked

@@ -5,8 +5,8 @@ use Rattle.tm_table.specs.declared.instr.Op.TheVariants.{Lui, Auipc, Jal, Jalr, 
 use Rattle.tm_table.specs.declared.instr.Instr.{Instr}
 use Rattle.tm_table.specs.declared.state.Access.{Access}
 use Rattle.tm_table.specs.declared.state.Access.TheVariants.{Quiet, Read, Write}
-pub use Rattle.tm_table.specs.declared.step.Effect.{Effect}
-pub use Rattle.tm_table.specs.declared.step.Effect.TheVariants.{Gives, Loads, Stores, Branches, Jumps}
+use Rattle.tm_table.specs.declared.step.Action.{Action}
+use Rattle.tm_table.specs.declared.step.Action.TheVariants.{Give, Load, Store, Branch, Jump}
 use Rattle.tm_table.specs.State.{Hart}
 use Rattle.tm_table.specs.Words.{low, signed, split, decoded}
 
@@ -47,6 +47,24 @@ flag b = if b then 1 else 0
 unfoldable pub put : List ℕ → ℕ → ℕ → List ℕ
 put x zero n = x
 put x (suc r) n = slice_set x (suc r) n
+
+-- What an instruction does with its operands: it gives rd a value; loads so many bytes from an address
+-- into rd, with their sign or without; stores the low bytes of a value; goes on at pc + imm if taken; or
+-- gives rd the link and goes on at the target (this project).
+pub data Effect : Type 0 where
+  Gives : (value : ℕ) → Effect
+  Loads : (addr width : ℕ) → (with_sign : Bool) → Effect
+  Stores : (addr width value : ℕ) → Effect
+  Branches : (taken : Bool) → Effect
+  Jumps : (link target : ℕ) → Effect
+
+-- the effect that an action of the code has (this project)
+abbrev pub effect_by : Action → Effect
+effect_by (Give value) = Gives value
+effect_by (Load addr width with_sign) = Loads addr width with_sign
+effect_by (Store addr width value) = Stores addr width value
+effect_by (Branch taken) = Branches taken
+effect_by (Jump link target) = Jumps link target
 
 -- The effect of an op at pc, where a is x[rs1], b is x[rs2] and i the immediate, all modulo 2 ^ 64
 -- (RV64I 2.1). LUI and AUIPC take the field shifted left by 12, with the sign of bit 31. A shift of 64 bits

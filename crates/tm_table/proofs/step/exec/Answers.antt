@@ -8,7 +8,7 @@ pub apply-requires-clause-rd : goal.apply-requires-clause-rd
 apply-requires-clause-rd c = (registers c.args.i c.requires.fits).rd
 
 pub apply-requires-clause-width : goal.apply-requires-clause-width
-apply-requires-clause-width c = has-width (hart_of c.args.cpu.now) c.args.i _ c.effect_at-effect.ensures
+apply-requires-clause-width c = has-width (hart_of c.args.cpu.now) c.args.i _ c.action_at-action.ensures
 
 pub returns-clause-state : goal.returns-clause-state
 unfolding row

@@ -1,5 +1,5 @@
 use Rattle.tm_table.proofs.Steps.{registers}
-use Rattle.tm_table.proofs.step.effect_at.Goals as goal
+use Rattle.tm_table.proofs.step.action_at.Goals as goal
 
 pub bounds-cpu-i : goal.bounds-cpu-i
 bounds-cpu-i c = (registers c.args.i c.requires).rs1
