@@ -5,12 +5,12 @@ use Rattle.tm_table.specs.declared.instr.Op.{Op}
 use Rattle.tm_table.specs.declared.instr.Op.TheVariants.{Addi, Add, Xor}
 use Rattle.tm_table.specs.declared.instr.Instr.{Instr}
 use Rattle.tm_table.specs.Table.{row_of}
-use Rattle.tm_table.specs.Words.{Fits, FitsBy}
+use Rattle.tm_table.specs.Words.{Fits, FitsAs}
 use Rattle.tm_image.specs.Lines.{IsEmitted, HasOperand, emit_line, printed, register_text, registers_text, number_text}
 use Rattle.tm_image.specs.Reading.{behind, register_of, immediate_of, first_register, last_operand, operands, emit_of}
 use Rattle.tm_image.proofs.OperandLemmas.{option_cases, behind-sound, first_register-complete, first_register-sound, register_of-complete, register_of-sound, immediate_of-complete, immediate_of-sound}
 
-fits_as : (i : Instr) (op : Op) → i.rd ≤ 27 → i.rs1 ≤ 27 → HasOperand i op → FitsBy (row_of op) i
+fits_as : (i : Instr) (op : Op) → i.rd ≤ 27 → i.rs1 ≤ 27 → HasOperand i op → FitsAs (row_of op).layout i
 fits_as i Addi rd rs1 h = (omega arith, omega arith, h.0, (h.1, h.2))
 fits_as i Add rd rs1 h = (omega arith, omega arith, omega arith, h.1)
 fits_as i Xor rd rs1 h = (omega arith, omega arith, omega arith, h.1)

@@ -1,22 +1,26 @@
 -- A half run, told by bytes and lists of registers, is a run of the machine that keeps dwords.
-use Rattle.std.proofs.Common.{◌⊎◌, inl, inr, ◌≡◌, ◌≢◌, ℕ, zero, suc, ◌+◌, ◌-◌, ◌%◌, ◌^◌, ◌<◌, ◌≤◌, List, [], ◌∷◌, length, Bool, true, false, true≢false, Option, None, Some, refl, sym, ap, ap₂, ◌∙◌, subst, arith, eq-eqb, eqb-true}
+use Rattle.std.proofs.Common.{◌≡◌, ◌≢◌, ℕ, zero, suc, ◌+◌, ◌-◌, ◌*◌, ◌%◌, ◌^◌, ◌<◌, ◌≤◌, List, [], ◌∷◌, length, Bool, true, false, true≢false, Option, None, Some, ◌⊎◌, inl, inr, refl, sym, ap, ap₂, ◌∙◌, subst, arith, eq-eqb, eqb-true}
 use Rattle.std.specs.Prelude.{IsTrue, IfSome, nat_eq, if◌then◌else◌, slice_index}
 use Rattle.std.proofs.Math.ListN.{set}
 use Rattle.std.proofs.lemmas.List.{get_or-set_same, get_or-set_other, length-set}
 use mathlib.Core.Path.{fun_ext}
+use Rattle.tm_table.specs.declared.instr.Op.{Op}
+use Rattle.tm_table.specs.declared.instr.Op.TheVariants.{Jal, Jalr}
 use Rattle.tm_table.specs.declared.instr.Instr.{Instr}
 use Rattle.tm_table.specs.declared.state.Access.{Access}
 use Rattle.tm_table.specs.declared.state.Access.TheVariants.{Quiet, Read, Write}
 use Rattle.tm_table.specs.State.{Hart}
 use Rattle.tm_table.specs.Words.{low, word_of}
-use Rattle.tm_table.specs.Row.{Effect, Gives, Loads, Stores, Branches, Jumps, effect, word64, row, put as set_register, after as row_after}
+use Rattle.tm_table.specs.Row.{Effect, Gives, Loads, Stores, Branches, Jumps, effect, word64, row, put as set_register, after as row_after, loaded as value_of}
+use Rattle.tm_table.proofs.Signs.{low-lt}
+use Rattle.tm_table.proofs.Bounds.{IsBounded, effect-bounded}
 use Rattle.tm_plan.specs.declared.program.Program.{Program}
 use Rattle.tm_plan.specs.Map.{within}
 use Rattle.tm_world.specs.Place.{byte_of, start_of, end_of, is_window}
-use Rattle.tm_world.specs.Run.{Step, now, first_state, pc_of, access_of, written, read_value, HasShape, Writes, Reads as ReadsOwed}
+use Rattle.tm_world.specs.Run.{Step, now, first_state, pc_of, access_of, written, read_value, HasShape, IsFitting, Writes, Reads as ReadsOwed}
 use Rattle.tm_world.specs.Kinds.{IsOpening, IsPossible, HalfPath, HalfStep, Follows, Free, stream_at, half_owed}
-use Rattle.tm_runs.specs.Machine.{Entry, State, Table, put, get, target, moved, computes, loaded, stored, act, effect_in, MayAct, ReadsAs, StreamAccess}
-use Rattle.tm_runs.specs.Runs.{Run, Next, ByTable, InStream}
+use Rattle.tm_runs.specs.Machine.{Entry, State, Table, put, get, target, lands, moved, computes, loaded, stored, act, effect_in, MayAct, IsNarrow, ReadsAs, StreamAccess}
+use Rattle.tm_runs.specs.Runs.{Run, Next, ByTable, InStream, Narrow}
 use Rattle.tm_runs.specs.World.{Sizes, world_of, start, support_at, bounds_at, is_private_dword}
 use Rattle.tm_runs.specs.Shadow.{entry_of, entries_of, HalfRunsAreRuns}
 use Rattle.tm_runs.proofs.Split.{run_more}
@@ -25,7 +29,7 @@ use Rattle.tm_runs.proofs.Bytes.{same_dword}
 use Rattle.tm_runs.proofs.Rows.{InReach, IsPlain, plain, word-reach, row-decoded, target-word64}
 use Rattle.tm_runs.proofs.Places.{within-parts, private-window, word-place, guest-true}
 use Rattle.tm_runs.proofs.Worlds.{fetched, held}
-use Rattle.tm_runs.proofs.Memory.{Memory, owed, memory-start, memory-same, memory-store}
+use Rattle.tm_runs.proofs.Memory.{Memory, owed, memory-start, memory-same, told, memory-told, memory-store}
 
 -- ---- registers
 
@@ -57,6 +61,23 @@ put-fits f r v h small (suc x) = by (nat_eq (suc x) r)
     by : (b : Bool) → (if b then v else f (suc x)) < 2 ^ 64
     by true = small
     by false = h (suc x)
+
+-- what a load puts into a register
+width-fits : (width v : ℕ) → IsFitting width v → v < 2 ^ 64
+width-fits width v f = by f.0
+  where
+    at : (w : ℕ) → width ≡ w → 256 ^ w ≤ 2 ^ 64 → v < 2 ^ 64
+    at w e l = let b : v < 256 ^ w = subst (λ (n : ℕ). v < 256 ^ n) e f.1 in omega arith
+
+    by : (width ≡ 1) ⊎ ((width ≡ 2) ⊎ ((width ≡ 4) ⊎ (width ≡ 8))) → v < 2 ^ 64
+    by (inl e) = at 1 e (omega arith)
+    by (inr (inl e)) = at 2 e (omega arith)
+    by (inr (inr (inl e))) = at 4 e (omega arith)
+    by (inr (inr (inr e))) = at 8 e (omega arith)
+
+value-fits : (with_sign : Bool) (width v : ℕ) → IsFitting width v → value_of with_sign width v < 2 ^ 64
+value-fits false width v f = width-fits width v f
+value-fits true width v f = low-lt 64 _
 
 -- ---- one step
 
@@ -192,34 +213,75 @@ module _ (p : Program) (h : ℕ) (first : Hart) (sizes : Sizes p) (low-number : 
             (quiet-memory past s t.mem Quiet access (λ b. refl) f.kept.memory);
       }
 
-  by-jumps : (past : List Step) (s : Step) (t : State) (i : Instr) (link goes : ℕ) → Facts p h first past s t i → effect_in i t ≡ Jumps link goes → link ≡ word64 (t.pc + 4) → goes ≡ word64 (t.pc + low 64 i.imm) → row_after (Jumps link goes) (now first past) i.rd (low 64 i.imm) (read_value (access_of s)) ≡ (s.after, access_of s) → Stepped p h first past s t
+  by-jumps : (past : List Step) (s : Step) (t : State) (i : Instr) (link goes : ℕ) → Facts p h first past s t i → effect_in i t ≡ Jumps link goes → link ≡ word64 (t.pc + 4) → lands i.op goes (target t.pc i.imm) ≡ goes → row_after (Jumps link goes) (now first past) i.rd (low 64 i.imm) (read_value (access_of s)) ≡ (s.after, access_of s) → Stepped p h first past s t
   unfolding row_after
-  by-jumps past s t i link goes f is l g eq =
+  by-jumps past s t i link goes f is l there eq =
       let hart : record { pc = goes; x = set_register (now first past).x i.rd link } ≡ s.after = ap (λ (q : Hart × Access). q.0) eq in
       let access : Quiet ≡ access_of s = ap (λ (q : Hart × Access). q.1) eq in
       let same : t.pc + 4 ≡ link = omega (arith, l, f.most) in
-      let lands : target t.pc i.imm ≡ goes = sym (target-word64 t.pc i.imm (omega (arith, f.least)) (omega (arith, f.most)) f.reach.imm) ∙ sym g in
       record {
         state = act (Jumps link goes) (world_of p h) i 0 t;
         next = by-row t i 0 (Jumps link goes) f.at is tt tt;
-        kept = moved-kept past s t i Quiet (target t.pc i.imm) (put t.regs i.rd (t.pc + 4)) t.mem f access
-            (lands ∙ ap (λ (x : Hart). x.pc) hart)
+        kept = moved-kept past s t i Quiet (lands i.op goes (target t.pc i.imm)) (put t.regs i.rd (t.pc + 4)) t.mem f access
+            (there ∙ ap (λ (x : Hart). x.pc) hart)
             (λ r. ap (λ (n : ℕ). get (put t.regs i.rd n) r) same ∙ (put-list t.regs (now first past).x i.rd link f.kept.regs f.kept.count f.reach.rd r ∙ ap (λ (x : Hart). slice_index x.x r) hart))
             (put-fits t.regs i.rd (t.pc + 4) f.kept.fits (omega (arith, f.most)))
             (ap (λ (x : Hart). length x.x) (sym hart) ∙ (put-length (now first past).x i.rd link ∙ f.kept.count))
             (quiet-memory past s t.mem Quiet access (λ b. refl) f.kept.memory);
       }
 
-  by-effect : (past : List Step) (s : Step) (t : State) (i : Instr) (e : Effect) → Facts p h first past s t i → effect_in i t ≡ e → IsPlain t.pc (low 64 i.imm) e → row_after e (now first past) i.rd (low 64 i.imm) (read_value (access_of s)) ≡ (s.after, access_of s) → Stepped p h first past s t
-  by-effect past s t i (Gives value) f is q eq = by-gives past s t i value f is q eq
-  by-effect past s t i (Loads addr width with_sign) f is q eq =
-      let e : Loads addr width with_sign ≡ Loads addr 8 false = ap₂ (λ (n : ℕ) (b : Bool). Loads addr n b) q.0 q.1 in
+  landed : (past : List Step) (s : Step) (t : State) (i : Instr) (goes : ℕ) → Facts p h first past s t i → (i.op ≡ Jalr) ⊎ ((i.op ≡ Jal) × (goes ≡ word64 (t.pc + low 64 i.imm))) → lands i.op goes (target t.pc i.imm) ≡ goes
+  landed past s t i goes f (inl o) = ap (λ (op : Op). lands op goes (target t.pc i.imm)) o
+  landed past s t i goes f (inr o) =
+      ap (λ (op : Op). lands op goes (target t.pc i.imm)) o.0
+      ∙ (sym (target-word64 t.pc i.imm (omega (arith, f.least)) (omega (arith, f.most)) f.reach.imm) ∙ sym o.1)
+
+  -- accesses of less than a dword
+
+  by-narrow : (past : List Step) (s : Step) (t : State) (i : Instr) (access : Access) (regs : Table) → Facts p h first past s t i → IsNarrow (effect_in i t) → access ≡ access_of s → word64 ((now first past).pc + 4) ≡ s.after.pc → ((r : ℕ) → get regs r ≡ slice_index s.after.x r) → ((r : ℕ) → get regs r < 2 ^ 64) → length s.after.x ≡ 32 → Stepped p h first past s t
+  by-narrow past s t i access regs f n a pc r small count = record {
+    state = moved i t access (t.pc + 4) regs (told p h sizes low-number t.mem (s ∷ past));
+    next = Narrow i f.at n;
+    kept = moved-kept past s t i access (t.pc + 4) regs (told p h sizes low-number t.mem (s ∷ past)) f a (onward past t f.kept f.most ∙ pc) r small count (memory-told p h sizes low-number s past t.mem f.kept.memory);
+  }
+
+  loads-narrow : (past : List Step) (s : Step) (t : State) (i : Instr) (addr width : ℕ) (with_sign : Bool) → Facts p h first past s t i → effect_in i t ≡ Loads addr width with_sign → width < 8 → row_after (Loads addr width with_sign) (now first past) i.rd (low 64 i.imm) (read_value (access_of s)) ≡ (s.after, access_of s) → Stepped p h first past s t
+  unfolding row_after
+  loads-narrow past s t i addr width with_sign f is less eq =
+      let v = read_value (access_of s) in
+      let x = value_of with_sign width v in
+      let hart : record { pc = word64 ((now first past).pc + 4); x = set_register (now first past).x i.rd x } ≡ s.after = ap (λ (q : Hart × Access). q.0) eq in
+      let access : Read addr width v ≡ access_of s = ap (λ (q : Hart × Access). q.1) eq in
+      let shape : HasShape (Read addr width v) = subst HasShape (sym access) f.shape in
+      by-narrow past s t i (Read addr width v) (put t.regs i.rd x) f (subst IsNarrow (sym is) less) access
+      (ap (λ (y : Hart). y.pc) hart)
+      (λ r. put-list t.regs (now first past).x i.rd x f.kept.regs f.kept.count f.reach.rd r ∙ ap (λ (y : Hart). slice_index y.x r) hart)
+      (put-fits t.regs i.rd x f.kept.fits (value-fits with_sign width v shape))
+      (ap (λ (y : Hart). length y.x) (sym hart) ∙ (put-length (now first past).x i.rd x ∙ f.kept.count))
+
+  stores-narrow : (past : List Step) (s : Step) (t : State) (i : Instr) (addr width value : ℕ) → Facts p h first past s t i → effect_in i t ≡ Stores addr width value → width < 8 → row_after (Stores addr width value) (now first past) i.rd (low 64 i.imm) (read_value (access_of s)) ≡ (s.after, access_of s) → Stepped p h first past s t
+  unfolding row_after
+  stores-narrow past s t i addr width value f is less eq =
+      let hart : record { pc = word64 ((now first past).pc + 4); x = (now first past).x } ≡ s.after = ap (λ (q : Hart × Access). q.0) eq in
+      let access : Write addr width (value % 2 ^ (8 * width)) ≡ access_of s = ap (λ (q : Hart × Access). q.1) eq in
+      by-narrow past s t i (Write addr width (value % 2 ^ (8 * width))) t.regs f (subst IsNarrow (sym is) less) access
+      (ap (λ (y : Hart). y.pc) hart)
+      (λ r. f.kept.regs r ∙ ap (λ (y : Hart). slice_index y.x r) hart)
+      f.kept.fits
+      (ap (λ (y : Hart). length y.x) (sym hart) ∙ f.kept.count)
+
+  by-effect : (past : List Step) (s : Step) (t : State) (i : Instr) (e : Effect) → Facts p h first past s t i → effect_in i t ≡ e → IsPlain i.op t.pc (low 64 i.imm) e → IsBounded e → row_after e (now first past) i.rd (low 64 i.imm) (read_value (access_of s)) ≡ (s.after, access_of s) → Stepped p h first past s t
+  by-effect past s t i (Gives value) f is q b eq = by-gives past s t i value f is b eq
+  by-effect past s t i (Loads addr width with_sign) f is (inl q) b eq =
+      let e : Loads addr width with_sign ≡ Loads addr 8 false = ap₂ (λ (n : ℕ) (c : Bool). Loads addr n c) q.0 q.1 in
       by-loads past s t i addr f (is ∙ e) (subst (λ (x : Effect). row_after x (now first past) i.rd (low 64 i.imm) (read_value (access_of s)) ≡ (s.after, access_of s)) e eq)
-  by-effect past s t i (Stores addr width value) f is q eq =
-      let e : Stores addr width value ≡ Stores addr 8 value = ap (λ (n : ℕ). Stores addr n value) q.0 in
-      by-stores past s t i addr value f (is ∙ e) q.1 (subst (λ (x : Effect). row_after x (now first past) i.rd (low 64 i.imm) (read_value (access_of s)) ≡ (s.after, access_of s)) e eq)
-  by-effect past s t i (Branches taken) f is q eq = by-branches past s t i taken f is eq
-  by-effect past s t i (Jumps link goes) f is q eq = by-jumps past s t i link goes f is q.0 q.1 eq
+  by-effect past s t i (Loads addr width with_sign) f is (inr less) b eq = loads-narrow past s t i addr width with_sign f is less eq
+  by-effect past s t i (Stores addr width value) f is (inl q) b eq =
+      let e : Stores addr width value ≡ Stores addr 8 value = ap (λ (n : ℕ). Stores addr n value) q in
+      by-stores past s t i addr value f (is ∙ e) b (subst (λ (x : Effect). row_after x (now first past) i.rd (low 64 i.imm) (read_value (access_of s)) ≡ (s.after, access_of s)) e eq)
+  by-effect past s t i (Stores addr width value) f is (inr less) b eq = stores-narrow past s t i addr width value f is less eq
+  by-effect past s t i (Branches taken) f is q b eq = by-branches past s t i taken f is eq
+  by-effect past s t i (Jumps link goes) f is q b eq = by-jumps past s t i link goes f is q.0 (landed past s t i goes f q.1) eq
 
   -- ---- a step by the table
 
@@ -244,21 +306,15 @@ module _ (p : Program) (h : ℕ) (first : Hart) (sizes : Sizes p) (low-number : 
       } in
       let first' : effect i.op t.pc (get t.regs i.rs1) (get t.regs i.rs2) n ≡ effect i.op (now first past).pc (get t.regs i.rs1) (get t.regs i.rs2) n = ap (λ (x : ℕ). effect i.op x (get t.regs i.rs1) (get t.regs i.rs2) n) k.pc in
       let second : effect i.op (now first past).pc (get t.regs i.rs1) (get t.regs i.rs2) n ≡ effect i.op (now first past).pc (slice_index (now first past).x i.rs1) (slice_index (now first past).x i.rs2) n = ap₂ (λ (a b : ℕ). effect i.op (now first past).pc a b n) (k.regs i.rs1) (k.regs i.rs2) in
-      by-effect past s t i (effect_in i t) facts refl (plain i.op t.pc (get t.regs i.rs1) (get t.regs i.rs2) n (k.fits i.rs1) (k.fits i.rs2))
+      by-effect past s t i (effect_in i t) facts refl (plain i.op t.pc (get t.regs i.rs1) (get t.regs i.rs2) n) (effect-bounded i.op t.pc (get t.regs i.rs1) (get t.regs i.rs2) n (k.fits i.rs1) (k.fits i.rs2) (low-lt 64 i.imm))
       (subst (λ (x : Effect). row_after x (now first past) i.rd n (read_value (access_of s)) ≡ (s.after, access_of s)) (sym (first' ∙ second)) eq)
 
   -- ---- a step in a stream
 
-  some-bytes : (width : ℕ) → ((width ≡ 1) ⊎ ((width ≡ 2) ⊎ ((width ≡ 4) ⊎ (width ≡ 8)))) → 1 ≤ width
-  some-bytes width (inl e) = omega arith
-  some-bytes width (inr (inl e)) = omega arith
-  some-bytes width (inr (inr (inl e))) = omega arith
-  some-bytes width (inr (inr (inr e))) = omega arith
-
-  stream-access : (a : Access) → HasShape a → Writes (λ b. IsTrue (is_window b)) a → StreamAccess (world_of p h) a
-  stream-access Quiet s w = tt
-  stream-access (Read addr width value) s w = tt
-  stream-access (Write addr width value) s w = (some-bytes width s.0, w)
+  stream-access : (a : Access) → Writes (λ b. IsTrue (is_window b)) a → StreamAccess (world_of p h) a
+  stream-access Quiet w = tt
+  stream-access (Read addr width value) w = tt
+  stream-access (Write addr width value) w = w
 
   stream-bytes : (a : Access) → Writes (λ b. IsTrue (is_window b)) a → (c i : ℕ) → is_private_dword h c ≡ true → i < 8 → written a (c + i) ≡ None
   stream-bytes Quiet w c i e l = refl
@@ -286,7 +342,7 @@ module _ (p : Program) (h : ℕ) (first : Hart) (sizes : Sizes p) (low-number : 
               log = refl;
               from = f.place ∙ sym k.pc;
               next = refl;
-              access = stream-access (access_of s) f.shape f.stores;
+              access = stream-access (access_of s) f.stores;
               regs = λ r. sym (regs r);
               fits = λ r. subst (λ (n : ℕ). n < 2 ^ 64) (sym (regs r)) (f.fits r);
               kept = λ r l. regs r ∙ (f.bases r l ∙ sym (k.regs r));

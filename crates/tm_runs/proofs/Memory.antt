@@ -1,18 +1,19 @@
 -- The dwords that the machine keeps are the bytes that a half run's steps tell.
 use Rattle.std.proofs.Common.{◌≡◌, ◌≢◌, ℕ, ◌+◌, ◌-◌, ◌%◌, ◌^◌, ◌<◌, ◌≤◌, List, [], ◌∷◌, Bool, true, false, true≢false, ◌||◌, Option, None, Some, ◌⊎◌, inl, inr, refl, sym, ap, ◌∙◌, subst, arith, eq-eqb, eqb-true}
-use Rattle.std.specs.Prelude.{IsTrue, nat_eq, if◌then◌else◌, unwrap_or}
+use Rattle.std.specs.Prelude.{IsTrue, IfSome, nat_eq, if◌then◌else◌, unwrap_or}
 use Rattle.std.proofs.lemmas.Bool.{cases_lt}
 use Rattle.tm_table.specs.declared.state.Access.{Access}
-use Rattle.tm_table.specs.declared.state.Access.TheVariants.{Write}
+use Rattle.tm_table.specs.declared.state.Access.TheVariants.{Quiet, Read, Write}
 use Rattle.tm_plan.specs.declared.program.Program.{Program}
+use Rattle.tm_plan.specs.Map.{within}
 use Rattle.tm_world.specs.Lists.{or_else}
 use Rattle.tm_world.specs.Place.{is_text, is_table, image_byte, byte_of}
 use Rattle.tm_world.specs.Run.{Step, access_of, last_write, written}
 use Rattle.tm_world.specs.Kinds.{half_owed}
 use Rattle.tm_runs.specs.Machine.{Table, put, stored}
-use Rattle.tm_runs.specs.World.{Sizes, is_fixed_dword, is_private_dword, world_of, image_dword}
+use Rattle.tm_runs.specs.World.{Sizes, is_fixed_dword, is_private_dword, world_of, joined, image_dword}
 use Rattle.tm_runs.proofs.Tables.{put_same, put_other}
-use Rattle.tm_runs.proofs.Bytes.{joined-byte, joined-lt, written-inside, written-outside}
+use Rattle.tm_runs.proofs.Bytes.{byte-lt, joined-byte, joined-lt, written-inside, written-outside}
 use Rattle.tm_runs.proofs.Places.{or-cases, private-bytes, fixed-bytes, fixed-open, private-free, private-image, image-lt}
 
 pub record Memory (p : Program) (h : ℕ) (own : List Step) (mem : Table) : Type 0 where
@@ -49,6 +50,40 @@ module _ (p : Program) (h : ℕ) (sizes : Sizes p) (low : h < 8) where
     image = m.image;
     fits = m.fits;
   }
+
+  written-lt : (a : Access) (b : ℕ) → IfSome (written a b) (λ n. n < 256)
+  written-lt Quiet b = tt
+  written-lt (Read addr width value) b = tt
+  written-lt (Write addr width value) b = by (within addr width b)
+    where
+      by : (c : Bool) → IfSome (if c then Some (byte_of value (b - addr)) else None) (λ n. n < 256)
+      by true = byte-lt value (b - addr)
+      by false = tt
+
+  last-lt : (b : ℕ) (own : List Step) → unwrap_or (last_write b own) 0 < 256
+  last-lt b [] = omega arith
+  last-lt b (s ∷ past) = by (written (access_of s) b) (written-lt (access_of s) b) (last-lt b past)
+    where
+      by : (o : Option ℕ) → IfSome o (λ n. n < 256) → unwrap_or (last_write b past) 0 < 256 → unwrap_or (or_else o (last_write b past)) 0 < 256
+      by None x y = y
+      by (Some n) x y = x
+
+  -- the dwords that the writes of some steps leave in a memory
+  abbrev pub told : Table → List Step → Table
+  told mem own a = if is_fixed_dword p a then mem a else joined (λ i. unwrap_or (last_write (a + i) own) 0) 8
+
+  -- after any step
+  pub memory-told : (s : Step) (past : List Step) (mem : Table) → Memory p h past mem → Memory p h (s ∷ past) (told mem (s ∷ past))
+  memory-told s past mem m = record {
+    written = λ a i e al l. ap (λ (b : Bool). byte_of (if b then mem a else joined (λ j. unwrap_or (last_write (a + j) (s ∷ past)) 0) 8) i) (private-free p h a sizes low e)
+        ∙ joined-byte (λ j. unwrap_or (last_write (a + j) (s ∷ past)) 0) 8 i (λ j. last-lt (a + j) (s ∷ past)) l;
+    image = λ a i e l. ap (λ (b : Bool). byte_of (if b then mem a else joined (λ j. unwrap_or (last_write (a + j) (s ∷ past)) 0) 8) i) e ∙ m.image a i e l;
+    fits = λ a. by a (is_fixed_dword p a);
+  }
+    where
+      by : (a : ℕ) (b : Bool) → (if b then mem a else joined (λ i. unwrap_or (last_write (a + i) (s ∷ past)) 0) 8) < 2 ^ 64
+      by a true = m.fits a
+      by a false = joined-lt (λ i. unwrap_or (last_write (a + i) (s ∷ past)) 0) 8 (λ i. last-lt (a + i) (s ∷ past))
 
   stored-other : (mem : Table) (a v c : ℕ) → c ≢ a → stored (world_of p h) mem a v c ≡ mem c
   stored-other mem a v c n = by (is_fixed_dword p a)

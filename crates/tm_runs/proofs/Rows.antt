@@ -1,20 +1,17 @@
 -- What the rows of the table have in common: fields in range, and effects on dwords alone.
-use Rattle.std.proofs.Common.{◌≡◌, ℕ, ◌+◌, ◌^◌, ◌<◌, ℤ, pos, negsuc, false, Option, None, Some, refl, sym, ap, subst, arith, option_map}
+use Rattle.std.proofs.Common.{◌≡◌, ℕ, ◌+◌, ◌^◌, ◌<◌, ℤ, pos, negsuc, false, Option, None, Some, ◌⊎◌, inl, inr, refl, sym, ap, subst, arith, option_map}
 use Rattle.std.specs.Prelude.{◌≤ℤ◌}
 use Rattle.std.proofs.lemmas.Int.{ints}
-use Rattle.std.proofs.lemmas.Nat.{xor_lt, and_le_l}
 use Rattle.tm_table.specs.declared.instr.Op.{Op}
-use Rattle.tm_table.specs.declared.instr.Op.TheVariants.{Lui, Addi, Slli, Add, Xor, And, Ld, Sd, Beq, Bne, Jal}
+use Rattle.tm_table.specs.declared.instr.Op.TheVariants.{Jal, Jalr, Lb, Lh, Lw, Ld, Lbu, Lhu, Lwu, Sb, Sh, Sw, Sd}
 use Rattle.tm_table.specs.declared.instr.Instr.{Instr}
 use Rattle.tm_table.specs.declared.table.Layout.{Layout}
 use Rattle.tm_table.specs.declared.table.Layout.TheVariants.{R, I, S, B, U, J, Shift6, Shift5, Order, Whole}
-use Rattle.tm_table.specs.declared.table.Row.{Row}
 use Rattle.tm_table.specs.declared.state.Access.{Access}
 use Rattle.tm_table.specs.State.{Hart}
 use Rattle.tm_table.specs.Table.{row_of}
-use Rattle.tm_table.specs.Words.{low, split, decoded, word_of, FitsAs, FitsBy, Fits}
+use Rattle.tm_table.specs.Words.{low, split, decoded, word_of, FitsAs, Fits}
 use Rattle.tm_table.specs.Row.{Effect, Gives, Loads, Stores, Branches, Jumps, effect, word64, row, row_word}
-use Rattle.tm_table.proofs.Signs.{low-lt}
 use Rattle.tm_table.proofs.Decoding.{word-decoded}
 use Rattle.tm_plan.specs.Slots.{instr_of}
 use Rattle.tm_runs.specs.Machine.{target}
@@ -54,13 +51,9 @@ reach-as Shift5 i h = record { rd = h.0; rs1 = h.1; rs2 = omega (arith, h.2); im
 reach-as Order i h = record { rd = omega (arith, h.0); rs1 = omega (arith, h.1); rs2 = omega (arith, h.2); imm = from-near i.imm 255 (omega arith) h.3 }
 reach-as Whole i h = record { rd = omega (arith, h.0); rs1 = omega (arith, h.1); rs2 = omega (arith, h.2); imm = zero-near i.imm h.3 }
 
-reach-by : (o : Option Row) (i : Instr) → FitsBy o i → InReach i
-reach-by None i h = absurd h
-reach-by (Some r) i h = reach-as r.layout i h
-
 reach : (i : Instr) → Fits i → InReach i
 unfolding Fits
-reach i h = reach-by (row_of i.op) i h
+reach i h = reach-as (row_of i.op).layout i h
 
 -- the word of a decoded instruction, which is in reach
 pub word-reach : (w : ℕ) (i : Instr) → w < 2 ^ 32 → instr_of w ≡ Some i → InReach i × (word_of i ≡ w)
@@ -80,31 +73,30 @@ pub decoded-row : (hart : Hart) (w read : ℕ) (i : Instr) → instr_of w ≡ So
 unfolding instr_of row_word
 decoded-row hart w read i e = ap (option_map (λ (j : Instr). row hart j read)) e
 
--- an effect on dwords, with results of 64 bits, and with jumps from pc by n
-abbrev pub IsPlain : ℕ → ℕ → Effect → Type 0
-IsPlain pc n (Gives value) = value < 2 ^ 64
-IsPlain pc n (Loads addr width with_sign) = (width ≡ 8) × (with_sign ≡ false)
-IsPlain pc n (Stores addr width value) = (width ≡ 8) × (value < 2 ^ 64)
-IsPlain pc n (Branches taken) = Unit {0}
-IsPlain pc n (Jumps link goes) = (link ≡ word64 (pc + 4)) × (goes ≡ word64 (pc + n))
+-- an effect on dwords or on less, and of JAL alone a jump from pc by n
+abbrev pub IsPlain : Op → ℕ → ℕ → Effect → Type 0
+IsPlain op pc n (Gives value) = Unit {0}
+IsPlain op pc n (Loads addr width with_sign) = ((width ≡ 8) × (with_sign ≡ false)) ⊎ (width < 8)
+IsPlain op pc n (Stores addr width value) = (width ≡ 8) ⊎ (width < 8)
+IsPlain op pc n (Branches taken) = Unit {0}
+IsPlain op pc n (Jumps link goes) = (link ≡ word64 (pc + 4)) × ((op ≡ Jalr) ⊎ ((op ≡ Jal) × (goes ≡ word64 (pc + n))))
 
-word64-lt : (n : ℕ) → word64 n < 2 ^ 64
-word64-lt n = omega arith
-
-pub plain : (op : Op) (pc a b n : ℕ) → a < 2 ^ 64 → b < 2 ^ 64 → IsPlain pc n (effect op pc a b n)
+pub plain : (op : Op) (pc a b n : ℕ) → IsPlain op pc n (effect op pc a b n)
 unfolding effect
-plain Lui pc a b n p q = low-lt 64 _
-plain Addi pc a b n p q = word64-lt _
-plain Slli pc a b n p q = word64-lt _
-plain Add pc a b n p q = word64-lt _
-plain Xor pc a b n p q = xor_lt 64 a b p q
-plain And pc a b n p q = let le = and_le_l a b in omega arith
-plain Ld pc a b n p q = (refl, refl)
-plain Sd pc a b n p q = (refl, q)
-plain Beq pc a b n p q = tt
-plain Bne pc a b n p q = tt
-plain Jal pc a b n p q = (refl, refl)
-plain _ pc a b n p q = omega arith
+plain Lb pc a b n = inr (omega arith)
+plain Lh pc a b n = inr (omega arith)
+plain Lw pc a b n = inr (omega arith)
+plain Ld pc a b n = inl (refl, refl)
+plain Lbu pc a b n = inr (omega arith)
+plain Lhu pc a b n = inr (omega arith)
+plain Lwu pc a b n = inr (omega arith)
+plain Sb pc a b n = inr (omega arith)
+plain Sh pc a b n = inr (omega arith)
+plain Sw pc a b n = inr (omega arith)
+plain Sd pc a b n = inl refl
+plain Jal pc a b n = (refl, inr (refl, refl))
+plain Jalr pc a b n = (refl, inl refl)
+plain _ pc a b n = tt
 
 -- where a jump goes, without a number that wraps
 pub target-word64 : (pc : ℕ) (z : ℤ) → 2097152 < pc → pc < 2 ^ 63 → IsNear z → word64 (pc + low 64 z) ≡ target pc z

@@ -2,8 +2,8 @@
 use Rattle.std.proofs.Common.{◌≡◌, ℕ, zero, suc, ◌+◌, ◌≤◌, List, [], ◌∷◌, ◌++◌, length, Option, None, Some, ◌⊎◌, inl, inr, refl, sym, ap, ◌∙◌, subst, arith, append_assoc}
 use Rattle.tm_table.specs.declared.instr.Instr.{Instr}
 use Rattle.tm_table.specs.Row.{Effect, Gives, Loads, Stores, Branches, Jumps}
-use Rattle.tm_runs.specs.Machine.{World, State, Entry, Strays, act, effect_in, after, Reads}
-use Rattle.tm_runs.specs.Runs.{Takes, Now, Step, Upto, Unwatched, Came, Went, Strayed, Keeps, Newest, Each, Since, Next, ByTable, InStream, Apart, Run, Goes, Runs, Strolls, Stopped, Passed}
+use Rattle.tm_runs.specs.Machine.{World, State, Entry, Strays, act, effect_in, after, May, MayAct, Reads, IsNarrow}
+use Rattle.tm_runs.specs.Runs.{Takes, Now, Step, Upto, Unwatched, Came, Went, Strayed, Keeps, Newest, Each, Since, Next, ByTable, InStream, Narrow, Apart, Run, Goes, Runs, Strolls, Stopped, Passed}
 use Rattle.tm_runs.proofs.Compose.{takes_map, upto_map}
 
 -- each step makes one entry
@@ -66,6 +66,14 @@ takes_count {w = w} (Step {n = n} {s = s} i e f g h) =
     Step i e f (λ v r. (g v r, omega (arith, grows v)))
     (λ v r. takes_map (λ t k. (k.0, omega (arith, grows v, k.1))) (λ t k. (k.0, omega (arith, grows v, k.1))) (takes_count (h v r)))
 
+-- an effect that may be made is of no less than a dword
+not_narrow : (e : Effect) (w : World) → MayAct e w → IsNarrow e → ⊥
+not_narrow (Gives value) w m n = n
+not_narrow (Loads addr width with_sign) w m n = omega (arith, m.0)
+not_narrow (Stores addr width value) w m n = omega (arith, m.0)
+not_narrow (Branches taken) w m n = n
+not_narrow (Jumps link goes) w m n = n
+
 same_instr : {o : Option Instr} {i j : Instr} → o ≡ Some i → o ≡ Some j → i ≡ j
 same_instr p q = cc
 
@@ -74,14 +82,18 @@ same_stream {a = a} {b = b} {c = c} {d = d} p q = let e : ◌≡◌ {A = ℕ × 
 
 module _ (w : World) (apart : Apart w) where
   -- what holds after every step by the table holds after the step that was made
-  pub by_table : (P : State → Type 0) {s : State} (i : Instr) → w.text s.pc ≡ Some i → ((v : ℕ) → Reads w i s v → P (after w i v s)) → (u : State) → Next w s u → P u
-  by_table P {s = s} i e h u (ByTable j v e' f r) =
+  pub by_table : (P : State → Type 0) {s : State} (i : Instr) → w.text s.pc ≡ Some i → May w i s → ((v : ℕ) → Reads w i s v → P (after w i v s)) → (u : State) → Next w s u → P u
+  by_table P {s = s} i e may h u (ByTable j v e' f r) =
       let same : j ≡ i = same_instr e' e in
       subst (λ (x : Instr). P (after w x v s)) (sym same) (h v (subst (λ (x : Instr). Reads w x s v) same r))
-  by_table P {s = s} i e h u (InStream lo hi e' r) = absurd (apart s.pc lo hi i e e')
+  by_table P {s = s} i e may h u (InStream lo hi e' r) = absurd (apart s.pc lo hi i e e')
+  by_table P {s = s} i e may h u (Narrow j e' n) =
+      let same : j ≡ i = same_instr e' e in
+      absurd (not_narrow (effect_in i s) w may (subst (λ (x : Instr). IsNarrow (effect_in x s)) same n))
 
   by_stream : (P : State → Type 0) {s : State} (lo hi : ℕ) → w.stream s.pc ≡ Some (lo, hi) → ((t : State) → Strays w lo hi s t → P t) → (u : State) → Next w s u → P u
   by_stream P {s = s} lo hi e h u (ByTable j v e' f r) = absurd (apart s.pc lo hi j e' e)
+  by_stream P {s = s} lo hi e h u (Narrow j e' n) = absurd (apart s.pc lo hi j e' e)
   by_stream P {s = s} lo hi e h u (InStream lo' hi' e' r) =
       let same = same_stream e' e in
       h u (subst (λ (x : ℕ). Strays w lo x s u) same.1 (subst (λ (x : ℕ). Strays w x hi' s u) same.0 r))
@@ -103,7 +115,7 @@ module _ (w : World) (apart : Apart w) where
   upto_run Unwatched t r = inl (inl refl)
   upto_run (Came {n = n} {s = s} q) t r = inr (record { first = 0; second = n; mid = s; before = refl; there = q; behind = r; sum = omega arith })
   upto_run {G = G} {Q = Q} (Went {n = n} {s = s} i e f g h) t r =
-      join G n r.1 r.2 (by_table G i e g r.0 r.1) (by_table (λ u. Run w n u t → ((n ≡ 0) ⊎ G t) ⊎ Passed w Q n u t) i e (λ v a. upto_run (h v a) t) r.0 r.1 r.2)
+      join G n r.1 r.2 (by_table G i e f g r.0 r.1) (by_table (λ u. Run w n u t → ((n ≡ 0) ⊎ G t) ⊎ Passed w Q n u t) i e f (λ v a. upto_run (h v a) t) r.0 r.1 r.2)
   upto_run {G = G} {Q = Q} (Strayed {n = n} {s = s} lo hi e g h) t r =
       join G n r.1 r.2 (by_stream G lo hi e g r.0 r.1) (by_stream (λ u. Run w n u t → ((n ≡ 0) ⊎ G t) ⊎ Passed w Q n u t) lo hi e (λ u a. upto_run (h u a) t) r.0 r.1 r.2)
 
@@ -121,7 +133,7 @@ module _ (w : World) (apart : Apart w) where
   upto_can {k = zero} (Went {s = s} i e f g h) is t r = inl (subst (Goes w) (sym r) (Runs (record { instr = i; fetched = e; may = f })))
   upto_can {k = zero} (Strayed {s = s} lo hi e g h) is t r = inl (subst (Goes w) (sym r) (Strolls lo hi e))
   upto_can {G = G} {Q = Q} {k = suc k} (Went {n = n} {s = s} i e f g h) is t r =
-      onward k r.1 (by_table (λ u. Run w k u t → Goes w t ⊎ Passed w Q k u t) i e (λ v a. upto_can (h v a) (omega arith) t) r.0 r.1 r.2)
+      onward k r.1 (by_table (λ u. Run w k u t → Goes w t ⊎ Passed w Q k u t) i e f (λ v a. upto_can (h v a) (omega arith) t) r.0 r.1 r.2)
   upto_can {G = G} {Q = Q} {k = suc k} (Strayed {n = n} {s = s} lo hi e g h) is t r =
       onward k r.1 (by_stream (λ u. Run w k u t → Goes w t ⊎ Passed w Q k u t) lo hi e (λ u a. upto_can (h u a) (omega arith) t) r.0 r.1 r.2)
 
@@ -132,6 +144,10 @@ module _ (w : World) (apart : Apart w) where
 -- nothing is behind a state at which no step is made
 no_step : (w : World) (s t : State) → Stopped w s → Next w s t → ⊥
 no_step w s t h (ByTable i v e f r) = none (h.0) e
+  where
+    none : {o : Option Instr} → o ≡ None → o ≡ Some i → ⊥
+    none p q = cc
+no_step w s t h (Narrow i e n) = none (h.0) e
   where
     none : {o : Option Instr} → o ≡ None → o ≡ Some i → ⊥
     none p q = cc

@@ -7,7 +7,7 @@ use Rattle.tm_table.specs.declared.instr.Instr.{Instr}
 use Rattle.tm_table.specs.declared.state.Access.TheVariants.{Quiet, Write}
 use Rattle.tm_table.specs.Words.{low}
 use Rattle.tm_table.specs.Row.{Effect, Gives, Loads, Stores, Branches, Jumps, effect, word64, sign_extended}
-use Rattle.tm_runs.specs.Machine.{World, State, Table, put, get, target, moved, computes, loaded, stored, act, effect_in, MayAccess, MayAct, ReadsAs}
+use Rattle.tm_runs.specs.Machine.{World, State, Table, put, get, target, lands, moved, computes, loaded, stored, act, effect_in, MayAccess, MayAct, ReadsAs}
 use Rattle.tm_runs.specs.Runs.{Takes, Step}
 
 -- a store at an address that isn't fixed
@@ -117,4 +117,5 @@ module _ {w : World} {G Q : State → Type 0} {n : ℕ} {s : State} where
   pub step_jal : {i : Instr} (pc : ℕ) → i.op ≡ Jal → w.text s.pc ≡ Some i → target s.pc i.imm ≡ pc → G (jumped i pc s) → Takes w G Q n (jumped i pc s) → Takes w G Q (suc n) s
   unfolding effect
   step_jal {i = i} pc o at is g h =
-      step_of (Jumps (word64 (s.pc + 4)) (word64 (s.pc + low 64 i.imm))) at (ap (λ (p : Op). effect p s.pc (get s.regs i.rs1) (get s.regs i.rs2) (low 64 i.imm)) o) tt (λ _ _. subst (λ (x : ℕ). G (jumped i x s)) (sym is) g) (λ _ _. subst (λ (x : ℕ). Takes w G Q n (jumped i x s)) (sym is) h)
+      let there : lands i.op (word64 (s.pc + low 64 i.imm)) (target s.pc i.imm) ≡ pc = ap (λ (p : Op). lands p (word64 (s.pc + low 64 i.imm)) (target s.pc i.imm)) o ∙ is in
+      step_of (Jumps (word64 (s.pc + 4)) (word64 (s.pc + low 64 i.imm))) at (ap (λ (p : Op). effect p s.pc (get s.regs i.rs1) (get s.regs i.rs2) (low 64 i.imm)) o) tt (λ _ _. subst (λ (x : ℕ). G (jumped i x s)) (sym there) g) (λ _ _. subst (λ (x : ℕ). Takes w G Q n (jumped i x s)) (sym there) h)

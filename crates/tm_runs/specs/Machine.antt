@@ -1,6 +1,8 @@
 -- One hart as support code sees it: what an instruction does to its registers, to the dwords that it reads back, and to its log
 -- (this project's own).
 use Rattle.std.specs.Prelude.{◌≡◌, ℕ, zero, suc, ◌+◌, ◌-◌, ◌%◌, ◌^◌, ◌<◌, ◌≤◌, List, ◌∷◌, Bool, false, Option, nat_eq, if◌then◌else◌, ℤ, pos, negsuc, IsTrue}
+use Rattle.tm_table.specs.declared.instr.Op.{Op}
+use Rattle.tm_table.specs.declared.instr.Op.TheVariants.{Jalr}
 use Rattle.tm_table.specs.declared.instr.Instr.{Instr}
 use Rattle.tm_table.specs.declared.state.Access.{Access}
 use Rattle.tm_table.specs.declared.state.Access.TheVariants.{Quiet, Read, Write}
@@ -67,13 +69,18 @@ loaded i a v s = moved i s (Read a 8 v) (s.pc + 4) (put s.regs i.rd v) s.mem
 abbrev pub stored : World → Table → ℕ → ℕ → Table
 stored w mem a v = if w.fixed a then mem else put mem a v
 
+-- where a jump lands: JALR where its effect goes, JAL at its target
+abbrev pub lands : Op → ℕ → ℕ → ℕ
+lands Jalr goes near = goes
+lands _ goes near = near
+
 -- The state after an effect, where v is what it reads.
 abbrev pub act : Effect → World → Instr → ℕ → State → State
 act (Gives value) w i v s = computes i s value
 act (Loads addr width with_sign) w i v s = loaded i addr v s
 act (Stores addr width value) w i v s = moved i s (Write addr 8 value) (s.pc + 4) s.regs (stored w s.mem addr value)
 act (Branches taken) w i v s = moved i s Quiet (if taken then target s.pc i.imm else s.pc + 4) s.regs s.mem
-act (Jumps link goes) w i v s = moved i s Quiet (target s.pc i.imm) (put s.regs i.rd (s.pc + 4)) s.mem
+act (Jumps link goes) w i v s = moved i s Quiet (lands i.op goes (target s.pc i.imm)) (put s.regs i.rd (s.pc + 4)) s.mem
 
 -- an instruction's effect in a state, by the instruction table (RV64I 2.1)
 abbrev pub effect_in : Instr → State → Effect
@@ -96,6 +103,12 @@ MayAct _ w = Unit {0}
 -- the instruction's access, if it makes one, may be made
 abbrev pub May : World → Instr → State → Type 0
 May w i s = MayAct (effect_in i s) w
+
+-- a load or a store of less than a dword, which support code doesn't make
+abbrev pub IsNarrow : Effect → Type 0
+IsNarrow (Loads addr width with_sign) = width < 8
+IsNarrow (Stores addr width value) = width < 8
+IsNarrow _ = ⊥
 
 -- an effect that loads may read v
 abbrev pub ReadsAs : Effect → World → State → ℕ → Type 0

@@ -3,7 +3,7 @@ use Rattle.std.specs.Prelude.{◌≡◌, ℕ, zero, suc, ◌+◌, ◌<◌, ◌�
 use Rattle.tm_table.specs.declared.instr.Instr.{Instr}
 use Rattle.tm_table.specs.declared.state.Access.{Access}
 use Rattle.tm_table.specs.declared.state.Access.TheVariants.{Quiet}
-use Rattle.tm_runs.specs.Machine.{World, State, Entry, Strays, after, May, Reads}
+use Rattle.tm_runs.specs.Machine.{World, State, Entry, Strays, after, May, Reads, IsNarrow, effect_in}
 
 -- Every run from s comes to a state with Q in at most n steps. Until then there is a next step, and G holds of the state after each.
 pub data Takes (w : World) (G Q : State → Type 0) : ℕ → State → Type 0 where
@@ -58,10 +58,11 @@ pub record Since (E : Entry → Type 0) (s t : State) : Type 0 where
   pub log : t.log ≡ entries ++ s.log
   pub each : Each E entries
 
--- one step of a hart, by the table or inside a stream
+-- one step of a hart, by the table or inside a stream; of what an access of less than a dword leaves nothing is said
 pub data Next (w : World) (s : State) : State → Type 0 where
   ByTable : (i : Instr) (v : ℕ) → w.text s.pc ≡ Some i → May w i s → Reads w i s v → Next w s (after w i v s)
   InStream : {t : State} (lo hi : ℕ) → w.stream s.pc ≡ Some (lo, hi) → Strays w lo hi s t → Next w s t
+  Narrow : {t : State} (i : Instr) → w.text s.pc ≡ Some i → IsNarrow (effect_in i s) → Next w s t
 
 -- no address has both
 abbrev pub Apart : World → Type 0

@@ -1,6 +1,5 @@
 -- Decoding and encoding undo each other.
-use Rattle.std.proofs.Common.{◌≡◌, ◌↔◌, ℕ, ◌-◌, ◌%◌, ◌^◌, ◌<◌, pos, negsuc, arith, refl, ap, sym, subst, ◌∙◌, Bool, true, false, IsTrue, cond, ◌&&◌, ◌==◌, nat_lt, List, [], ◌∷◌, find, Option, Some, None, option_map, ◌⊎◌, inl, inr}
-use Rattle.std.specs.List.{filter_map, cons_option}
+use Rattle.std.proofs.Common.{◌≡◌, ℕ, ◌-◌, ◌%◌, ◌^◌, ◌<◌, pos, negsuc, arith, refl, ap, sym, subst, ◌∙◌, Bool, true, false, cond, ◌&&◌, ◌==◌, nat_lt, List, [], ◌∷◌, map, find, Option, Some, None, option_map}
 use Rattle.std.proofs.lemmas.Bool.{and_parts, eqb-true, ltb-true, ltb-false, cond_both}
 use Rattle.std.proofs.lemmas.Int.{ints}
 use Rattle.tm_table.specs.declared.instr.Op.{Op}
@@ -10,26 +9,22 @@ use Rattle.tm_table.specs.declared.table.Row.{Row}
 use Rattle.tm_table.specs.declared.instr.Instr.{Instr}
 use Rattle.tm_table.specs.declared.table.Fields.{Fields}
 use Rattle.tm_table.specs.Table.{row_of, ops, table}
-use Rattle.tm_table.specs.Words.{split, join, word_by, word_of, low, signed, fixes, is_of, decoded, read_as, parts_as, FitsAs, FitsBy, Fits, InRange, From}
+use Rattle.tm_table.specs.Words.{split, join, word_of, low, signed, fixes, is_of, decoded, read_as, parts_as, parts_of, FitsAs, Fits, InRange, From}
 use Rattle.tm_table.proofs.Signs.{low-lt, low-signed_13, low-signed_21}
 use Rattle.tm_table.proofs.Fields.{join-split, split-join, split-in_range, join-lt}
 use Rattle.tm_table.proofs.Layouts.{read-parts, parts-read}
-use Rattle.tm_table.proofs.Own.{found_again, own_row, row-op, is_right, row-right}
+use Rattle.tm_table.proofs.Own.{own_row, row-op, row-right}
 
 -- ---- a search
 
-hit : {B : Type 0} (test : B → Bool) (z y : B) (rest : Option B) (b : Bool) → test z ≡ b → cond b (Some z) rest ≡ Some y → ((z ≡ y) × (test y ≡ true)) ⊎ (rest ≡ Some y)
-hit test z y rest true t e = let same : z ≡ y = cc in inl (same, subst (λ v. test v ≡ true) same t)
-hit test z y rest false t e = inr e
-
-found : {A B : Type 0} (g : A → Option B) (test : B → Bool) (xs : List A) (y : B) → find test (filter_map g xs) ≡ Some y → (x : A) × (g x ≡ Some y) × (test y ≡ true)
+found : {A B : Type 0} (g : A → B) (test : B → Bool) (xs : List A) (y : B) → find test (map g xs) ≡ Some y → (x : A) × (y ≡ g x) × (test y ≡ true)
 found g test [] y e = cc
-found g test (x ∷ xs) y e = go (g x) refl e (found g test xs y)
+found g test (x ∷ xs) y e = go (test (g x)) refl e (found g test xs y)
   where
-    go : (o : Option _) → g x ≡ o → find test (cons_option o (filter_map g xs)) ≡ Some y
-        → (find test (filter_map g xs) ≡ Some y → (x' : _) × (g x' ≡ Some y) × (test y ≡ true)) → (x' : _) × (g x' ≡ Some y) × (test y ≡ true)
-    go None t e' below = below e'
-    go (Some z) t e' below = elim (hit test z y (find test (filter_map g xs)) (test z) refl e') [ inl s ↦ (x, t ∙ ap Some s.0, s.1) | inr s ↦ below s ]
+    go : (b : Bool) → test (g x) ≡ b → cond b (Some (g x)) (find test (map g xs)) ≡ Some y
+        → (find test (map g xs) ≡ Some y → (x' : _) × (y ≡ g x') × (test y ≡ true)) → (x' : _) × (y ≡ g x') × (test y ≡ true)
+    go true t e' below = let same : g x ≡ y = cc in (x, sym same, subst (λ z. test z ≡ true) same t)
+    go false t e' below = below e'
 
 -- ---- what is read fits
 
@@ -59,46 +54,42 @@ fits-read Whole op r f h x = (refl, refl, refl, refl)
 
 -- ---- both ways, on parts
 
-own_op : (op : Op) (r : Row) → row_of op ≡ Some r → r.op ≡ op
-own_op op r e =
-    let s : option_map (λ (q : Row). q.op) (Some r) ≡ option_map (λ (q : Row). op) (Some r) = subst (λ (o : Option Row). option_map (λ (q : Row). q.op) o ≡ option_map (λ (q : Row). op) o) e (row-op op) in
-    cc
-
-own : (i : Instr) (r : Row) → row_of i.op ≡ Some r → find (is_of (parts_as r.layout r i)) table ≡ Some r
-own i r e = subst (λ (o : Option Row). found_again o i ≡ o) e (own_row i.op i)
-
-decoded-parts : (i : Instr) (r : Row) → row_of i.op ≡ Some r → FitsAs r.layout i → decoded (parts_as r.layout r i) ≡ Some i
+decoded-parts : (i : Instr) → FitsAs (row_of i.op).layout i → decoded (parts_of i) ≡ Some i
 unfolding decoded
-decoded-parts i r e h =
-    ap (option_map (λ (q : Row). read_as q.layout q.op (parts_as r.layout r i))) (own i r e)
-    ∙ ap (λ o. Some (read_as r.layout o (parts_as r.layout r i))) (own_op i.op r e)
+decoded-parts i h =
+    let r = row_of i.op in
+    ap (option_map (λ (q : Row). read_as q.layout q.op (parts_of i))) (own_row i)
+    ∙ ap (λ o. Some (read_as r.layout o (parts_as r.layout r i))) (row-op i.op)
     ∙ ap Some (read-parts r.layout r i h)
 
 read-op : (l : Layout) (op : Op) (f : Fields) → (read_as l op f).op ≡ op
 read-op R op f = refl
 read-op _ op f = refl
 
--- the instruction has this row, fits it, and has these parts
-record Of (i : Instr) (f : Fields) (r : Row) : Type 0 where
-  row : row_of i.op ≡ Some r
-  fits : FitsAs r.layout i
-  parts : parts_as r.layout r i ≡ f
+-- the instruction fits its op's row, and has these parts
+abbrev Has : Fields → Instr → Type 0
+Has f i = FitsAs (row_of i.op).layout i × (parts_of i ≡ f)
 
-parts-read_as : (f : Fields) (op : Op) (r : Row) → InRange f → row_of op ≡ Some r → is_of f r ≡ true → Of (read_as r.layout r.op f) f r
-parts-read_as f op r h e x =
+at_op : (op : Op) (f : Fields) → InRange f → is_of f (row_of op) ≡ true → Has f (read_as (row_of op).layout op f)
+at_op op f h x =
+    let r = row_of op in
+    let i = read_as r.layout op f in
     let p = and_parts (f.opcode == r.opcode) (fixes r.layout r f) x in
-    record { row = ap row_of (read-op r.layout r.op f ∙ own_op op r e) ∙ e; fits = fits-read r.layout r.op r f h p.1; parts = parts-read r.layout r.op r f h (eqb-true _ _ p.0) p.1 }
+    subst (λ (o : Op). FitsAs (row_of o).layout i × (parts_as (row_of o).layout (row_of o) i ≡ f)) (sym (read-op r.layout op f))
+    (fits-read r.layout op r f h p.1, parts-read r.layout op r f h (eqb-true _ _ p.0) p.1)
 
-parts-decoded : (f : Fields) (i : Instr) → InRange f → decoded f ≡ Some i → (r : Row) × Of i f r
+parts-decoded : (f : Fields) (i : Instr) → InRange f → decoded f ≡ Some i → Has f i
 unfolding decoded
 parts-decoded f i h e = go (find (is_of f) table) refl e
   where
-    go : (o : Option Row) → find (is_of f) table ≡ o → option_map (λ (r : Row). read_as r.layout r.op f) o ≡ Some i → (r : Row) × Of i f r
+    go : (o : Option Row) → find (is_of f) table ≡ o → option_map (λ (r : Row). read_as r.layout r.op f) o ≡ Some i → Has f i
     go None s e' = cc
     go (Some r) s e' =
         let (op, same, is) = found row_of (is_of f) ops r s in
         let here : read_as r.layout r.op f ≡ i = cc in
-        (r, subst (λ (j : Instr). Of j f r) here (parts-read_as f op r h same is))
+        let there : read_as (row_of op).layout (row_of op).op f ≡ i = subst (λ (q : Row). read_as q.layout q.op f ≡ i) same here in
+        let it : read_as (row_of op).layout op f ≡ i = subst (λ (o : Op). read_as (row_of op).layout o f ≡ i) (row-op op) there in
+        subst (Has f) it (at_op op f h (subst (λ (q : Row). is_of f q ≡ true) same is))
 
 -- ---- the parts of an instruction's word are in range
 
@@ -114,60 +105,29 @@ parts-in_range Shift5 r i a b c d h = let n : low 5 i.imm < 2 ^ 5 = low-lt 5 i.i
 parts-in_range Order r i a b c d h = let n : low 8 i.imm < 2 ^ 8 = low-lt 8 i.imm in record { opcode = a; rd = omega arith; funct3 = b; rs1 = omega arith; rs2 = omega arith; bit25 = omega arith; funct6 = omega arith }
 parts-in_range Whole r i a b c d h = record { opcode = a; rd = omega arith; funct3 = b; rs1 = omega arith; rs2 = d; bit25 = omega arith; funct6 = c }
 
-own_parts-in_range : (i : Instr) (r : Row) → row_of i.op ≡ Some r → FitsAs r.layout i → InRange (parts_as r.layout r i)
-own_parts-in_range i r e h =
-    let x : is_right (Some r) ≡ true = subst (λ (o : Option Row). is_right o ≡ true) e (row-right i.op) in
-    let p = and_parts (nat_lt r.opcode 128 && nat_lt r.funct3 8 && nat_lt r.funct6 64) (nat_lt r.extra 32) x in
+pub encoded-in_range : (i : Instr) → Fits i → InRange (parts_of i)
+unfolding Fits
+encoded-in_range i h =
+    let r = row_of i.op in
+    let p = and_parts (nat_lt r.opcode 128 && nat_lt r.funct3 8 && nat_lt r.funct6 64) (nat_lt r.extra 32) (row-right i.op) in
     let q = and_parts (nat_lt r.opcode 128 && nat_lt r.funct3 8) (nat_lt r.funct6 64) p.0 in
     let w = and_parts (nat_lt r.opcode 128) (nat_lt r.funct3 8) q.0 in
     parts-in_range r.layout r i (ltb-true _ _ w.0) (ltb-true _ _ w.1) (ltb-true _ _ q.1) (ltb-true _ _ p.1) h
 
 -- ---- and on words
 
-pub encoded-in_range : (i : Instr) (r : Row) → row_of i.op ≡ Some r → Fits i → InRange (parts_as r.layout r i)
-unfolding Fits
-encoded-in_range i r e h = own_parts-in_range i r e (subst (λ (o : Option Row). FitsBy o i) e h)
-
-pub encoded : (i : Instr) (r : Row) → row_of i.op ≡ Some r → join (parts_as r.layout r i) ≡ word_of i
-unfolding word_of
-encoded i r e = subst (λ (o : Option Row). word_by (Some r) i ≡ word_by o i) (sym e) refl
-
-pub no_word : (i : Instr) → row_of i.op ≡ None → word_of i ≡ 0
-unfolding word_of
-no_word i e = subst (λ (o : Option Row). word_by o i ≡ 0) (sym e) refl
-
-decoded-by : (i : Instr) (o : Option Row) → row_of i.op ≡ o → FitsBy o i → decoded (split (word_by o i)) ≡ Some i
-decoded-by i None e h = absurd h
-decoded-by i (Some r) e h = ap decoded (split-join (parts_as r.layout r i) (own_parts-in_range i r e h)) ∙ decoded-parts i r e h
-
 pub decoded-word : (i : Instr) → Fits i → decoded (split (word_of i)) ≡ Some i
 unfolding Fits word_of
-decoded-word i h = decoded-by i (row_of i.op) refl h
-
-word_by-lt : (i : Instr) (o : Option Row) → row_of i.op ≡ o → FitsBy o i → word_by o i < 2 ^ 32
-word_by-lt i None e h = absurd h
-word_by-lt i (Some r) e h = join-lt (parts_as r.layout r i) (own_parts-in_range i r e h)
+decoded-word i h = ap decoded (split-join (parts_of i) (encoded-in_range i h)) ∙ decoded-parts i h
 
 pub word-lt : (i : Instr) → Fits i → word_of i < 2 ^ 32
-unfolding Fits word_of
-word-lt i h = word_by-lt i (row_of i.op) refl h
+unfolding word_of
+word-lt i h = join-lt (parts_of i) (encoded-in_range i h)
 
 pub word-decoded : (w : ℕ) (i : Instr) → w < 2 ^ 32 → decoded (split w) ≡ Some i → Fits i × (word_of i ≡ w)
-unfolding Fits
-word-decoded w i b e =
-    let (r, of) = parts-decoded (split w) i (split-in_range w b) e in
-    (subst (λ (o : Option Row). FitsBy o i) (sym of.row) of.fits, sym (encoded i r of.row) ∙ ap join of.parts ∙ join-split w b)
+unfolding Fits word_of
+word-decoded w i b e = let p = parts-decoded (split w) i (split-in_range w b) e in (p.0, ap join p.1 ∙ join-split w b)
 
 -- nothing is read exactly where no instruction has the word
 pub none-decoded : (w : ℕ) → decoded (split w) ≡ None → (i : Instr) → Fits i → word_of i ≡ w → ⊥
 none-decoded w e i h s = let at : decoded (split w) ≡ Some i = subst (λ (v : ℕ). decoded (split v) ≡ Some i) s (decoded-word i h) in cc
-
--- ---- what fits
-
-pub fits-by_row : (i : Instr) (r : Row) (b : Bool) → row_of i.op ≡ Some r → IsTrue b ↔ FitsAs r.layout i → IsTrue b ↔ Fits i
-unfolding Fits
-fits-by_row i r b e h = subst (λ (o : Option Row). IsTrue b ↔ FitsBy o i) (sym e) h
-
-pub fits-no_row : (i : Instr) → row_of i.op ≡ None → IsTrue false ↔ Fits i
-unfolding Fits
-fits-no_row i e = subst (λ (o : Option Row). IsTrue false ↔ FitsBy o i) (sym e) (λ x. cc, λ x. absurd x)

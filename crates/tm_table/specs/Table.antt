@@ -1,40 +1,75 @@
 -- The instruction table.
-use Rattle.std.specs.Prelude.{ℕ, List, [], ◌∷◌, Bool, Option, None, Some, filter_map}
-use Rattle.tm_table.specs.contracts.instr.OpPartialEq.TheImpl.{ghosts}
+use Rattle.std.specs.Prelude.{ℕ, List, [], ◌∷◌, map}
 use Rattle.tm_table.specs.declared.instr.Op.{Op}
-use Rattle.tm_table.specs.declared.instr.Op.TheVariants.{Lui, Jal, Beq, Bne, Ld, Sd, Addi, Slli, Add, Xor, And}
+use Rattle.tm_table.specs.declared.instr.Op.TheVariants.{Lui, Auipc, Jal, Jalr, Beq, Bne, Blt, Bge, Bltu, Bgeu, Lb, Lh, Lw, Ld, Lbu, Lhu, Lwu, Sb, Sh, Sw, Sd, Addi, Slti, Sltiu, Xori, Ori, Andi, Slli, Srli, Srai, Add, Sll, Slt, Sltu, Xor, Srl, Or, And, Sub, Sra, Addiw, Slliw, Srliw, Sraiw, Addw, Sllw, Srlw, Subw, Sraw, Fence, Ecall, Ebreak}
 use Rattle.tm_table.specs.declared.table.Layout.{Layout}
-use Rattle.tm_table.specs.declared.table.Layout.TheVariants.{R, I, S, B, U, J, Shift6}
+use Rattle.tm_table.specs.declared.table.Layout.TheVariants.{R, I, S, B, U, J, Shift6, Shift5, Order, Whole}
 use Rattle.tm_table.specs.declared.table.Row.{Row}
 
 -- a row of these parts (this project)
 abbrev row : Op → Layout → ℕ → ℕ → ℕ → ℕ → Row
 row op layout opcode funct3 funct6 extra = record { op = op; layout = layout; opcode = opcode; funct3 = funct3; funct6 = funct6; extra = extra }
 
--- The row of an op, if it has one: layout, opcode, funct3, the upper six bits of funct7, and what stands
--- in rs2 of a word with no operands (RV64I 2.1, instruction listings).
-abbrev pub row_of : Op → Option Row
-row_of Lui = Some (row Lui U 55 0 0 0)
-row_of Jal = Some (row Jal J 111 0 0 0)
-row_of Beq = Some (row Beq B 99 0 0 0)
-row_of Bne = Some (row Bne B 99 1 0 0)
-row_of Ld = Some (row Ld I 3 3 0 0)
-row_of Sd = Some (row Sd S 35 3 0 0)
-row_of Addi = Some (row Addi I 19 0 0 0)
-row_of Slli = Some (row Slli Shift6 19 1 0 0)
-row_of Add = Some (row Add R 51 0 0 0)
-row_of Xor = Some (row Xor R 51 4 0 0)
-row_of And = Some (row And R 51 7 0 0)
-row_of _ = None
+-- The row of an op: layout, opcode, funct3, the upper six bits of funct7, and what stands in rs2 of a word
+-- with no operands (RV64I 2.1, instruction listings).
+abbrev pub row_of : Op → Row
+row_of Lui = row Lui U 55 0 0 0
+row_of Auipc = row Auipc U 23 0 0 0
+row_of Jal = row Jal J 111 0 0 0
+row_of Jalr = row Jalr I 103 0 0 0
+row_of Beq = row Beq B 99 0 0 0
+row_of Bne = row Bne B 99 1 0 0
+row_of Blt = row Blt B 99 4 0 0
+row_of Bge = row Bge B 99 5 0 0
+row_of Bltu = row Bltu B 99 6 0 0
+row_of Bgeu = row Bgeu B 99 7 0 0
+row_of Lb = row Lb I 3 0 0 0
+row_of Lh = row Lh I 3 1 0 0
+row_of Lw = row Lw I 3 2 0 0
+row_of Ld = row Ld I 3 3 0 0
+row_of Lbu = row Lbu I 3 4 0 0
+row_of Lhu = row Lhu I 3 5 0 0
+row_of Lwu = row Lwu I 3 6 0 0
+row_of Sb = row Sb S 35 0 0 0
+row_of Sh = row Sh S 35 1 0 0
+row_of Sw = row Sw S 35 2 0 0
+row_of Sd = row Sd S 35 3 0 0
+row_of Addi = row Addi I 19 0 0 0
+row_of Slti = row Slti I 19 2 0 0
+row_of Sltiu = row Sltiu I 19 3 0 0
+row_of Xori = row Xori I 19 4 0 0
+row_of Ori = row Ori I 19 6 0 0
+row_of Andi = row Andi I 19 7 0 0
+row_of Slli = row Slli Shift6 19 1 0 0
+row_of Srli = row Srli Shift6 19 5 0 0
+row_of Srai = row Srai Shift6 19 5 16 0
+row_of Add = row Add R 51 0 0 0
+row_of Sll = row Sll R 51 1 0 0
+row_of Slt = row Slt R 51 2 0 0
+row_of Sltu = row Sltu R 51 3 0 0
+row_of Xor = row Xor R 51 4 0 0
+row_of Srl = row Srl R 51 5 0 0
+row_of Or = row Or R 51 6 0 0
+row_of And = row And R 51 7 0 0
+row_of Sub = row Sub R 51 0 16 0
+row_of Sra = row Sra R 51 5 16 0
+row_of Addiw = row Addiw I 27 0 0 0
+row_of Slliw = row Slliw Shift5 27 1 0 0
+row_of Srliw = row Srliw Shift5 27 5 0 0
+row_of Sraiw = row Sraiw Shift5 27 5 16 0
+row_of Addw = row Addw R 59 0 0 0
+row_of Sllw = row Sllw R 59 1 0 0
+row_of Srlw = row Srlw R 59 5 0 0
+row_of Subw = row Subw R 59 0 16 0
+row_of Sraw = row Sraw R 59 5 16 0
+row_of Fence = row Fence Order 15 0 0 0
+row_of Ecall = row Ecall Whole 115 0 0 0
+row_of Ebreak = row Ebreak Whole 115 0 0 1
 
--- the ops that have a row, in the table's order (this project)
+-- the ops, in the table's order (this project)
 abbrev pub ops : List Op
-ops = Lui ∷ Jal ∷ Beq ∷ Bne ∷ Ld ∷ Sd ∷ Addi ∷ Slli ∷ Add ∷ Xor ∷ And ∷ []
+ops = Lui ∷ Auipc ∷ Jal ∷ Jalr ∷ Beq ∷ Bne ∷ Blt ∷ Bge ∷ Bltu ∷ Bgeu ∷ Lb ∷ Lh ∷ Lw ∷ Ld ∷ Lbu ∷ Lhu ∷ Lwu ∷ Sb ∷ Sh ∷ Sw ∷ Sd ∷ Addi ∷ Slti ∷ Sltiu ∷ Xori ∷ Ori ∷ Andi ∷ Slli ∷ Srli ∷ Srai ∷ Add ∷ Sll ∷ Slt ∷ Sltu ∷ Xor ∷ Srl ∷ Or ∷ And ∷ Sub ∷ Sra ∷ Addiw ∷ Slliw ∷ Srliw ∷ Sraiw ∷ Addw ∷ Sllw ∷ Srlw ∷ Subw ∷ Sraw ∷ Fence ∷ Ecall ∷ Ebreak ∷ []
 
 -- the rows of the instruction table (RV64I 2.1)
 abbrev pub table : List Row
-table = filter_map row_of ops
-
--- whether the row is of this op, by the comparison that ops derive (this project)
-unfoldable pub is_for : Op → Row → Bool
-is_for op r = ghosts.eq r.op op
+table = map row_of ops

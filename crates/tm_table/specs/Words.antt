@@ -1,5 +1,5 @@
 -- Words and instructions.
-use Rattle.std.specs.Prelude.{◌≡◌, ℕ, ◌+◌, ◌-◌, ◌*◌, ◌/◌, ◌%◌, ◌^◌, ◌<◌, ℤ, pos, negsuc, ◌≤ℤ◌, Bool, true, ◌&&◌, nat_lt, ◌==◌, Option, None, Some, option_map, find, if◌then◌else◌}
+use Rattle.std.specs.Prelude.{◌≡◌, ℕ, ◌+◌, ◌-◌, ◌*◌, ◌/◌, ◌%◌, ◌^◌, ◌<◌, ℤ, pos, negsuc, ◌≤ℤ◌, Bool, true, ◌&&◌, nat_lt, ◌==◌, Option, option_map, find, if◌then◌else◌}
 use Rattle.tm_table.specs.declared.instr.Op.{Op}
 use Rattle.tm_table.specs.declared.table.Layout.{Layout}
 use Rattle.tm_table.specs.declared.table.Layout.TheVariants.{R, I, S, B, U, J, Shift6, Shift5, Order, Whole}
@@ -108,14 +108,13 @@ parts_as Shift5 r i = let n = low 5 i.imm in record { opcode = r.opcode; rd = i.
 parts_as Order r i = let n = low 8 i.imm in record { opcode = r.opcode; rd = 0; funct3 = r.funct3; rs1 = 0; rs2 = n % 32; bit25 = n / 32 % 2; funct6 = n / 64 }
 parts_as Whole r i = record { opcode = r.opcode; rd = 0; funct3 = r.funct3; rs1 = 0; rs2 = r.extra; bit25 = 0; funct6 = r.funct6 }
 
--- the word of an instruction under its op's row; 0 without a row (RV64I 2.1)
-abbrev pub word_by : Option Row → Instr → ℕ
-word_by None i = 0
-word_by (Some r) i = join (parts_as r.layout r i)
+-- the parts of an instruction's word, by its op's row (RV64I 2.1)
+abbrev pub parts_of : Instr → Fields
+parts_of i = let r = row_of i.op in parts_as r.layout r i
 
--- the word of an instruction (RV64I 2.1); 0, which is no instruction's word, where the op has no row
+-- the word of an instruction (RV64I 2.1)
 unfoldable pub word_of : Instr → ℕ
-word_of i = word_by (row_of i.op) i
+word_of i = join (parts_of i)
 
 -- the instruction whose word has these parts: of the row that the word is of, or none (RV64I 2.1)
 unfoldable pub decoded : Fields → Option Instr
@@ -141,11 +140,6 @@ FitsAs Shift5 i = (i.rd < 32) × (i.rs1 < 32) × (i.rs2 ≡ 0) × From (pos 0) (
 FitsAs Order i = (i.rd ≡ 0) × (i.rs1 ≡ 0) × (i.rs2 ≡ 0) × From (pos 0) (pos 255) i.imm
 FitsAs Whole i = (i.rd ≡ 0) × (i.rs1 ≡ 0) × (i.rs2 ≡ 0) × (i.imm ≡ pos 0)
 
--- the fields are in the ranges of the op's row; nothing fits without a row (RV64I 2.1)
-abbrev pub FitsBy : Option Row → Instr → Type 0
-FitsBy None i = ⊥
-FitsBy (Some r) i = FitsAs r.layout i
-
--- the instruction has a row, and its fields are in the row's ranges (RV64I 2.1)
+-- the fields are in the ranges of the op's row (RV64I 2.1)
 unfoldable pub Fits : Instr → Type 0
-Fits i = FitsBy (row_of i.op) i
+Fits i = FitsAs (row_of i.op).layout i

@@ -1,21 +1,19 @@
 ghost use Rattle.std.specs.Prelude.{◌≡◌, ◌≢◌, ◌↔◌, ◌+◌, ◌<◌, ◌^◌, find, IfSome, IsNone, IsTrue, Some};
 ghost use Rattle.tm_table.specs.declared.instr.Instr.{Instr as TheInstr};
 ghost use Rattle.tm_table.specs.declared.table.Layout.TheVariants.{R, I, S, B, U, J};
-ghost use Rattle.tm_table.specs.Table.{is_for as row_is_for, table};
+ghost use Rattle.tm_table.specs.Table.{row_of as own_row_of, table};
 ghost use Rattle.tm_table.specs.Words.{split as parts_of_word, join as joined, decoded, word_of, Fits, FitsAs, InRange, From, imm_s, imm_b, imm_u, imm_j, read_as as instr_of, parts_as as parts_by, is_of as row_is_of, signed as signed_number};
 
 use crate::instr::{Instr, Op};
 use crate::table::{Fields, Layout, ROWS, Row};
 
-/// Whether the op has a row and all fields are in its ranges: registers below 32, the immediate as wide
-/// as the layout has it, branch and jump offsets even, and 0 in each field that the op doesn't have.
+/// Whether all fields are in the ranges of the op's row: registers below 32, the immediate as wide as the
+/// layout has it, branch and jump offsets even, and 0 in each field that the op doesn't have.
+#[tactic(auto, unfolding(crate::specs::Words::Fits))]
 pub fn fits(i: Instr) -> bool
     ensures { IsTrue result ↔ Fits i }
 {
-    match row_of(i.op) {
-        Some(row) => fits_as(row.layout, i),
-        None => false,
-    }
+    fits_as(row_of(i.op).layout, i)
 }
 
 /// The instruction that has the word, or none where no row of the table has it (RV64I 2.1).
@@ -38,25 +36,14 @@ pub fn encode(i: Instr) -> u32
     ensures back { decoded (parts_of_word (word_of i)) ≡ Some i }
     ensures range { word_of i < 2 ^ 32 }
 {
-    match row_of(i.op) {
-        Some(row) => join(parts_as(row, i)),
-        // an instruction without a row doesn't fit
-        None => 0,
-    }
+    join(parts_as(row_of(i.op), i))
 }
 
-/// The row of the op, or none where it has no row.
-fn row_of(op: Op) -> Option<Row>
-    ensures { result ≡ find (λ r. row_is_for op r) table }
+/// The row of the op.
+fn row_of(op: Op) -> Row
+    ensures { result ≡ own_row_of op }
 {
-    ROWS.iter().copied().find(|row| is_for(op, row))
-}
-
-#[tactic(auto, unfolding(crate::specs::Table::is_for))]
-fn is_for(op: Op, row: &Row) -> bool
-    ensures { result ≡ row_is_for op row.now }
-{
-    row.op == op
+    ROWS[op as usize]
 }
 
 /// The row that a word with these parts is of, or none where it is of no row.

@@ -3,12 +3,15 @@
 
 mod coding;
 mod instr;
+mod numbers;
 mod state;
+mod step;
 mod table;
 
 pub use coding::{decode, encode, fits};
 pub use instr::{Instr, Op};
 pub use state::{Access, Cpu};
+pub use step::{exec, needs_read};
 
 #[cfg(test)]
 mod tests;
