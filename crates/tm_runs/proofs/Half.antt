@@ -311,10 +311,16 @@ module _ (p : Program) (h : ℕ) (first : Hart) (sizes : Sizes p) (low-number : 
 
   -- ---- a step in a stream
 
-  stream-access : (a : Access) → Writes (λ b. IsTrue (is_window b)) a → StreamAccess (world_of p h) a
-  stream-access Quiet w = tt
-  stream-access (Read addr width value) w = tt
-  stream-access (Write addr width value) w = w
+  some-bytes : (width : ℕ) → ((width ≡ 1) ⊎ ((width ≡ 2) ⊎ ((width ≡ 4) ⊎ (width ≡ 8)))) → 1 ≤ width
+  some-bytes width (inl e) = omega arith
+  some-bytes width (inr (inl e)) = omega arith
+  some-bytes width (inr (inr (inl e))) = omega arith
+  some-bytes width (inr (inr (inr e))) = omega arith
+
+  stream-access : (a : Access) → HasShape a → Writes (λ b. IsTrue (is_window b)) a → StreamAccess (world_of p h) a
+  stream-access Quiet s w = tt
+  stream-access (Read addr width value) s w = tt
+  stream-access (Write addr width value) s w = (some-bytes width s.0, w)
 
   stream-bytes : (a : Access) → Writes (λ b. IsTrue (is_window b)) a → (c i : ℕ) → is_private_dword h c ≡ true → i < 8 → written a (c + i) ≡ None
   stream-bytes Quiet w c i e l = refl
@@ -342,7 +348,7 @@ module _ (p : Program) (h : ℕ) (first : Hart) (sizes : Sizes p) (low-number : 
               log = refl;
               from = f.place ∙ sym k.pc;
               next = refl;
-              access = stream-access (access_of s) f.stores;
+              access = stream-access (access_of s) f.shape f.stores;
               regs = λ r. sym (regs r);
               fits = λ r. subst (λ (n : ℕ). n < 2 ^ 64) (sym (regs r)) (f.fits r);
               kept = λ r l. regs r ∙ (f.bases r l ∙ sym (k.regs r));
