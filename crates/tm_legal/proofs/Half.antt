@@ -7,6 +7,8 @@ use Rattle.tm_table.specs.declared.state.Access.TheVariants.{Quiet, Read, Write}
 use Rattle.tm_table.specs.State.{Hart}
 use Rattle.tm_plan.specs.declared.program.Program.{Program}
 use Rattle.tm_plan.specs.Map.{text_base, within, windows_base, windows_size}
+use Rattle.tm_plan.specs.declared.cases.Stream.{Stream}
+use Rattle.tm_world.specs.Writers.{stream_in}
 use Rattle.tm_world.specs.Place.{harts, is_text, is_table, is_window, byte_of}
 use Rattle.tm_world.specs.Run.{Step, own, now, first_state, hart_of, access_of, written, Reads, Writes}
 use Rattle.tm_world.specs.Kinds.{IsOpening, Path, Follows, Legal, HalfPath, HalfStep, stream_at, half_owed, legal_owed, phase_of}
@@ -75,19 +77,19 @@ pub known-before : (p : Program) (h : ℕ) (first : Hart) (s : Step) (past : Lis
 known-before p h first s past k = record { half = k.half.1; path = k.path.1; strays = no_stray-before p h first s past k.strays; fresh = k.fresh.1; spares = k.spares.1 }
 
 -- inside a stream it moves as said
-pub known-moves : (p : Program) → Formed p → (h : ℕ) → h < harts p → (x : List ℕ) → IsOpening h x → (own : List Step) → Known p h (first_state x) own → (s : Step) → Follows p h (now (first_state x) own) s → (c : ℕ) → stream_at p h (now (first_state x) own).pc ≡ Some c → Moves p h c (now (first_state x) own) s
+pub known-moves : (p : Program) → Formed p → (h : ℕ) → h < harts p → (x : List ℕ) → IsOpening h x → (own : List Step) → Known p h (first_state x) own → (s : Step) → Follows p h (now (first_state x) own) s → (c : ℕ) → stream_at p h (now (first_state x) own).pc ≡ Some c → (stream : Stream) × (stream_in p.cases c h ≡ Some stream) × Moves p h c stream (now (first_state x) own) s
 known-moves p formed h number x o own k s f c e =
     let (i, few) = stream-some p h (now (first_state x) own).pc c e in
     let (stream, is) = stream-of p.cases c h formed.cases few number in
     let bases = based p formed h number x own k.half k.strays k.fresh c few i in
-    moves p formed h c stream number is (now (first_state x) own) s (path-machine p h x o own k.path) bases i f
+    (stream, is, moves p formed h c stream number is (now (first_state x) own) s (path-machine p h x o own k.path) bases i f)
 
 step : (p : Program) → Formed p → (h : ℕ) → h < harts p → (x : List ℕ) → IsOpening h x → (own : List Step) → Known p h (first_state x) own → (s : Step) → Follows p h (now (first_state x) own) s → Reads (half_owed p h own) (access_of s) → HalfStep p h (stream_at p h (now (first_state x) own).pc) (now (first_state x) own) own s
 step p formed h number x o own k s f r = by (stream_at p h (now (first_state x) own).pc) refl
   where
     by : (d : Option ℕ) → stream_at p h (now (first_state x) own).pc ≡ d → HalfStep p h d (now (first_state x) own) own s
     by None e = (f, r)
-    by (Some c) e = (known-moves p formed h number x o own k s f c e).free
+    by (Some c) e = (known-moves p formed h number x o own k s f c e).2.free
 
 module _ (p : Program) (formed : Formed p) (h : ℕ) (number : h < harts p) (tame : Tame p h) (o : ℕ → List ℕ) (opens : (g : ℕ) → g < harts p → IsOpening g (o g)) where
   known : (steps : List Step) → HalfPath p h (first_state (o h)) (own h steps) → Path p h (first_state (o h)) (own h steps) → Known p h (first_state (o h)) (own h steps)

@@ -4,13 +4,15 @@ use Rattle.std.specs.Prelude.{IsTrue, slice_index, if◌then◌else◌}
 use Rattle.std.proofs.lemmas.List.Elements.{All-contains}
 use Rattle.tm_table.specs.declared.instr.Instr.{Instr}
 use Rattle.tm_table.specs.declared.state.Access.{Access}
+use Rattle.tm_table.specs.declared.state.Access.TheVariants.{Quiet, Read, Write}
 use Rattle.tm_table.specs.State.{Hart}
 use Rattle.tm_table.specs.Words.{low}
 use Rattle.tm_table.specs.Row.{Effect, Gives, Loads, Stores, Branches, Jumps, effect, word64, row, after}
 use Rattle.tm_plan.specs.declared.program.Program.{Program}
 use Rattle.tm_plan.specs.declared.cases.Stream.{Stream}
 use Rattle.tm_plan.specs.Map.{window_at, within}
-use Rattle.tm_plan.specs.Slots.{instr_of, load_width, store_width, is_access, is_jump, slot_addr, slot_target}
+use Rattle.tm_plan.specs.Slots.{instr_of, load_width, store_width, is_access, is_jump, slot_addr, slot_target, stores_to}
+use Rattle.tm_plan.specs.Collected.{is_declared}
 use Rattle.tm_plan.specs.Shaped.{IsShapedWindow}
 use Rattle.tm_world.specs.Place.{harts, start_of, end_of, inside, is_window}
 use Rattle.tm_world.specs.Run.{Step, access_of, HasShape, Writes, read_value}
@@ -20,7 +22,7 @@ use Rattle.tm_runs.proofs.Rows.{row-decoded}
 use Rattle.tm_runs.proofs.Bytes.{within-true}
 use Rattle.tm_legal.specs.Tame.{Formed}
 use Rattle.tm_legal.proofs.Rows.{IsOfKind, of-kind, IsMachine, after-machine, after-others}
-use Rattle.tm_legal.proofs.Streams.{Slot, slot-at, IsBased, Onward, next, goes-on, declared-window}
+use Rattle.tm_legal.proofs.Streams.{Slot, slot-at, IsBased, Onward, next, goes-on, declared-window, window-declared}
 
 -- a row's step, with the effect by its op's kind
 pub record Rowed (hart : Hart) (s : Step) (i : Instr) : Type 0 where
@@ -48,6 +50,17 @@ follows-machine p h hart s m f =
     let access = ap (λ (q : Hart × Access). q.1) r.result in
     subst IsMachine (ap (λ (q : Hart × Access). q.0) r.result)
     (after-machine i.op hart.pc (slice_index hart.x i.rs1) r.effects hart i.rd (low 64 i.imm) (read_value (access_of s)) r.kind m (subst HasShape (sym access) f.shape))
+
+-- b is a shared byte that the instruction stores to
+pub record IsCovered (p : Program) (i : Instr) (b : ℕ) : Type 0 where
+  pub store : IsTrue (stores_to b i)
+  pub declared : IsTrue (is_declared p.cases b)
+  pub window : IsTrue (is_window b)
+
+pub writes-map : (P Q : ℕ → Type 0) (a : Access) → ((b : ℕ) → P b → Q b) → Writes P a → Writes Q a
+writes-map P Q Quiet f w = tt
+writes-map P Q (Read addr width value) f w = tt
+writes-map P Q (Write addr width value) f w = λ i l. f (addr + i) (w i l)
 
 module _ (p : Program) (formed : Formed p) (h c : ℕ) (stream : Stream) (hart : Hart) (w : ℕ) (slot : Slot p h c stream hart.pc w) where
   abbrev Lands : ℕ → Type 0
@@ -84,25 +97,34 @@ module _ (p : Program) (formed : Formed p) (h c : ℕ) (stream : Stream) (hart :
       let base : slice_index hart.x r ≡ window_at (r - 28) = ap (λ (k : ℕ). slice_index hart.x k) (sym sum) ∙ based (r - 28) (omega (arith, placed.base)) in
       ap (λ (b : ℕ). word64 (b + low 64 slot.instr.imm)) base
 
-  stores : IsBased hart → (e : Effect) (read : ℕ) → IsOfKind slot.instr.op hart.pc (slice_index hart.x slot.instr.rs1) (low 64 slot.instr.imm) e → Writes (λ b. IsTrue (is_window b)) (after e hart slot.instr.rd (low 64 slot.instr.imm) read).1
-  unfolding after
-  stores based (Gives value) read k = tt
-  stores based (Loads addr width with_sign) read k = tt
-  stores based (Branches taken) read k = tt
-  stores based (Jumps link goes) read k = tt
-  stores based (Stores addr width value) read k = λ j l.
+  covers : IsBased hart → (e : Effect) (read : ℕ) → IsOfKind slot.instr.op hart.pc (slice_index hart.x slot.instr.rs1) (low 64 slot.instr.imm) e → Writes (IsCovered p slot.instr) (after e hart slot.instr.rd (low 64 slot.instr.imm) read).1
+  unfolding after stores_to
+  covers based (Gives value) read k = tt
+  covers based (Loads addr width with_sign) read k = tt
+  covers based (Branches taken) read k = tt
+  covers based (Jumps link goes) read k = tt
+  covers based (Stores addr width value) read k = λ j l.
       let placed = slot.shaped.place k.3 in
-      let (v, among, number, covers) = placed.declared in
+      let (v, among, number, lines) = placed.declared in
       let at : addr ≡ slot_addr slot.instr = k.0 ∙ address based k.3 in
-      let b : within (slot_addr slot.instr) (load_width slot.instr.op + store_width slot.instr.op) (addr + j) ≡ true = within-true (slot_addr slot.instr) (load_width slot.instr.op + store_width slot.instr.op) (addr + j) (omega (arith, at)) (omega (arith, at, k.1)) in
-      declared-window p.cases.line (addr + j) v (All-contains (IsShapedWindow p.cases.line) p.cases.windows v formed.cases.windows among) (covers (addr + j) b)
+      let b = addr + j in
+      let mine : within (slot_addr slot.instr) (store_width slot.instr.op) b ≡ true = within-true (slot_addr slot.instr) (store_width slot.instr.op) b (omega (arith, at)) (omega (arith, at, k.1)) in
+      let both : within (slot_addr slot.instr) (load_width slot.instr.op + store_width slot.instr.op) b ≡ true = within-true (slot_addr slot.instr) (load_width slot.instr.op + store_width slot.instr.op) b (omega (arith, at)) (omega (arith, at, k.1)) in
+      record {
+        store = mine;
+        declared = window-declared p.cases b v among (lines b both);
+        window = declared-window p.cases.line b v (All-contains (IsShapedWindow p.cases.line) p.cases.windows v formed.cases.windows among) (lines b both);
+      }
 
 -- what a legal step inside stream (h, c) is
-pub record Moves (p : Program) (h c : ℕ) (hart : Hart) (s : Step) : Type 0 where
+pub record Moves (p : Program) (h c : ℕ) (stream : Stream) (hart : Hart) (s : Step) : Type 0 where
   pub free : Free p h c hart s
   pub onward : Onward hart.pc (start_of p h c) (end_of p h c) s.after.pc
+  -- the slot that it makes, and the bytes that it stores to
+  pub slot : Slot p h c stream hart.pc s.event.word
+  pub covered : Writes (IsCovered p slot.instr) (access_of s)
 
-pub moves : (p : Program) → Formed p → (h c : ℕ) (stream : Stream) → h < harts p → stream_in p.cases c h ≡ Some stream → (hart : Hart) (s : Step) → IsMachine hart → IsBased hart → inside p h c hart.pc ≡ true → Follows p h hart s → Moves p h c hart s
+pub moves : (p : Program) → Formed p → (h c : ℕ) (stream : Stream) → h < harts p → stream_in p.cases c h ≡ Some stream → (hart : Hart) (s : Step) → IsMachine hart → IsBased hart → inside p h c hart.pc ≡ true → Follows p h hart s → Moves p h c stream hart s
 moves p formed h c stream l e hart s m based i f =
     let slot = slot-at p formed h c stream l e hart.pc s.event.word i f.word in
     let r = rowed p h hart s slot.instr m f slot.is in
@@ -115,11 +137,12 @@ moves p formed h c stream l e hart s m based i f =
     subst (λ (x : Hart). Onward hart.pc (start_of p h c) (end_of p h c) x.pc) hart-is
     (subst (λ (z : ℕ). Onward hart.pc (start_of p h c) z (after r.effects hart slot.instr.rd n read).0.pc) (sym slot.long)
     (lands p formed h c stream hart s.event.word slot r.effects (slice_index hart.x slot.instr.rs1) read r.kind)) in
+    let covered : Writes (IsCovered p slot.instr) (access_of s) = subst (Writes (IsCovered p slot.instr)) access-is (covers p formed h c stream hart s.event.word slot based r.effects read r.kind) in
     record {
       free = record {
         place = f.place;
         shape = f.shape;
-        stores = subst (Writes (λ b. IsTrue (is_window b))) access-is (stores p formed h c stream hart s.event.word slot based r.effects read r.kind);
+        stores = writes-map (IsCovered p slot.instr) (λ b. IsTrue (is_window b)) (access_of s) (λ b q. q.window) covered;
         count = machine.count;
         fits = machine.fits;
         zero = machine.zero ∙ sym m.zero;
@@ -129,4 +152,6 @@ moves p formed h c stream l e hart s m based i f =
         counter = machine.counter;
       };
       onward = on;
+      slot = slot;
+      covered = covered;
     }

@@ -1,7 +1,7 @@
 -- The streams of a formed program: where a slot stands, and what a legal step of it does.
-use Rattle.std.proofs.Common.{◌≡◌, ℕ, ◌+◌, ◌-◌, ◌*◌, ◌/◌, ◌%◌, ◌^◌, ◌<◌, ◌≤◌, List, length, Bool, true, false, ◌&&◌, ◌==◌, Option, None, Some, ◌⊎◌, inl, inr, refl, sym, ap, ◌∙◌, subst, arith, eqb-true, get_or}
-use Rattle.std.specs.Prelude.{All, slice_index, slice_get, if◌then◌else◌}
-use Rattle.std.proofs.lemmas.Bool.{and_parts, leb-true, ltb-true}
+use Rattle.std.proofs.Common.{◌≡◌, ℕ, ◌+◌, ◌-◌, ◌*◌, ◌/◌, ◌%◌, ◌^◌, ◌<◌, ◌≤◌, List, [], ◌∷◌, zero, suc, length, Bool, true, false, ◌&&◌, ◌==◌, Option, None, Some, ◌⊎◌, inl, inr, refl, sym, ap, ◌∙◌, subst, arith, eqb-true, get_or}
+use Rattle.std.specs.Prelude.{All, Contains, slice_index, slice_get, if◌then◌else◌}
+use Rattle.std.proofs.lemmas.Bool.{and_parts, or_left, or_right, leb-true, ltb-true}
 use Rattle.std.proofs.lemmas.Option.{slice_get_cases, slice_get_within, get_or_from_slice_get, slice_get-get_or}
 use Rattle.tm_table.specs.declared.instr.Instr.{Instr}
 use Rattle.tm_table.specs.State.{Hart}
@@ -13,7 +13,7 @@ use Rattle.tm_plan.specs.declared.cases.Stream.{Stream}
 use Rattle.tm_plan.specs.declared.cases.Window.{Window}
 use Rattle.tm_plan.specs.Map.{text_base, window_at, windows_base, windows_size}
 use Rattle.tm_plan.specs.Slots.{instr_of}
-use Rattle.tm_plan.specs.Collected.{declares}
+use Rattle.tm_plan.specs.Collected.{any, is_declared, declares}
 use Rattle.tm_plan.specs.Shaped.{IsShapedSlot, IsShapedStream, IsShapedCase, IsShapedWindow, AreShaped}
 use Rattle.tm_world.specs.Place.{harts, start_of, end_of, inside, is_text, is_window, word_at}
 use Rattle.tm_world.specs.Writers.{stream_in}
@@ -137,3 +137,13 @@ unfolding window_at windows_base windows_size
 declared-window line b w s e =
     let q = within-parts (window_at w.number) (w.lines * line) b e in
     within-true windows_base windows_size b (omega (arith, s.number, s.few, q)) (omega (arith, s.number, s.few, q))
+
+any-one : (test : Window → Bool) (ws : List Window) (w : Window) (k : ℕ) → k < length ws → get_or ws k w ≡ w → test w ≡ true → any test ws ≡ true
+any-one test [] w k l e t = absurd (omega arith)
+any-one test (v ∷ ws) w zero l e t = or_left (test v) (any test ws) (ap test e ∙ t)
+any-one test (v ∷ ws) w (suc k) l e t = or_right (test v) (any test ws) (any-one test ws w k (omega arith) e t)
+
+-- and shared bytes
+pub window-declared : (cases : Cases) (b : ℕ) (w : Window) → Contains cases.windows w → declares cases.line b w ≡ true → is_declared cases b ≡ true
+unfolding is_declared
+window-declared cases b w c e = any-one (declares cases.line b) cases.windows w c.0 c.1 c.2 e

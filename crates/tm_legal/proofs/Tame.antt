@@ -1,25 +1,19 @@
 -- A hart that keeps the course is tame.
-use Rattle.std.proofs.Common.{◌≡◌, ℕ, ◌+◌, ◌%◌, List, [], ◌∷◌, ◌||◌, Option, None, Some}
+use Rattle.std.proofs.Common.{◌≡◌, ℕ, ◌%◌, List, [], ◌∷◌, ◌||◌, Option, None, Some}
 use Rattle.std.specs.Prelude.{IsTrue, IsFalse}
-use Rattle.tm_table.specs.declared.state.Access.{Access}
-use Rattle.tm_table.specs.declared.state.Access.TheVariants.{Quiet, Read, Write}
 use Rattle.tm_table.specs.State.{Hart}
 use Rattle.tm_plan.specs.declared.program.Program.{Program}
 use Rattle.tm_plan.specs.Collected.{is_declared}
 use Rattle.tm_world.specs.Writers.{may_write}
 use Rattle.tm_world.specs.Place.{exit_of, is_text, is_table}
-use Rattle.tm_world.specs.Run.{Step, now, access_of, phase, Writes}
+use Rattle.tm_world.specs.Run.{Step, now, access_of, phase}
 use Rattle.tm_world.specs.Kinds.{stream_at}
 use Rattle.tm_world.specs.Course.{KeepsWrites, OutsideWrites}
 use Rattle.tm_runs.specs.World.{Sizes}
 use Rattle.tm_legal.specs.Tame.{OutsideSpares, SparesImage}
 use Rattle.tm_legal.specs.Laws.{CourseIsTame}
+use Rattle.tm_legal.proofs.Inside.{writes-map}
 use Rattle.tm_legal.proofs.Areas.{may-spares}
-
-pub writes-map : (P Q : ℕ → Type 0) (a : Access) → ((b : ℕ) → P b → Q b) → Writes P a → Writes Q a
-writes-map P Q Quiet f w = tt
-writes-map P Q (Read addr width value) f w = tt
-writes-map P Q (Write addr width value) f w = λ i l. f (addr + i) (w i l)
 
 outside : (p : Program) (h : ℕ) → Sizes p → (o : Option ℕ) (q : ℕ) (s : Step) → OutsideWrites p h o q s → OutsideSpares p o s
 outside p h sizes None q s w = writes-map (λ b. IsTrue (may_write p q h b) × (q % 2 ≡ 1 → IsFalse (is_declared p.cases b))) (λ b. IsFalse (is_text p b || is_table p b)) (access_of s) (λ b m. may-spares p q h b sizes m.0) w

@@ -58,7 +58,7 @@ weight-way f p e =
 abbrev three : ℕ → List Mark
 three c = Enter c ∷ End c ∷ Stray c ∷ []
 
-weight-those : (f : Mark → ℕ) (met : Mark → Bool) (m : Mark) (ms : List Mark) → weight f (those met (m ∷ ms)) ≡ (if met m then f m else 0) + weight f (those met ms)
+pub weight-those : (f : Mark → ℕ) (met : Mark → Bool) (m : Mark) (ms : List Mark) → weight f (those met (m ∷ ms)) ≡ (if met m then f m else 0) + weight f (those met ms)
 weight-those f met m ms = by (met m)
   where
     by : (b : Bool) → weight f (if b then m ∷ those met ms else those met ms) ≡ (if b then f m else 0) + weight f (those met ms)
@@ -69,7 +69,7 @@ module _ (f : Mark → ℕ) (met : Mark → Bool) where
   abbrev pub met-weight : Mark → ℕ
   met-weight m = if met m then f m else 0
 
-  weight-three : (c : ℕ) (ms : List Mark) → weight f (those met (Enter c ∷ End c ∷ Stray c ∷ ms)) ≡ met-weight (Enter c) + met-weight (End c) + met-weight (Stray c) + weight f (those met ms)
+  pub weight-three : (c : ℕ) (ms : List Mark) → weight f (those met (Enter c ∷ End c ∷ Stray c ∷ ms)) ≡ met-weight (Enter c) + met-weight (End c) + met-weight (Stray c) + weight f (those met ms)
   weight-three c ms =
       let a = weight-those f met (Enter c) (End c ∷ Stray c ∷ ms) in
       let b = weight-those f met (End c) (Stray c ∷ ms) in

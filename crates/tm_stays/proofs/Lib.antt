@@ -1,2 +1,5 @@
 pub mod Stays
 pub mod Alike
+pub mod Fronts
+pub mod Turns
+pub mod Right

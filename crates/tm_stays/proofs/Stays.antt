@@ -113,7 +113,7 @@ module _ (p : Program) (formed : Formed p) (h : ℕ) (number : h < harts p) (x :
   before = known-before p h (first_state x) s past k
 
   moved : (d : ℕ) → stream_at p h from ≡ Some d → Onward from (start_of p h d) (end_of p h d) to
-  moved d e = (known-moves p formed h number x o past before s k.path.0 d e).onward
+  moved d e = (known-moves p formed h number x o past before s k.path.0 d e).2.onward
 
   -- a stream that the hart is inside
   stays : (c d : ℕ) → stream_at p h from ≡ Some d → inside p h c from ≡ true → left p h c to + done (Some d) c ≤ left p h c from

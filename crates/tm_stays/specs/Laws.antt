@@ -4,9 +4,12 @@ use Rattle.tm_table.specs.declared.instr.Instr.{Instr}
 use Rattle.tm_plan.specs.declared.program.Program.{Program}
 use Rattle.tm_plan.specs.declared.cases.Stream.{Stream}
 use Rattle.tm_plan.specs.Slots.{instr_of, load_width}
-use Rattle.tm_world.specs.Place.{harts, passes}
-use Rattle.tm_world.specs.Writers.{stream_in}
-use Rattle.tm_world.specs.Course.{OnHalf}
+use Rattle.tm_world.specs.Place.{harts, passes, exit_of}
+use Rattle.tm_world.specs.Run.{Run, now, phase}
+use Rattle.tm_world.specs.Writers.{stream_in, case_of_phase}
+use Rattle.tm_world.specs.Kinds.{Legal, stream_at}
+use Rattle.tm_world.specs.Course.{OnHalf, KeepsOrder, KeepsWrites}
+use Rattle.tm_world.specs.Whole.{WritesRight}
 use Rattle.tm_world.specs.Work.{work_steps}
 use Rattle.tm_world.specs.Verdict.{Register, end_value}
 use Rattle.tm_legal.specs.Tame.{Formed, Tame}
@@ -35,3 +38,13 @@ HasNoLoad stream = (n w : ℕ) (i : Instr) → slice_get stream.words n ≡ Some
 abbrev pub PassesAlike : Program → Type 0
 PassesAlike p = Formed p → (h : ℕ) → h < harts p → Tame p h → (c : ℕ) (stream : Stream) → stream_in p.cases c h ≡ Some stream → HasNoLoad stream
     → OnLegal p h (λ first own. (k k' x v v' : ℕ) → end_value p h c k first own (Register x) ≡ Some v → end_value p h c k' first own (Register x) ≡ Some v' → v ≡ v')
+
+-- On each half run a hart that keeps the order of its marks is inside a stream of a case only in the run phase of a pass of that case.
+abbrev pub StaysInPhase : Program → Type 0
+StaysInPhase p = Formed p → (h : ℕ) → h < harts p → OnHalf p h (KeepsOrder p h)
+    → OnHalf p h (λ first own. (c : ℕ) → stream_at p h (now first own).pc ≡ Some c → case_of_phase p (phase (exit_of p h) own) ≡ Some c)
+
+-- Where outside streams tame harts write only what they may on half runs, they write only that on legal runs, inside streams too.
+abbrev pub LegalWritesAreRight : Program → Type 0
+LegalWritesAreRight p = Formed p → ((h : ℕ) → h < harts p → Tame p h) → ((h : ℕ) → h < harts p → OnHalf p h (KeepsWrites p h))
+    → (r : Run) → Legal p r → WritesRight p r

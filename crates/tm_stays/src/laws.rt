@@ -1,5 +1,5 @@
 // Laws over the definitions, each as the contract of a function that does nothing.
-ghost use Rattle.tm_stays.specs.Laws.{StaysShort, WorksLittle, EndsSoon, PassesAlike};
+ghost use Rattle.tm_stays.specs.Laws.{StaysShort, WorksLittle, EndsSoon, PassesAlike, StaysInPhase, LegalWritesAreRight};
 
 use tm_plan::Program;
 
@@ -15,6 +15,14 @@ pub fn short_stays(program: &Program)
 /// In two passes of a case a stream without loads is left with the same registers, on any legal run.
 pub fn passes_alike(program: &Program)
     ensures { PassesAlike program.now }
+{
+    let _ = program;
+}
+
+/// On half runs a hart is inside a stream in run phases of its case alone, and on legal runs all writes are of bytes that may be written.
+pub fn legal_writes(program: &Program)
+    ensures phase { StaysInPhase program.now }
+    ensures writes { LegalWritesAreRight program.now }
 {
     let _ = program;
 }
