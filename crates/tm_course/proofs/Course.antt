@@ -29,7 +29,7 @@ use Rattle.tm_runs.proofs.Bytes.{within-false}
 use Rattle.tm_runs.proofs.Worlds.{stopped}
 use Rattle.tm_runs.proofs.Paths.{always, told-log, goes-on, on-half, any-entries, count-entries, stands, visited-trail}
 use Rattle.tm_legal.specs.Tame.{SparesImage, OutsideSpares}
-use Rattle.tm_legal.proofs.Tame.{writes-map}
+use Rattle.tm_legal.proofs.Inside.{writes-map}
 use Rattle.tm_stays.specs.Stays.{outside_steps, one_outside}
 use Rattle.tm_course.specs.OneHart.{IsOfOneHart}
 use Rattle.tm_course.proofs.Ground.{Fact, is_out, reports, fresh_in, entry_at, start_at, end_at, halt_at, cell}

@@ -1,5 +1,5 @@
 -- A legal step inside a stream writes bytes of the windows alone, leaves x0 and x28 to x31, and goes forward, at most to the end.
-use Rattle.std.proofs.Common.{◌≡◌, ℕ, ◌+◌, ◌-◌, ◌*◌, ◌<◌, length, Bool, true, false, Some, sym, ap, ◌∙◌, subst, arith}
+use Rattle.std.proofs.Common.{refl, ◌≡◌, ℕ, ◌+◌, ◌-◌, ◌*◌, ◌<◌, length, Bool, true, false, Some, sym, ap, ◌∙◌, subst, arith}
 use Rattle.std.specs.Prelude.{IsTrue, slice_index, if◌then◌else◌}
 use Rattle.std.proofs.lemmas.List.Elements.{All-contains}
 use Rattle.tm_table.specs.declared.instr.Instr.{Instr}
@@ -7,6 +7,7 @@ use Rattle.tm_table.specs.declared.state.Access.{Access}
 use Rattle.tm_table.specs.declared.state.Access.TheVariants.{Quiet, Read, Write}
 use Rattle.tm_table.specs.State.{Hart}
 use Rattle.tm_table.specs.Words.{low}
+use Rattle.tm_table.proofs.Signs.{low-lt}
 use Rattle.tm_table.specs.Row.{Effect, Gives, Loads, Stores, Branches, Jumps, effect, word64, row, after}
 use Rattle.tm_plan.specs.declared.program.Program.{Program}
 use Rattle.tm_plan.specs.declared.cases.Stream.{Stream}
@@ -38,7 +39,7 @@ rowed p h hart s i m f is =
     let e = effect i.op hart.pc (slice_index hart.x i.rs1) (slice_index hart.x i.rs2) (low 64 i.imm) in
     record {
       effects = e;
-      kind = of-kind i.op hart.pc (slice_index hart.x i.rs1) (slice_index hart.x i.rs2) (low 64 i.imm) (m.fits i.rs1) (m.fits i.rs2);
+      kind = of-kind i.op hart.pc (slice_index hart.x i.rs1) (slice_index hart.x i.rs2) (low 64 i.imm) (m.fits i.rs1) (m.fits i.rs2) (low-lt 64 i.imm);
       result = subst (λ (k : Instr). row hart k (read_value (access_of s)) ≡ (s.after, access_of s)) same eq;
     }
 
@@ -80,11 +81,11 @@ module _ (p : Program) (formed : Formed p) (h c : ℕ) (stream : Stream) (hart :
   lands (Gives value) a read k = by-next
   lands (Loads addr width with_sign) a read k = by-next
   lands (Stores addr width value) a read k = by-next
-  lands (Branches taken) a read k = by taken
+  lands (Branches taken) a read k = by taken k
     where
-      by : (b : Bool) → Lands (if b then word64 (hart.pc + low 64 slot.instr.imm) else word64 (hart.pc + 4))
-      by true = by-jump k
-      by false = by-next
+      by : (b : Bool) → (b ≡ true → is_jump slot.instr.op ≡ true) → Lands (if b then word64 (hart.pc + low 64 slot.instr.imm) else word64 (hart.pc + 4))
+      by true j = by-jump (j refl)
+      by false j = by-next
   lands (Jumps link goes) a read k = let q = k.2 slot.shaped.allowed in subst Lands (sym q.1) (by-jump q.0)
 
   -- the address of an access is that of its slot

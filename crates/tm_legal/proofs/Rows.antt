@@ -1,14 +1,15 @@
 -- A row of the table leaves a machine state, and the effects of ops are those that their kinds say.
-use Rattle.std.proofs.Common.{◌≡◌, ◌≢◌, ℕ, zero, suc, ◌+◌, ◌^◌, ◌<◌, ◌≤◌, List, length, Bool, true, false, ◌⊎◌, inl, inr, refl, sym, ap, ◌∙◌, subst, arith}
+use Rattle.std.proofs.Common.{◌≡◌, ◌≢◌, ℕ, zero, suc, ◌+◌, ◌^◌, ◌<◌, ◌≤◌, List, length, Bool, true, false, true≢false, ◌⊎◌, inl, inr, refl, sym, ap, ◌∙◌, subst, arith}
 use Rattle.std.specs.Prelude.{slice_index, if◌then◌else◌}
 use Rattle.std.proofs.Math.ListN.{set}
 use Rattle.std.proofs.lemmas.Bool.{cases_eq, cases_lt}
 use Rattle.std.proofs.lemmas.List.{get_or-set_same, get_or-set_other, length-set, set_past}
 use Rattle.std.proofs.lemmas.Nat.{xor_lt, and_le_l}
 use Rattle.tm_table.specs.declared.instr.Op.{Op}
-use Rattle.tm_table.specs.declared.instr.Op.TheVariants.{Lui, Addi, Slli, Add, Xor, And, Ld, Sd, Beq, Bne, Jal}
+use Rattle.tm_table.specs.declared.instr.Op.TheVariants.{Jal, Jalr, Beq, Bne, Blt, Bge, Bltu, Bgeu, Lb, Lh, Lw, Ld, Lbu, Lhu, Lwu, Sb, Sh, Sw, Sd, Fence, Ecall, Ebreak}
 use Rattle.tm_table.specs.State.{Hart}
 use Rattle.tm_table.specs.Row.{Effect, Gives, Loads, Stores, Branches, Jumps, effect, word64, loaded, put, after}
+use Rattle.tm_table.proofs.Bounds.{effect-bounded}
 use Rattle.tm_table.proofs.Signs.{low-lt}
 use Rattle.tm_plan.specs.Slots.{load_width, store_width, is_access, is_barred, is_jump}
 use Rattle.tm_world.specs.Run.{HasShape, IsFitting}
@@ -50,23 +51,34 @@ abbrev pub IsOfKind : Op → ℕ → ℕ → ℕ → Effect → Type 0
 IsOfKind op pc a n (Gives value) = value < 2 ^ 64
 IsOfKind op pc a n (Loads addr width with_sign) = (addr ≡ word64 (a + n)) × (width ≡ load_width op) × (store_width op ≡ 0) × (is_access op ≡ true)
 IsOfKind op pc a n (Stores addr width value) = (addr ≡ word64 (a + n)) × (width ≡ store_width op) × (load_width op ≡ 0) × (is_access op ≡ true)
-IsOfKind op pc a n (Branches taken) = is_jump op ≡ true
+IsOfKind op pc a n (Branches taken) = taken ≡ true → is_jump op ≡ true
 IsOfKind op pc a n (Jumps link goes) = (link < 2 ^ 64) × (goes < 2 ^ 64) × (is_barred op ≡ false → (is_jump op ≡ true) × (goes ≡ word64 (pc + n)))
 
-pub of-kind : (op : Op) (pc a b n : ℕ) → a < 2 ^ 64 → b < 2 ^ 64 → IsOfKind op pc a n (effect op pc a b n)
+pub of-kind : (op : Op) (pc a b n : ℕ) → a < 2 ^ 64 → b < 2 ^ 64 → n < 2 ^ 64 → IsOfKind op pc a n (effect op pc a b n)
 unfolding effect
-of-kind Lui pc a b n p q = low-lt 64 _
-of-kind Addi pc a b n p q = word64-lt _
-of-kind Slli pc a b n p q = word64-lt _
-of-kind Add pc a b n p q = word64-lt _
-of-kind Xor pc a b n p q = xor_lt 64 a b p q
-of-kind And pc a b n p q = let le = and_le_l a b in omega arith
-of-kind Ld pc a b n p q = (refl, refl, refl, refl)
-of-kind Sd pc a b n p q = (refl, refl, refl, refl)
-of-kind Beq pc a b n p q = refl
-of-kind Bne pc a b n p q = refl
-of-kind Jal pc a b n p q = (word64-lt _, word64-lt _, λ _. (refl, refl))
-of-kind _ pc a b n p q = omega arith
+of-kind Lb pc a b n p q r = (refl, refl, refl, refl)
+of-kind Lh pc a b n p q r = (refl, refl, refl, refl)
+of-kind Lw pc a b n p q r = (refl, refl, refl, refl)
+of-kind Ld pc a b n p q r = (refl, refl, refl, refl)
+of-kind Lbu pc a b n p q r = (refl, refl, refl, refl)
+of-kind Lhu pc a b n p q r = (refl, refl, refl, refl)
+of-kind Lwu pc a b n p q r = (refl, refl, refl, refl)
+of-kind Sb pc a b n p q r = (refl, refl, refl, refl)
+of-kind Sh pc a b n p q r = (refl, refl, refl, refl)
+of-kind Sw pc a b n p q r = (refl, refl, refl, refl)
+of-kind Sd pc a b n p q r = (refl, refl, refl, refl)
+of-kind Beq pc a b n p q r = λ _. refl
+of-kind Bne pc a b n p q r = λ _. refl
+of-kind Blt pc a b n p q r = λ _. refl
+of-kind Bge pc a b n p q r = λ _. refl
+of-kind Bltu pc a b n p q r = λ _. refl
+of-kind Bgeu pc a b n p q r = λ _. refl
+of-kind Fence pc a b n p q r = λ e. absurd (true≢false (sym e))
+of-kind Ecall pc a b n p q r = λ e. absurd (true≢false (sym e))
+of-kind Ebreak pc a b n p q r = λ e. absurd (true≢false (sym e))
+of-kind Jal pc a b n p q r = (word64-lt _, word64-lt _, λ _. (refl, refl))
+of-kind Jalr pc a b n p q r = (word64-lt _, omega arith, λ e. absurd (true≢false e))
+of-kind op pc a b n p q r = effect-bounded op pc a b n p q r
 
 -- ---- machine states
 
