@@ -167,6 +167,7 @@ module _ (p : Program) (case : Case) (stream : Stream) (mask : CaseMask) (is : I
   pub sound : SoundSoFar p
   sound = record {
     program = is.program;
+    masks = is.checked;
     tables = is.tables;
     laid = laid;
     order = only (λ h. OnHalf p h (KeepsOrder p h)) (order p case stream mask is);

@@ -10,13 +10,16 @@ use Rattle.tm_world.specs.Place.{harts}
 use Rattle.tm_world.specs.Course.{OnHalf, KeepsOrder, EntersFresh, KeepsVerdicts, HasAllVerdicts}
 use Rattle.tm_world.specs.Whole.{Laid}
 use Rattle.tm_world.specs.Work.{Bound}
+use Rattle.tm_world.specs.Checked.{AreChecked}
 use Rattle.tm_course.specs.OneHart.{IsOfOneHart}
 
--- The parts of a sound program that are claimed so far: it is a program with the format's tables; its marks and streams stand where
+-- The parts of a sound program that are claimed so far: it is a program with exactly the checked
+-- masks and the format's tables; its marks and streams stand where
 -- they belong; on each half run each hart comes to its marks in order, enters its streams with fresh registers, and writes its
 -- verdicts as it should; and its steps are bounded.
 pub record SoundSoFar (p : Program) : Type 0 where
   pub program : IsProgram p
+  pub masks : AreChecked p.cases p.masks
   pub tables : p.tables ≡ table_bytes p.cases p.masks
   pub laid : Laid p
   pub order : (h : ℕ) → h < harts p → OnHalf p h (KeepsOrder p h)

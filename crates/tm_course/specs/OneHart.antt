@@ -1,5 +1,6 @@
 -- Programs of one hart with one case and two passes (this project's own).
-use Rattle.std.specs.Prelude.{◌≡◌, ℕ, ◌+◌, ◌-◌, ◌*◌, ◌^◌, ◌<◌, [], ◌∷◌, length, slice_index}
+use Rattle.std.specs.Prelude.{◌≡◌, ℕ, ◌+◌, ◌-◌, ◌*◌, ◌^◌, ◌<◌, [], ◌∷◌, length, slice_get, slice_index, Some}
+use Rattle.tm_table.specs.declared.instr.Instr.{Instr}
 use Rattle.tm_plan.specs.declared.cases.Case.{Case}
 use Rattle.tm_plan.specs.declared.cases.Stream.{Stream}
 use Rattle.tm_plan.specs.declared.cases.Kind2.TheVariants.{True}
@@ -7,12 +8,19 @@ use Rattle.tm_plan.specs.declared.masks.CaseMask.{CaseMask}
 use Rattle.tm_plan.specs.declared.program.Program.{Program}
 use Rattle.tm_plan.specs.Map.{text_base}
 use Rattle.tm_plan.specs.Shaped.{IsProgram}
+use Rattle.tm_plan.specs.Slots.{instr_of, load_width, store_width}
 use Rattle.tm_plan.specs.Tables.{table_bytes}
+use Rattle.tm_world.specs.Checked.{AreChecked}
 use Rattle.tm_runs.specs.World.{Sizes}
 use Rattle.tm_pass.specs.Hart.{hart_words, exit_place, start_place, halt_place}
 
+-- no word of the stream is a load or a store
+abbrev pub HasNoAccess : Stream → Type 0
+HasNoAccess stream = (n w : ℕ) (i : Instr) → slice_get stream.words n ≡ Some w → instr_of w ≡ Some i → (load_width i.op ≡ 0) × (store_width i.op ≡ 0)
+
 -- A program of one hart, with one case of one stream, two passes, and one line of 64 bytes of window 0: its text is the hart's words
--- around the stream, its marks are theirs, and its tables are those of its cases and masks.
+-- around the stream, its marks are theirs, and its tables are those of its cases and masks; the masks are the checked ones, and the
+-- stream neither loads nor stores.
 pub record IsOfOneHart (p : Program) (case : Case) (stream : Stream) (mask : CaseMask) : Type 0 where
   pub program : IsProgram p
   pub sizes : Sizes p
@@ -31,3 +39,5 @@ pub record IsOfOneHart (p : Program) (case : Case) (stream : Stream) (mask : Cas
   pub halts : p.marks.halts ≡ (text_base + 4 * (halt_place (length stream.words) - 1)) ∷ []
   pub text : p.text ≡ hart_words stream.words
   pub tables : p.tables ≡ table_bytes p.cases p.masks
+  pub checked : AreChecked p.cases p.masks
+  pub still : HasNoAccess stream
