@@ -34,7 +34,7 @@ use Rattle.tm_stays.specs.Stays.{outside_steps, one_outside}
 use Rattle.tm_course.specs.OneHart.{IsOfOneHart}
 use Rattle.tm_course.proofs.Ground.{Fact, is_out, reports, fresh_in, entry_at, start_at, end_at, halt_at, cell}
 use Rattle.tm_course.proofs.Laying.{one-case, shaped, start-is, end-is, halt-is, stream-in, stream-out}
-use Rattle.tm_course.proofs.Tables.{register-dword, base-dword, count-dword}
+use Rattle.tm_course.proofs.Tables.{register-dword, base-dword, count-dword, first-blank}
 use Rattle.tm_course.proofs.Grounded.{ground}
 use Rattle.tm_course.proofs.Behind.{Done}
 use Rattle.tm_course.proofs.Way.{both_passes, most_steps, keeps-way}
@@ -51,7 +51,7 @@ module _ (p : Program) (case : Case) (stream : Stream) (mask : CaseMask) (is : I
   image = image_dword p
 
   abbrev Told : State → Type 0
-  Told t = Good (arrivals p 0) (Fact size (fresh_in image)) (is_out size) both_passes most_steps t.log
+  Told t = Good (arrivals p 0) (Fact size image) (is_out size) both_passes most_steps t.log
 
   abbrev End' : State → Type 0
   End' = Done (world_of p 0) (arrivals p 0) size image (ground p case stream mask is) both_passes most_steps
@@ -61,7 +61,7 @@ module _ (p : Program) (case : Case) (stream : Stream) (mask : CaseMask) (is : I
 
   opens : (x : List ℕ) → IsOpening 0 x → Keeps (world_of p 0) Told End' (start p x)
   unfolding text_base
-  opens x o = keeps-way (world_of p 0) (arrivals p 0) size image (ground p case stream mask is) (base-dword p case stream mask is) (start p x) refl refl (count-dword p case stream mask is) (λ a _ _. refl) fits
+  opens x o = keeps-way (world_of p 0) (arrivals p 0) size image (ground p case stream mask is) (base-dword p case stream mask is) (first-blank p case stream mask is) (start p x) refl refl (count-dword p case stream mask is) (λ a _ _. refl) fits
     where
       fits : (r : ℕ) → get (λ r. slice_index x r) r < 2 ^ 64
       fits zero = omega arith
@@ -71,12 +71,12 @@ module _ (p : Program) (case : Case) (stream : Stream) (mask : CaseMask) (is : I
   stops t d = stopped p 0 t (ap (stream_at p 0) (halt-is p case stream mask is) ∙ stream-out p case stream mask is (halt_at size) (inr (omega arith))) (d.pc ∙ sym (halt-is p case stream mask is))
 
   -- what the log of each half run tells
-  tells : (H : List Entry → Type 0) → H [] → ((log : List Entry) → Good (arrivals p 0) (Fact size (fresh_in image)) (is_out size) both_passes most_steps log → H log) → (x : List ℕ) → IsOpening 0 x → (own : List Step) → HalfPath p 0 (first_state x) own → H (entries_of own)
+  tells : (H : List Entry → Type 0) → H [] → ((log : List Entry) → Good (arrivals p 0) (Fact size image) (is_out size) both_passes most_steps log → H log) → (x : List ℕ) → IsOpening 0 x → (own : List Step) → HalfPath p 0 (first_state x) own → H (entries_of own)
   tells H none f x o own path = told-log p 0 is.sizes few x o Told End' (opens x o) stops H none (λ t g. f t.log g) (λ t d. f t.log d.told) own path
 
   -- the fact of a step on a half run
-  fact-of : (x : List ℕ) → IsOpening 0 x → (past : List Step) (s : Step) → HalfPath p 0 (first_state x) (s ∷ past) → Fact size (fresh_in image) (entries_of past) (entry_of s)
-  fact-of x o past s path = (tells (Story (Fact size (fresh_in image))) tt (λ log g. g.sofar.story) x o (s ∷ past) path).0
+  fact-of : (x : List ℕ) → IsOpening 0 x → (past : List Step) (s : Step) → HalfPath p 0 (first_state x) (s ∷ past) → Fact size image (entries_of past) (entry_of s)
+  fact-of x o past s path = (tells (Story (Fact size image)) tt (λ log g. g.sofar.story) x o (s ∷ past) path).0
 
   place-of : (x : List ℕ) (past : List Step) (s : Step) → HalfPath p 0 (first_state x) (s ∷ past) → pc_of s ≡ (now (first_state x) past).pc
   place-of x past s path = stands p 0 (stream_at p 0 (now (first_state x) past).pc) (now (first_state x) past) past s path.0

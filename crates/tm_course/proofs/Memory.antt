@@ -30,6 +30,9 @@ stored-count mem new b m values e l h = ap (λ (f : Table). f count_at) e ∙ st
     by (inl p) = inl (omega arith)
     by (inr p) = inr (omega arith)
 
+pub stored-below : (mem new : Table) (b : ℕ) (values : List ℕ) → new ≡ stored_all mem b 0 values → (a : ℕ) → a < b → new a ≡ mem a
+stored-below mem new b values e a l = ap (λ (f : Table). f a) e ∙ stored-other values mem b 0 a (inl (omega arith))
+
 pub stored-tables : (mem new : Table) (b : ℕ) (values : List ℕ) → new ≡ stored_all mem b 0 values → tables_end ≤ b → (a : ℕ) → a + 8 ≤ tables_end → new a ≡ mem a
 stored-tables mem new b values e l a m = ap (λ (f : Table). f a) e ∙ stored-other values mem b 0 a (inl (omega arith))
 
