@@ -1,11 +1,11 @@
 -- What every run of the comparing words does, up to the number of the first dword that differs.
-use Rattle.std.proofs.Common.{◌≡◌, ◌≢◌, ℕ, zero, suc, ◌+◌, ◌-◌, ◌*◌, ◌/◌, ◌%◌, ◌^◌, ◌<◌, ◌≤◌, ◌⊎◌, inl, inr, Bool, true, false, List, [], ◌∷◌, ◌++◌, flat_map, refl, sym, ap, ap₂, ◌∙◌, arith, subst, append_assoc}
+use Rattle.std.proofs.Common.{◌≡◌, ◌≢◌, ℕ, zero, suc, ◌+◌, ◌-◌, ◌*◌, ◌%◌, ◌^◌, ◌<◌, ◌≤◌, ◌⊎◌, inl, inr, Bool, true, false, List, [], ◌∷◌, ◌++◌, flat_map, refl, sym, ap, ap₂, ◌∙◌, arith, subst, append_assoc}
 use Rattle.std.specs.Prelude.{bit_and, bit_xor}
 use Rattle.std.proofs.lemmas.Nat.{and_le_l, and_le_r, pow_below}
 use Rattle.tm_table.specs.declared.instr.Instr.{Instr}
 use Rattle.tm_table.specs.declared.state.Access.{Access}
 use Rattle.tm_plan.specs.Collected.{count_from}
-use Rattle.tm_runs.specs.Machine.{World, State, Table, put, get, computes, loaded}
+use Rattle.tm_runs.specs.Machine.{World, State, Table, get, computes, loaded}
 use Rattle.tm_runs.specs.Runs.{Takes, Now, At, Within}
 use Rattle.tm_runs.proofs.Compose.{takes_then, takes_more, takes_map}
 use Rattle.tm_runs.proofs.Steps.{step_addi, step_slli, step_and, step_xor, step_ld, step_beq, step_bne, branched}
@@ -13,7 +13,7 @@ use Rattle.tm_runs.proofs.Tables.{get_put_other}
 use Rattle.tm_blocks.specs.Instrs.{addi, slli, and, xor, ld, beq, bne}
 use Rattle.tm_blocks.specs.Compare.{register_check, dword_check, register_checks, dword_checks, checks}
 use Rattle.tm_blocks.specs.Verdict.{differs, first_from}
-use Rattle.tm_blocks.specs.Laws.{Among, Nowhere, Uses, Usable, ReadsBack, RegistersFit, Comparable, Compares, First, Other, Bytes}
+use Rattle.tm_blocks.specs.Laws.{Nowhere, Uses, RegistersFit, Comparable, Compares, First, Other, Bytes}
 use Rattle.tm_blocks.proofs.Dwords.{may_at, fit_put, fit_three, on_quiet, on_branch, on_read}
 use Rattle.tm_blocks.proofs.Verdicts.{dword_same, dword_other, register_unchecked, register_same, register_other, first_here, first_later}
 

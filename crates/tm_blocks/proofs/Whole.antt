@@ -1,19 +1,19 @@
 -- What every run of a whole comparison does.
-use Rattle.std.proofs.Common.{◌≡◌, ◌≢◌, ℕ, zero, suc, ◌+◌, ◌*◌, ◌%◌, ◌^◌, ◌<◌, ◌≤◌, ◌⊎◌, inl, inr, List, [], ◌∷◌, ◌++◌, length, refl, sym, ap, ◌∙◌, arith, subst, append_assoc, length-append, IsTrue}
+use Rattle.std.proofs.Common.{◌≡◌, ◌≢◌, ℕ, zero, suc, ◌+◌, ◌*◌, ◌^◌, ◌<◌, ◌≤◌, ◌⊎◌, inl, inr, List, [], ◌∷◌, ◌++◌, length, refl, sym, ap, ◌∙◌, arith, subst, length-append, IsTrue}
 use Rattle.tm_table.specs.declared.instr.Instr.{Instr}
 use Rattle.tm_table.specs.declared.state.Access.{Access}
 use Rattle.tm_table.specs.declared.state.Access.TheVariants.{Quiet, Read, Write}
-use Rattle.tm_runs.specs.Machine.{World, State, Entry, Table, put, get, computes, loaded}
+use Rattle.tm_runs.specs.Machine.{World, State, Entry, Table, put, get, computes}
 use Rattle.tm_runs.specs.Runs.{Takes, Now, At, Within, Each, Does, Since}
 use Rattle.tm_runs.proofs.Compose.{takes_then, takes_more, takes_map, within_map}
 use Rattle.tm_runs.proofs.Split.{takes_since}
 use Rattle.tm_runs.proofs.Steps.{step_addi, step_slli, step_add, step_ld, step_sd, step_beq, branched}
 use Rattle.tm_runs.proofs.Tables.{get_put_other, at_front, at_next}
-use Rattle.tm_blocks.specs.Instrs.{addi, slli, add, ld, sd, beq}
+use Rattle.tm_blocks.specs.Instrs.{addi, slli, ld, sd, beq}
 use Rattle.tm_blocks.specs.Blocks.{constant}
-use Rattle.tm_blocks.specs.Compare.{checks, verdict, compare, compare_but_last}
+use Rattle.tm_blocks.specs.Compare.{checks, verdict, compare_but_last}
 use Rattle.tm_blocks.specs.Verdict.{differs, first_from, above, verdict_number}
-use Rattle.tm_blocks.specs.Laws.{accesses, with_access, EachAccess, Among, Nowhere, Uses, Usable, ReadsBack, Changeable, RegistersFit, HasConstant, Comparable, Compares, Mask, verdict_in, HasVerdict, CompareButLastRuns, after_verdict, LastStoreRuns, HasCompared, CompareRuns}
+use Rattle.tm_blocks.specs.Laws.{accesses, with_access, EachAccess, Among, Nowhere, Uses, Usable, ReadsBack, RegistersFit, HasConstant, Comparable, Compares, Mask, verdict_in, HasVerdict, CompareButLastRuns, after_verdict, LastStoreRuns, HasCompared, CompareRuns}
 use Rattle.tm_blocks.proofs.Lengths.{length-constant, length-checks, length-compare_but_last, compare_parts}
 use Rattle.tm_blocks.proofs.Dwords.{may_at, fit_put, on_quiet, on_branch, on_read, quiet_uses, uses_map}
 use Rattle.tm_blocks.proofs.Constant.{constant_takes}

@@ -5,10 +5,9 @@
 use Rattle.std.specs.Prelude.{◌≡◌, ◌≢◌, ℕ, suc, ◌+◌, ◌*◌, ◌%◌, ◌^◌, ◌<◌, ◌≤◌, ◌⊎◌, List, [], ◌∷◌, ◌++◌, length, slice_index, map, false, IsTrue}
 use Rattle.tm_table.specs.declared.state.Access.{Access}
 use Rattle.tm_table.specs.declared.state.Access.TheVariants.{Quiet, Read, Write}
-use Rattle.tm_table.specs.Words.{word_of}
 use Rattle.tm_plan.specs.Collected.{count_from}
 use Rattle.tm_runs.specs.Machine.{Table, Entry, State, World, put, get, loaded, moved}
-use Rattle.tm_runs.specs.Runs.{Takes, At, Each, Within, IsQuiet}
+use Rattle.tm_runs.specs.Runs.{Takes, At, Within, IsQuiet}
 use Rattle.tm_blocks.specs.Instrs.{ld, sd}
 use Rattle.tm_blocks.specs.Blocks.{constant, load_registers, load_registers_but_last, save_registers, copy, collect}
 use Rattle.tm_blocks.specs.Compare.{compare, compare_but_last}
