@@ -138,7 +138,7 @@ declared-window line b w s e =
     let q = within-parts (window_at w.number) (w.lines * line) b e in
     within-true windows_base windows_size b (omega (arith, s.number, s.few, q)) (omega (arith, s.number, s.few, q))
 
-any-one : (test : Window → Bool) (ws : List Window) (w : Window) (k : ℕ) → k < length ws → get_or ws k w ≡ w → test w ≡ true → any test ws ≡ true
+pub any-one : (test : Window → Bool) (ws : List Window) (w : Window) (k : ℕ) → k < length ws → get_or ws k w ≡ w → test w ≡ true → any test ws ≡ true
 any-one test [] w k l e t = absurd (omega arith)
 any-one test (v ∷ ws) w zero l e t = or_left (test v) (any test ws) (ap test e ∙ t)
 any-one test (v ∷ ws) w (suc k) l e t = or_right (test v) (any test ws) (any-one test ws w k (omega arith) e t)

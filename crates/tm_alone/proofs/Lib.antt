@@ -1,0 +1,5 @@
+pub mod Entries
+pub mod Ways
+pub mod Settles
+pub mod Dwords
+pub mod Stay
