@@ -3,3 +3,5 @@ pub mod Ways
 pub mod Settles
 pub mod Dwords
 pub mod Stay
+pub mod Silent
+pub mod Sound
