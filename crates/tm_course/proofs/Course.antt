@@ -75,13 +75,13 @@ module _ (p : Program) (case : Case) (stream : Stream) (mask : CaseMask) (is : I
   tells H none f x o own path = told-log p 0 is.sizes few x o Told End' (opens x o) stops H none (λ t g. f t.log g) (λ t d. f t.log d.told) own path
 
   -- the fact of a step on a half run
-  fact-of : (x : List ℕ) → IsOpening 0 x → (past : List Step) (s : Step) → HalfPath p 0 (first_state x) (s ∷ past) → Fact size image (entries_of past) (entry_of s)
+  pub fact-of : (x : List ℕ) → IsOpening 0 x → (past : List Step) (s : Step) → HalfPath p 0 (first_state x) (s ∷ past) → Fact size image (entries_of past) (entry_of s)
   fact-of x o past s path = (tells (Story (Fact size image)) tt (λ log g. g.sofar.story) x o (s ∷ past) path).0
 
-  place-of : (x : List ℕ) (past : List Step) (s : Step) → HalfPath p 0 (first_state x) (s ∷ past) → pc_of s ≡ (now (first_state x) past).pc
+  pub place-of : (x : List ℕ) (past : List Step) (s : Step) → HalfPath p 0 (first_state x) (s ∷ past) → pc_of s ≡ (now (first_state x) past).pc
   place-of x past s path = stands p 0 (stream_at p 0 (now (first_state x) past).pc) (now (first_state x) past) past s path.0
 
-  steps : (P : List Step → Step → Type 0) → (x : List ℕ) → ((past : List Step) (s : Step) → HalfPath p 0 (first_state x) (s ∷ past) → P past s) → (own : List Step) → HalfPath p 0 (first_state x) own → Always P own
+  pub steps : (P : List Step → Step → Type 0) → (x : List ℕ) → ((past : List Step) (s : Step) → HalfPath p 0 (first_state x) (s ∷ past) → P past s) → (own : List Step) → HalfPath p 0 (first_state x) own → Always P own
   steps P x f own path = always p 0 (first_state x) P f own path
 
   -- ---- the order of the marks

@@ -14,3 +14,5 @@ pub mod Course
 pub mod Whole
 pub mod Notes
 pub mod FirstReads
+pub mod Owned
+pub mod Exact
