@@ -119,11 +119,11 @@ module _ (p : Program) (case : Case) (stream : Stream) (mask : CaseMask) (is : I
   same-stream : {a b : Stream} → Some a ≡ Some b → a ≡ b
   same-stream e = cc
 
+  pub stream-found : stream_in p.cases 0 0 ≡ Some stream
+  stream-found = let e1 : slice_get p.cases.cases 0 ≡ Some case = ap (λ (cs : List Case). slice_get cs 0) is.cases in rw e1 (ap (λ (ss : List Stream). slice_get ss 0) is.streams)
+
   pub stream-is : (c : ℕ) (other : Stream) → stream_in p.cases c 0 ≡ Some other → (c ≡ 0) × (stream ≡ other)
-  stream-is zero other e = (refl, same-stream (sym found ∙ e))
-    where
-      found : stream_in p.cases 0 0 ≡ Some stream
-      found = let e1 : slice_get p.cases.cases 0 ≡ Some case = ap (λ (cs : List Case). slice_get cs 0) is.cases in rw e1 (ap (λ (ss : List Stream). slice_get ss 0) is.streams)
+  stream-is zero other e = (refl, same-stream (sym stream-found ∙ e))
   stream-is (suc c) other e =
       let none : slice_get p.cases.cases (suc c) ≡ None = ap (λ (cs : List Case). slice_get cs (suc c)) is.cases in
       let no : ◌≡◌ {A = Option Stream} None (Some other) = rw none at e in

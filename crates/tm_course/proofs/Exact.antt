@@ -101,13 +101,13 @@ module _ (p : Program) (case : Case) (stream : Stream) (mask : CaseMask) (is : I
   phases k = omega arith
 
   -- the end value of a register, and of a shared byte, where the log tells of the pass
-  register-end : (x : List ℕ) (own : List Step) → HalfPath p 0 (first_state x) own → (k q save : ℕ) (mem : Table) → 2 * k + 1 ≡ q → PassTold size q save (entries_of own) mem → (i : ℕ) → i < 30
+  pub register-end : (x : List ℕ) (own : List Step) → HalfPath p 0 (first_state x) own → (k q save : ℕ) (mem : Table) → 2 * k + 1 ≡ q → PassTold size q save (entries_of own) mem → (i : ℕ) → i < 30
       → end_value p 0 0 k (first_state x) own (Register (i + 1)) ≡ Some (mem (save + 8 * i))
   register-end x own path k q save mem e t i l =
       ap (λ (z : ℕ). option_map (λ (s : Hart). slice_index s.x (i + 1)) (left_with p 0 0 z (first_state x) own)) (phases k ∙ e)
       ∙ (left-is x (i + 1) q own path ∙ (ap (λ (o : Option Table). option_map (λ (f : Table). f (i + 1)) o) t.told ∙ ap (λ (v : ℕ). Some v) (sym (t.saved i l))))
 
-  byte-end : (x : List ℕ) (own : List Step) (k q save : ℕ) (mem : Table) → 2 * k + 1 ≡ q → PassTold size q save (entries_of own) mem → (j l : ℕ) → j < 8 → l < 8
+  pub byte-end : (x : List ℕ) (own : List Step) (k q save : ℕ) (mem : Table) → 2 * k + 1 ≡ q → PassTold size q save (entries_of own) mem → (j l : ℕ) → j < 8 → l < 8
       → end_value p 0 0 k (first_state x) own (Byte (shared + 8 * j + l)) ≡ Some (byte_of (mem (save + 8 * (30 + j))) l)
   byte-end x own k q save mem e t j l a b =
       let z : run_phase p 0 k + 1 ≡ suc q = omega (arith, phases k, e) in
@@ -200,7 +200,7 @@ module _ (p : Program) (case : Case) (stream : Stream) (mask : CaseMask) (is : I
     abbrev SameAt : ℕ → ℕ → Type 0
     SameAt k i = SameParts p mask 0 0 (first_state x) past k i
 
-    to-parts : (i : ℕ) → i < 38 → Agrees M masks a b i → SameAt 1 i
+    pub to-parts : (i : ℕ) → i < 38 → Agrees M masks a b i → SameAt 1 i
     to-parts i l g = by (cases_lt i 30)
       where
         by : (i < 30) ⊎ (30 ≤ i) → SameAt 1 i
@@ -226,7 +226,7 @@ module _ (p : Program) (case : Case) (stream : Stream) (mask : CaseMask) (is : I
     saved-is : saved p 0 ≡ 38
     saved-is = omega (arith, owned-length p case stream mask is)
 
-    every : (k i : ℕ) → k < passes p → ((n : ℕ) → n < 38 → SameAt 1 n) → i < saved p 0 → SameAt k i
+    pub every : (k i : ℕ) → k < passes p → ((n : ℕ) → n < 38 → SameAt 1 n) → i < saved p 0 → SameAt k i
     every zero i l h m = first-pass i
     every (suc zero) i l h m = h i (omega (arith, saved-is))
     every (suc (suc k)) i l h m = absurd (omega (arith, is.passes))
@@ -243,18 +243,18 @@ module _ (p : Program) (case : Case) (stream : Stream) (mask : CaseMask) (is : I
 
   -- ---- each verdict that is written
 
-  none-more : (c : ℕ) (m : CaseMask) → slice_get p.masks.cases c ≡ Some m → (c ≡ 0) × (mask ≡ m)
+  pub none-more : (c : ℕ) (m : CaseMask) → slice_get p.masks.cases c ≡ Some m → (c ≡ 0) × (mask ≡ m)
   none-more zero m e = let f : Some mask ≡ Some m = sym (ap (λ (ms : List CaseMask). slice_get ms 0) is.masks) ∙ e in (refl, (cc))
   none-more (suc c) m e = let f : ◌≡◌ {A = Option CaseMask} None (Some m) = sym (ap (λ (ms : List CaseMask). slice_get ms (suc c)) is.masks) ∙ e in absurd (none-some f)
     where
       none-some : {m : CaseMask} → ◌≡◌ {A = Option CaseMask} None (Some m) → ⊥
       none-some q = cc
 
-  cell-is : verdict_at 0 0 ≡ cell
+  pub cell-is : verdict_at 0 0 ≡ cell
   unfolding verdict_at
   cell-is = refl
 
-  exact-step : (x : List ℕ) → IsOpening 0 x → (past : List Step) (s : Step) → HalfPath p 0 (first_state x) (s ∷ past)
+  pub exact-step : (x : List ℕ) → IsOpening 0 x → (past : List Step) (s : Step) → HalfPath p 0 (first_state x) (s ∷ past)
       → (c : ℕ) (m : CaseMask) (v : ℕ) → slice_get p.masks.cases c ≡ Some m → access_of s ≡ Write (verdict_at c 0) 8 v → IsVerdict p m 0 c (first_state x) past v
   exact-step x o past s path c m v e w =
       let same = none-more c m e in

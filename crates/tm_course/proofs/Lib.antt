@@ -16,3 +16,5 @@ pub mod Notes
 pub mod FirstReads
 pub mod Owned
 pub mod Exact
+pub mod Silent
+pub mod Together
