@@ -15,7 +15,7 @@ use Rattle.tm_blocks.specs.Compare.{checks, verdict, compare_but_last}
 use Rattle.tm_blocks.specs.Verdict.{differs, first_from, above, verdict_number}
 use Rattle.tm_blocks.specs.Laws.{accesses, with_access, EachAccess, Among, Nowhere, Uses, Usable, ReadsBack, RegistersFit, HasConstant, Comparable, Compares, Mask, verdict_in, HasVerdict, CompareButLastRuns, after_verdict, LastStoreRuns, HasCompared, CompareRuns}
 use Rattle.tm_blocks.proofs.Lengths.{length-constant, length-checks, length-compare_but_last, compare_parts}
-use Rattle.tm_blocks.proofs.Dwords.{may_at, fit_put, on_quiet, on_branch, on_read, quiet_uses, uses_map}
+use Rattle.tm_blocks.proofs.Dwords.{may_at, fit_put, on_quiet, on_branch, on_read, quiet_uses, uses_map, accessed}
 use Rattle.tm_blocks.proofs.Constant.{constant_takes}
 use Rattle.tm_blocks.proofs.Checks.{Ready, Checked, checks_take}
 use Rattle.tm_blocks.proofs.Verdicts.{first_small}
@@ -57,24 +57,6 @@ verdict_takes w lo hi A q k v s pass small is x y at =
             fits = λ h. fit_put s3.regs 8 n (omega arith) (fit_put s2.regs 6 (k * 2 ^ 32) (omega arith) (fit_put s1.regs 6 k (omega arith) h));
           })))),
     ))
-
--- the accesses since a state, where each is one that A allows
-record Accessed (A : Access → Type 0) (log old : List Entry) : Type 0 where
-  made : List Access
-  each : EachAccess A made
-  are : accesses log ≡ made ++ accesses old
-
-accessed_one : (A : Access → Type 0) (x : Access) (made before old : List Access) → A x → EachAccess A made → before ≡ made ++ old → (more : List Access) × EachAccess A more × (with_access x before ≡ more ++ old)
-accessed_one A Quiet made before old a e is = (made, e, is)
-accessed_one A (Read b n v) made before old a e is = (Read b n v ∷ made, (a, e), ap (λ (l : List Access). Read b n v ∷ l) is)
-accessed_one A (Write b n v) made before old a e is = (Write b n v ∷ made, (a, e), ap (λ (l : List Access). Write b n v ∷ l) is)
-
-accessed : (A : Access → Type 0) (lo hi : ℕ) (es old : List Entry) → Each (Does lo hi A) es → Accessed A (es ++ old) old
-accessed A lo hi [] old h = record { made = []; each = tt; are = refl }
-accessed A lo hi (e ∷ es) old h =
-    let before = accessed A lo hi es old h.1 in
-    let one = accessed_one A e.access before.made (accesses (es ++ old)) (accesses old) h.0.access before.each before.are in
-    record { made = one.0; each = one.1; are = one.2 }
 
 -- x8 is the verdict, without the accesses
 record Judged (first other masks bytes cell k n : ℕ) (s t : State) : Type 0 where
@@ -203,8 +185,8 @@ compare_but_last_runs first other masks bytes cell k n pass here w s c at =
   where
     seen : (t : State) → Judged first other masks bytes cell k n s t → Since (Does s.pc (s.pc + 4 * (301 + 7 * n)) (Uses (Compares first other masks bytes n) Nowhere)) s t → HasVerdict first other masks bytes cell k n s t
     seen t j since =
-        let a = accessed (Uses (Compares first other masks bytes n) Nowhere) s.pc (s.pc + 4 * (301 + 7 * n)) since.entries s.log since.each in
-        record { pc = j.pc; place = j.place; number = j.number; regs = j.regs; mem = j.mem; read = a.made; only = a.each; accesses = ap accesses since.log ∙ a.are; fits = j.fits }
+        let a = accessed (Uses (Compares first other masks bytes n) Nowhere) s.pc (s.pc + 4 * (301 + 7 * n)) s t since in
+        record { pc = j.pc; place = j.place; number = j.number; regs = j.regs; mem = j.mem; read = a.made; only = a.each; accesses = a.are; fits = j.fits }
 
 pub last_store_runs : (cell : ℕ) → LastStoreRuns cell
 last_store_runs cell w s usable free at place =
