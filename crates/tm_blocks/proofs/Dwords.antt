@@ -6,12 +6,12 @@ use Rattle.tm_table.specs.declared.instr.Instr.{Instr}
 use Rattle.tm_table.specs.declared.state.Access.{Access}
 use Rattle.tm_table.specs.declared.state.Access.TheVariants.{Quiet, Read, Write}
 use Rattle.tm_plan.specs.Collected.{count_from}
-use Rattle.tm_runs.specs.Machine.{World, State, Entry, Table, put, get, computes, loaded, MayAccess}
-use Rattle.tm_runs.specs.Runs.{Within, IsQuiet, Each, Does, Since}
+use Rattle.tm_runs.specs.Machine.{World, State, Table, put, get, computes, loaded, MayAccess}
+use Rattle.tm_runs.specs.Runs.{Within, IsQuiet}
 use Rattle.tm_runs.proofs.Compose.{within_map}
 use Rattle.tm_runs.proofs.Steps.{branched}
 use Rattle.tm_runs.proofs.Tables.{put_other}
-use Rattle.tm_blocks.specs.Laws.{accesses, with_access, EachAccess, Uses, Usable, Changeable, stored_all}
+use Rattle.tm_blocks.specs.Laws.{Uses, Usable, Changeable, stored_all}
 
 -- every register has 64 bits
 abbrev pub Fit : Table → Type 0
@@ -24,9 +24,6 @@ fit_put f r v small h (suc x) = by (nat_eq (suc x) r)
     by : (b : Bool) → (if b then v else f (suc x)) < 2 ^ 64
     by true = small
     by false = h (suc x)
-
-pub fit_same : (f g : Table) → ((r : ℕ) → get g r ≡ get f r) → Fit f → Fit g
-fit_same f g e h r = let a = e r in let b = h r in omega arith
 
 -- where three registers alone change
 pub fit_three : (f g : Table) → get g 6 < 2 ^ 64 → get g 7 < 2 ^ 64 → get g 8 < 2 ^ 64 → ((r : ℕ) → r ≢ 6 → r ≢ 7 → r ≢ 8 → get g r ≡ get f r) → Fit f → Fit g
@@ -106,26 +103,3 @@ pub uses_map : {R W R' W' : ℕ → Type 0} → ((a : ℕ) → R a → R' a) →
 uses_map f g Quiet h = tt
 uses_map f g (Read a width v) h = (h.0, f a h.1)
 uses_map f g (Write a width v) h = (h.0, g a h.1)
-
--- the accesses since a state, where each is one that A allows
-pub record Accessed (A : Access → Type 0) (log old : List Entry) : Type 0 where
-  pub made : List Access
-  pub each : EachAccess A made
-  pub are : accesses log ≡ made ++ accesses old
-
-one_more : (A : Access → Type 0) (x : Access) (made before old : List Access) → A x → EachAccess A made → before ≡ made ++ old → (more : List Access) × EachAccess A more × (with_access x before ≡ more ++ old)
-one_more A Quiet made before old a e is = (made, e, is)
-one_more A (Read b n v) made before old a e is = (Read b n v ∷ made, (a, e), ap (λ (l : List Access). Read b n v ∷ l) is)
-one_more A (Write b n v) made before old a e is = (Write b n v ∷ made, (a, e), ap (λ (l : List Access). Write b n v ∷ l) is)
-
-by_entries : (A : Access → Type 0) (lo hi : ℕ) (es old : List Entry) → Each (Does lo hi A) es → Accessed A (es ++ old) old
-by_entries A lo hi [] old h = record { made = []; each = tt; are = refl }
-by_entries A lo hi (e ∷ es) old h =
-    let before = by_entries A lo hi es old h.1 in
-    let one = one_more A e.access before.made (accesses (es ++ old)) (accesses old) h.0.access before.each before.are in
-    record { made = one.0; each = one.1; are = one.2 }
-
-pub accessed : (A : Access → Type 0) (lo hi : ℕ) (s t : State) → Since (Does lo hi A) s t → Accessed A t.log s.log
-accessed A lo hi s t h =
-    let a = by_entries A lo hi h.entries s.log h.each in
-    record { made = a.made; each = a.each; are = ap accesses h.log ∙ a.are }
