@@ -25,9 +25,6 @@ fit_put f r v small h (suc x) = by (nat_eq (suc x) r)
     by true = small
     by false = h (suc x)
 
-pub fit_same : (f g : Table) → ((r : ℕ) → get g r ≡ get f r) → Fit f → Fit g
-fit_same f g e h r = let a = e r in let b = h r in omega arith
-
 -- where three registers alone change
 pub fit_three : (f g : Table) → get g 6 < 2 ^ 64 → get g 7 < 2 ^ 64 → get g 8 < 2 ^ 64 → ((r : ℕ) → r ≢ 6 → r ≢ 7 → r ≢ 8 → get g r ≡ get f r) → Fit f → Fit g
 fit_three f g six seven eight same h r = by6 (nat_eq r 6) refl
