@@ -9,7 +9,7 @@ use Rattle.tm_world.specs.Place.{byte_of}
 use Rattle.tm_world.specs.Run.{written}
 use Rattle.tm_runs.specs.World.{joined}
 
-byte-shift : (v i : ℕ) → byte_of v (suc i) ≡ byte_of (v / 256) i
+pub byte-shift : (v i : ℕ) → byte_of v (suc i) ≡ byte_of (v / 256) i
 byte-shift v i = ap (λ (d : ℕ). v / d % 256) (pow-succ' 256 i) ∙ ap (λ (q : ℕ). q % 256) (sym (div-div-eq-div-mul v 256 (256 ^ i)))
 
 pub byte-lt : (v i : ℕ) → byte_of v i < 256
