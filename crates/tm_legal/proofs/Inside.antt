@@ -82,11 +82,11 @@ module _ (p : Program) (formed : Formed p) (h c : ℕ) (stream : Stream) (hart :
   lands (Gives value) a read k = by-next
   lands (Loads addr width with_sign) a read k = by-next
   lands (Stores addr width value) a read k = by-next
-  lands (Branches taken) a read k = by taken
+  lands (Branches taken) a read k = by taken k
     where
-      by : (b : Bool) → Lands (if b then word64 (hart.pc + low 64 slot.instr.imm) else word64 (hart.pc + 4))
-      by true = by-jump k
-      by false = by-next
+      by : (b : Bool) → (b ≡ true → is_jump slot.instr.op ≡ true) → Lands (if b then word64 (hart.pc + low 64 slot.instr.imm) else word64 (hart.pc + 4))
+      by true j = by-jump (j refl)
+      by false j = by-next
   lands (Jumps link goes) a read k = let q = k.2 slot.shaped.allowed in subst Lands (sym q.1) (by-jump q.0)
 
   -- the address of an access is that of its slot
