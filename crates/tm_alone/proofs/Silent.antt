@@ -1,70 +1,36 @@
--- With one hart whose streams neither load nor store, all passes of a case end alike, so each verdict is 0.
-use Rattle.std.proofs.Common.{◌≡◌, ℕ, zero, suc, ◌+◌, ◌-◌, ◌*◌, ◌<◌, ◌≤◌, List, [], ◌∷◌, length, Bool, true, false, ◌&&◌, nat_lt, ◌==◌, Option, None, Some, ◌⊎◌, inl, inr, refl, sym, ap, ◌∙◌, subst, arith}
-use Rattle.std.specs.Prelude.{IsTrue, IsFalse, All, slice_get, slice_index, filter, map, if◌then◌else◌}
+-- With one hart all passes of a case agree, so each verdict is 0.
+use Rattle.std.proofs.Common.{◌≡◌, ℕ, zero, suc, ◌+◌, ◌-◌, ◌*◌, ◌<◌, List, [], ◌∷◌, length, Bool, true, false, ◌&&◌, nat_lt, ◌==◌, Option, None, Some, ◌⊎◌, inl, inr, refl, sym, ap, ◌∙◌, subst, arith}
+use Rattle.std.specs.Prelude.{IsTrue, All, slice_get, slice_index, filter, map, if◌then◌else◌}
 use Rattle.std.specs.List.{AllByRecursion as Each}
-use Rattle.std.proofs.lemmas.Bool.{cases_lt, and_parts, or_from, ltb-false}
+use Rattle.std.proofs.lemmas.Bool.{and_parts, ltb-false}
 use Rattle.std.proofs.lemmas.List.Elements.{All-from_recursion, All-get_or, recursion_from_All}
-use Rattle.tm_table.specs.declared.instr.Instr.{Instr}
 use Rattle.tm_table.specs.declared.state.Access.TheVariants.{Write}
 use Rattle.tm_table.specs.State.{Hart}
 use Rattle.tm_plan.specs.declared.program.Program.{Program}
 use Rattle.tm_plan.specs.declared.cases.Cases.{Cases}
-use Rattle.tm_plan.specs.declared.cases.Stream.{Stream}
 use Rattle.tm_plan.specs.declared.masks.CaseMask.{CaseMask}
 use Rattle.tm_plan.specs.Map.{verdict_at, window_at, windows_base}
-use Rattle.tm_plan.specs.Slots.{instr_of, store_width, slot_addr, stores_to}
-use Rattle.tm_plan.specs.Collected.{any, count_from, is_declared, collector, window_dwords, owned}
+use Rattle.tm_plan.specs.Collected.{count_from, is_declared, collector, window_dwords, owned}
 use Rattle.tm_plan.specs.Shaped.{AreShaped}
 use Rattle.tm_world.specs.Place.{harts, case_count, passes}
 use Rattle.tm_world.specs.Run.{Step, own, first_state, hart_of, access_of}
-use Rattle.tm_world.specs.Writers.{stream_in, may_store, some_store_to, is_store_to}
 use Rattle.tm_world.specs.Kinds.{Legal}
 use Rattle.tm_world.specs.Course.{OnHalf, KeepsCollecting}
 use Rattle.tm_world.specs.Verdict.{Part, Register, Byte, end_value, saved, parts, is_checked, Same, IsVerdict, agree, differ, WritesExactly}
 use Rattle.tm_world.specs.Sound.{NotReported}
 use Rattle.tm_world.proofs.Prefix.{earlier, Legal-earlier}
 use Rattle.tm_runs.proofs.Places.{within-parts}
-use Rattle.tm_runs.proofs.Bytes.{within-true, within-false}
+use Rattle.tm_runs.proofs.Bytes.{within-true}
 use Rattle.tm_legal.proofs.Own.{own-here}
-use Rattle.tm_legal.proofs.Streams.{none-past, stream-of, window-declared, case-of}
+use Rattle.tm_legal.proofs.Streams.{none-past, window-declared}
 use Rattle.tm_legal.proofs.Half.{on-legal}
-use Rattle.tm_stays.specs.Laws.{HasNoLoad}
-use Rattle.tm_stays.proofs.Alike.{passes-alike}
 use Rattle.tm_alone.specs.Sets.{HasEnds}
-use Rattle.tm_alone.specs.Laws.{Alone, HasNoStore, Silent}
+use Rattle.tm_alone.specs.Laws.{Alone, IsCompared, Silent}
 use Rattle.tm_alone.proofs.Ways.{is-hart}
+use Rattle.tm_alone.proofs.Agree.{passes-agree}
 use Rattle.tm_alone.proofs.Dwords.{lies}
-use Rattle.tm_alone.proofs.Stay.{bytes-stay}
-
--- ---- streams without stores
-
-none-stores : (test : ℕ → Bool) (ws : List ℕ) → ((n w : ℕ) → slice_get ws n ≡ Some w → test w ≡ false) → any test ws ≡ false
-none-stores test [] f = refl
-none-stores test (w ∷ ws) f = or_from (test w) (any test ws) (f 0 w refl) (none-stores test ws (λ n v e. f (suc n) v e))
-
-no-store : (b w : ℕ) → ((i : Instr) → instr_of w ≡ Some i → store_width i.op ≡ 0) → is_store_to b w ≡ false
-unfolding stores_to
-no-store b w f = by (instr_of w) refl
-  where
-    by : (o : Option Instr) → instr_of w ≡ o → is_store_to b w ≡ false
-    by None e = rw e
-    by (Some i) e =
-        let z = f i e in
-        rw e (within-false (slot_addr i) (store_width i.op) b (let k = cases_lt b (slot_addr i) in far k z))
-      where
-        far : (b < slot_addr i) ⊎ (slot_addr i ≤ b) → store_width i.op ≡ 0 → (b < slot_addr i) ⊎ (slot_addr i + store_width i.op ≤ b)
-        far (inl l) z = inl l
-        far (inr l) z = inr (omega arith)
-
-never-stores : (p : Program) (c b : ℕ) (stream : Stream) → stream_in p.cases c 0 ≡ Some stream → HasNoStore stream → IsFalse (may_store p.cases c 0 b)
-never-stores p c b stream e f = ap (some_store_to b) e ∙ none-stores (is_store_to b) stream.words (λ n w s. no-store b w (λ i is. f n w i s is))
 
 -- ---- parts
-
--- a register, or a shared byte
-abbrev Fine : Program → Part → Type 0
-Fine p (Register r) = Unit {0}
-Fine p (Byte b) = IsTrue (is_declared p.cases b)
 
 -- all bytes of a dword are shared
 abbrev Whole : Cases → ℕ → Type 0
@@ -109,18 +75,18 @@ map-each P f zero a h = tt
 map-each P f (suc n) a h = (h a (omega arith), map-each P f n (suc a) (λ j l. h j (omega arith)))
 
 -- each saved part is fine
-fine : (p : Program) (h i : ℕ) → AreShaped p.cases → i < saved p h → Each (Fine p) (parts p h i)
+fine : (p : Program) (h i : ℕ) → AreShaped p.cases → i < saved p h → Each (IsCompared p) (parts p h i)
 fine p h i a l = by (nat_lt i 30) refl
   where
     dword : ℕ
     dword = slice_index (owned p.cases h) (i - 30)
 
-    by : (t : Bool) → nat_lt i 30 ≡ t → Each (Fine p) (if t then Register (i + 1) ∷ [] else map (λ j. Byte (dword + j)) (count_from 0 8))
+    by : (t : Bool) → nat_lt i 30 ≡ t → Each (IsCompared p) (if t then Register (i + 1) ∷ [] else map (λ j. Byte (dword + j)) (count_from 0 8))
     by true e = (tt, tt)
     by false e =
         let k = ltb-false i 30 e in
         let w = All-get_or (Whole p.cases) (owned p.cases h) (i - 30) 0 (omega arith) (owned-whole p.cases h a) in
-        map-each (Fine p) (λ j. Byte (dword + j)) 8 0 (λ j m. w j (omega arith))
+        map-each (IsCompared p) (λ j. Byte (dword + j)) 8 0 (λ j m. w j (omega arith))
 
 -- ---- verdicts
 
@@ -133,19 +99,7 @@ no-verdict : (p : Program) (m : CaseMask) (h c : ℕ) (first : Hart) (own : List
 no-verdict p m h c first own v same (agree f) = refl
 no-verdict p m h c first own v same (differ k i l li d f g) = absurd (d (same k i l li))
 
-module _ (p : Program) (a : Alone p) (calm : (c : ℕ) (stream : Stream) → stream_in p.cases c 0 ≡ Some stream → HasNoLoad stream × HasNoStore stream) (masks : length p.masks.cases ≡ case_count p) (collecting : OnHalf p 0 (KeepsCollecting p 0)) (exact : OnHalf p 0 (WritesExactly p 0)) (has-ends : OnHalf p 0 (HasEnds p 0)) (o : ℕ → List ℕ) where
-  -- two passes in which a part has an end value
-  same-part : (past : List Step) → Legal p (earlier o past) → (c : ℕ) → c < case_count p → (k : ℕ) → k < passes p → (part : Part) → Fine p part → (u u' : ℕ) → end_value p 0 c k (first_state (o 0)) (own 0 past) part ≡ Some u → end_value p 0 c 0 (first_state (o 0)) (own 0 past) part ≡ Some u' → u ≡ u'
-  same-part past legal c few k l (Register r) fine' u u' e e' =
-      let (stream, is) = stream-of p.cases c 0 a.formed.cases few (is-hart p a) in
-      passes-alike p a.formed 0 (is-hart p a) a.tame c stream is (calm c stream is).0 (earlier o past) legal k 0 r u u' e e'
-  same-part past legal c few k l (Byte b) shared u u' e e' =
-      let (stream, is) = stream-of p.cases c 0 a.formed.cases few (is-hart p a) in
-      let (case, at, _) = case-of p.cases c 0 stream is in
-      let stays = bytes-stay p a collecting c b case at shared (never-stores p c b stream is (calm c stream is).1) (earlier o past) legal in
-      let some = a.formed.cases.passes.0 in
-      stays k u l e ∙ sym (stays 0 u' (omega arith) e')
-
+module _ (p : Program) (a : Alone p) (masks : length p.masks.cases ≡ case_count p) (collecting : OnHalf p 0 (KeepsCollecting p 0)) (exact : OnHalf p 0 (WritesExactly p 0)) (has-ends : OnHalf p 0 (HasEnds p 0)) (o : ℕ → List ℕ) where
   same-dword : (past : List Step) → Legal p (earlier o past) → (c : ℕ) → c < case_count p
       → ((k i : ℕ) → k < passes p → i < saved p 0 → All (λ part. (u : ℕ) × (end_value p 0 c k (first_state (o 0)) (own 0 past) part ≡ Some u)) (parts p 0 i))
       → (m : CaseMask) (k i : ℕ) → k < passes p → i < saved p 0 → Same p m 0 c (first_state (o 0)) (own 0 past) k i
@@ -155,7 +109,7 @@ module _ (p : Program) (a : Alone p) (calm : (c : ℕ) (stream : Stream) → str
       let Is = λ (part : Part). IsTrue (is_checked m 0 part) → end_value p 0 c k first (own 0 past) part ≡ end_value p 0 c 0 first (own 0 past) part in
       let some = a.formed.cases.passes.0 in
       All-from_recursion Is (parts p 0 i)
-      (each-joined (Fine p) (Has k) (Has 0) Is (λ part f x y _. x.1 ∙ (ap Some (same-part past legal c few k l part f x.0 y.0 x.1 y.1) ∙ sym y.1)) (parts p 0 i)
+      (each-joined (IsCompared p) (Has k) (Has 0) Is (λ part f x y _. x.1 ∙ (ap Some (passes-agree p a collecting c few (earlier o past) legal part f k 0 x.0 y.0 l (omega arith) x.1 y.1) ∙ sym y.1)) (parts p 0 i)
       (fine p 0 i a.formed.cases li)
       (recursion_from_All (Has k) (parts p 0 i) (all k i l li))
       (recursion_from_All (Has 0) (parts p 0 i) (all 0 i (omega arith) li)))
@@ -180,4 +134,4 @@ module _ (p : Program) (a : Alone p) (calm : (c : ℕ) (stream : Stream) → str
   all-silent (s ∷ past) legal = (step-silent s past legal (omega (arith, legal.paths.only.0, a.one)), all-silent past (Legal-earlier p o (s ∷ []) past legal))
 
 pub silent : (p : Program) → Silent p
-silent p a calm masks collecting exact has-ends r legal = all-silent p a calm masks collecting exact has-ends r.opening r.steps legal
+silent p a masks collecting exact has-ends r legal = all-silent p a masks collecting exact has-ends r.opening r.steps legal

@@ -1,27 +1,21 @@
 -- Laws of the legal runs of a program with one hart (this project's own).
-use Rattle.std.specs.Prelude.{◌≡◌, ℕ, ◌+◌, ◌*◌, ◌<◌, ◌≤◌, length, slice_get, Some, IsTrue, IsFalse}
-use Rattle.tm_table.specs.declared.instr.Instr.{Instr}
+use Rattle.std.specs.Prelude.{◌≡◌, ℕ, ◌+◌, ◌*◌, ◌<◌, ◌≤◌, length, Some, IsTrue}
 use Rattle.tm_plan.specs.declared.program.Program.{Program}
-use Rattle.tm_plan.specs.declared.cases.Case.{Case}
-use Rattle.tm_plan.specs.declared.cases.Stream.{Stream}
-use Rattle.tm_plan.specs.Slots.{instr_of, store_width}
 use Rattle.tm_plan.specs.Collected.{is_declared, work_of}
 use Rattle.tm_plan.specs.Shaped.{IsProgram}
 use Rattle.tm_plan.specs.Tables.{table_bytes}
 use Rattle.tm_world.specs.Place.{harts, case_count, passes}
 use Rattle.tm_world.specs.Run.{Run}
-use Rattle.tm_world.specs.Writers.{may_store, stream_in}
 use Rattle.tm_world.specs.Kinds.{Legal}
 use Rattle.tm_world.specs.Course.{OnHalf, KeepsWrites, KeepsCollecting, HartCourse}
-use Rattle.tm_world.specs.Whole.{Laid, SettlesFirst, first_byte}
+use Rattle.tm_world.specs.Whole.{Laid, SettlesFirst}
 use Rattle.tm_world.specs.Work.{GoesOn}
-use Rattle.tm_world.specs.Verdict.{Byte, end_value, WritesExactly}
+use Rattle.tm_world.specs.Verdict.{Part, Register, Byte, end_value, WritesExactly}
 use Rattle.tm_world.specs.Sound.{NotReported, Sound}
 use Rattle.tm_world.specs.Checked.{AreChecked}
 use Rattle.tm_runs.specs.World.{Sizes}
 use Rattle.tm_legal.specs.Tame.{Formed, Tame}
 use Rattle.tm_legal.specs.Laws.{OnLegal}
-use Rattle.tm_stays.specs.Laws.{HasNoLoad}
 use Rattle.tm_stays.specs.Stays.{outside_work, words_in}
 use Rattle.tm_alone.specs.Sets.{SetsFirst, HasEnds}
 
@@ -37,23 +31,22 @@ pub record Alone (p : Program) : Type 0 where
 abbrev pub FirstBytesSettle : Program → Type 0
 FirstBytesSettle p = Alone p → (r : Run) → Legal p r → SettlesFirst p r
 
--- On a legal run a shared byte that no store slot of a case covers ends each pass of the case as the case's first byte.
-abbrev pub BytesStay : Program → Type 0
-BytesStay p = Alone p → OnHalf p 0 (KeepsCollecting p 0) → (c b : ℕ) (case : Case) → slice_get p.cases.cases c ≡ Some case → IsTrue (is_declared p.cases b)
-    → IsFalse (may_store p.cases c 0 b) → OnLegal p 0 (λ first own. (k v : ℕ) → k < passes p → end_value p 0 c k first own (Byte b) ≡ Some v → v ≡ first_byte case b)
+-- what passes are compared by: a register, or a shared byte
+abbrev pub IsCompared : Program → Part → Type 0
+IsCompared p (Register r) = Unit {0}
+IsCompared p (Byte b) = IsTrue (is_declared p.cases b)
 
--- no word of the stream is a store
-abbrev pub HasNoStore : Stream → Type 0
-HasNoStore stream = (n w : ℕ) (i : Instr) → slice_get stream.words n ≡ Some w → instr_of w ≡ Some i → store_width i.op ≡ 0
+-- On a legal run any two passes of a case agree: where a register or a shared byte has an end value in both, it is the same, whatever
+-- the stream loads and stores.
+abbrev pub PassesAgree : Program → Type 0
+PassesAgree p = Alone p → OnHalf p 0 (KeepsCollecting p 0) → (c : ℕ) → c < case_count p
+    → OnLegal p 0 (λ first own. (part : Part) → IsCompared p part → (k k' u u' : ℕ) → k < passes p → k' < passes p
+    → end_value p 0 c k first own part ≡ Some u → end_value p 0 c k' first own part ≡ Some u' → u ≡ u')
 
--- the streams of hart 0 neither load nor store
-abbrev pub AreCalm : Program → Type 0
-AreCalm p = (c : ℕ) (stream : Stream) → stream_in p.cases c 0 ≡ Some stream → HasNoLoad stream × HasNoStore stream
-
--- Where the hart's streams neither load nor store, and it writes true verdicts, no case is reported on a legal run.
+-- Where the hart writes true verdicts, no case is reported on a legal run.
 abbrev pub Silent : Program → Type 0
-Silent p = Alone p → AreCalm p → length p.masks.cases ≡ case_count p
-    → OnHalf p 0 (KeepsCollecting p 0) → OnHalf p 0 (WritesExactly p 0) → OnHalf p 0 (HasEnds p 0) → (r : Run) → Legal p r → NotReported p r
+Silent p = Alone p → length p.masks.cases ≡ case_count p → OnHalf p 0 (KeepsCollecting p 0) → OnHalf p 0 (WritesExactly p 0) → OnHalf p 0 (HasEnds p 0)
+    → (r : Run) → Legal p r → NotReported p r
 
 -- What makes a program with one hart sound: its parts, and what its hart does on half runs.
 pub record IsSoundOnHalf (p : Program) : Type 0 where
@@ -63,7 +56,6 @@ pub record IsSoundOnHalf (p : Program) : Type 0 where
   pub laid : Laid p
   pub masks : AreChecked p.cases p.masks
   pub tables : p.tables ≡ table_bytes p.cases p.masks
-  pub calm : AreCalm p
   pub hart : HartCourse p 0
   pub sets : OnHalf p 0 (SetsFirst p 0)
   pub ends : OnHalf p 0 (HasEnds p 0)

@@ -1,24 +1,24 @@
 // Laws over the definitions, each as the contract of a function that does nothing.
-ghost use Rattle.tm_alone.specs.Laws.{FirstBytesSettle, BytesStay, Silent, SoundAlone};
+ghost use Rattle.tm_alone.specs.Laws.{FirstBytesSettle, PassesAgree, Silent, SoundAlone};
 
 use tm_plan::Program;
 
-/// With one hart, on legal runs shared memory has settled to a case's first bytes where a stream begins, and bytes without a store stay.
+/// With one hart, on legal runs shared memory has settled to a case's first bytes where a stream begins.
 pub fn first_bytes(program: &Program)
-    ensures settle { FirstBytesSettle program.now }
-    ensures stay { BytesStay program.now }
+    ensures { FirstBytesSettle program.now }
 {
     let _ = program;
 }
 
-/// With one hart whose streams neither load nor store, no case is reported on a legal run.
+/// With one hart all passes of a case agree on legal runs, so that no case is reported.
 pub fn silent(program: &Program)
-    ensures { Silent program.now }
+    ensures passes { PassesAgree program.now }
+    ensures reports { Silent program.now }
 {
     let _ = program;
 }
 
-/// A program with one hart whose streams neither load nor store is sound where its hart does on half runs what it should.
+/// A program with one hart is sound where its hart does on half runs what it should.
 pub fn sound(program: &Program)
     ensures { SoundAlone program.now }
 {
