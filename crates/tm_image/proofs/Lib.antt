@@ -9,5 +9,10 @@ pub mod SpelledLemmas
 pub mod ProgramLemmas
 pub mod SymbolLemmas
 pub mod TableLemmas
+pub mod CalmLemmas
+pub mod MaskLemmas
+pub mod ShapedLemmas
+pub mod SizeLemmas
+pub mod SoundLemmas
 pub mod BuildLemmas
 pub mod LeavesLemmas

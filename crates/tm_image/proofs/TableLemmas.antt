@@ -26,7 +26,7 @@ zero_length = length-replicate {A = ℕ} 768 0
 
 declared_length : length declared_bytes ≡ 6144
 unfolding declared_bytes
-declared_length = simp (length-append, length-replicate) refl
+declared_length = simp length-append refl
 
 pub tables_short : (words : List ℕ) → length (table_bytes (cases_of words) all_checked) ≤ 4194304
 unfolding table_bytes cases_of case_of all_checked

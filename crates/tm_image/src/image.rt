@@ -1,5 +1,6 @@
 // From the two texts to the image.
 ghost use Rattle.std.specs.Prelude.{◌≡◌, ◌≤◌, ◌<◌, ◌^◌, ◌++◌, ◌∷◌, [], Ok, IfOk, OnOk, IfErr, length, codes};
+ghost use Rattle.tm_course.specs.Claims.{SoundSoFar};
 ghost use Rattle.tm_image.specs.Template.{Spells};
 ghost use Rattle.tm_image.specs.Inputs.{inputs};
 ghost use Rattle.tm_image.specs.Program.{symbol, symbols_at, AreOfOne, IsOfOne};
@@ -49,6 +50,7 @@ pub fn build(alloc: Global, topo: &[u8], template: &[u8], seed: u64) -> Result<I
     ensures ok { IfOk result (λ image. built topo.now template.now seed ≡ Ok image.file) }
     ensures program { IfOk result (λ image. program_from (inputs topo.now template.now) ≡ Ok image.program) }
     ensures file { IfOk result (λ image. image.file ≡ image_file image.program topo.now template.now seed) }
+    ensures sound { IfOk result (λ image. SoundSoFar image.program) }
     ensures seed { IfOk result (λ image. image.seed ≡ seed) }
     ensures err { IfErr result (λ fault. IsFaultOf fault (built topo.now template.now seed)) }
 {

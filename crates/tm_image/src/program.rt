@@ -1,6 +1,7 @@
 // The program of one hart with one case, of a stream.
 ghost use Rattle.std.specs.Prelude.{◌≡◌, ◌≤◌, ◌<◌, ◌^◌, ◌++◌, ◌∷◌, [], IfOk, OnOk, All, map, length, replicate};
 ghost use Rattle.tm_table.specs.Words.{word_of};
+ghost use Rattle.tm_course.specs.Claims.{SoundSoFar};
 ghost use Rattle.tm_image.specs.Lines.{IsEmitted};
 ghost use Rattle.tm_image.specs.Program.{first_registers as registers_of, cases_of as cases_with, case_of as case_with, zero_dwords, declared_bytes, all_checked as masks_of_all, marks_around, program_with, program_of as program_with_stream};
 
@@ -27,6 +28,7 @@ pub fn program_of(alloc: Global, stream: &[Instr]) -> Result<Program, NoMemory>
     requires each { All IsEmitted stream.now }
     ensures program { IfOk result (λ program. program ≡ program_with_stream stream.now) }
     ensures short { IfOk result (λ program. length program.text ≤ 2048) }
+    ensures sound { IfOk result (λ program. SoundSoFar program) }
 {
     let words = words_of(alloc, stream)?;
     let cases = cases_of(alloc, words.as_slice())?;

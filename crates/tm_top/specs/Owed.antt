@@ -3,10 +3,11 @@ use Rattle.std.specs.Prelude.{◌≡◌, ◌⊎◌, ℕ, Bool, true, false, IsTr
 use Rattle.tm_desk.specs.Causes.{Files}
 use Rattle.tm_desk.specs.declared.desk.DeskError.TheVariants.{Failed, TooLong, NoMemory}
 use Rattle.tm_plan.specs.declared.program.Program.{Program}
+use Rattle.tm_course.specs.Claims.{SoundSoFar}
 use Rattle.tm_image.specs.declared.input.Role.{Role}
 use Rattle.tm_image.specs.declared.input.Role.TheVariants.{Topology, Template, Image, Faults, Trace, Output}
 use Rattle.tm_image.specs.Inputs.{inputs}
-use Rattle.tm_image.specs.Built.{built, program_from}
+use Rattle.tm_image.specs.Built.{built, image_file, program_from}
 use Rattle.tm_top.specs.declared.fault.AnyFault.{AnyFault}
 use Rattle.tm_top.specs.declared.fault.AnyFault.TheVariants.{Input, Desk}
 use Rattle.tm_top.specs.Words.{Build, command_of}
@@ -16,11 +17,13 @@ use Rattle.tm_top.specs.Changes.{DeskChange, SinkChange, DeskFailed, SinkFailed,
 
 -- ---- the image
 
--- The file is built of two texts and a seed, and the line is that of its program.
+-- The file is built of two texts and a seed; its program is sound, so far as that is claimed; and the line is that of its program.
 pub record IsMadeOf (topo template : List ℕ) (seed : ℕ) (file line : List ℕ) : Type 0 where
   pub program : Program
   pub its_program : program_from (inputs topo template) ≡ Ok program
   pub its_file : built topo template seed ≡ Ok file
+  pub of_program : file ≡ image_file program topo template seed
+  pub is_sound : SoundSoFar program
   pub its_line : line ≡ built_line program file
 
 -- The file and its line are made of the two held texts and the seed, and neither text has a fault.

@@ -1,4 +1,5 @@
 use Rattle.tm_image.proofs.ProgramLemmas.{program_is}
+use Rattle.tm_image.proofs.SoundLemmas.{sound}
 use Rattle.tm_image.proofs.program.program_of.Goals as goal
 
 pub returns-clause-program : goal.returns-clause-program
@@ -13,3 +14,6 @@ returns-clause-program c =
     (cc) (cc) (cc) (cc) (cc)
     (rw c.new-exits.ensures at c.in_ok-push.ensures.ok)
     (rw c.new-halts.ensures at c.in_ok-push-2.ensures.ok)
+
+pub returns-clause-sound : goal.returns-clause-sound
+returns-clause-sound c = sound _ c.args.stream.now (returns-clause-program c) c.requires.some c.requires.few c.requires.each
