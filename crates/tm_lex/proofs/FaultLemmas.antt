@@ -1,8 +1,8 @@
 -- The first fault of a line, and the lines of a text.
-use Rattle.std.proofs.Common.{◌≡◌, ◌≢◌, ◌≤◌, ◌<◌, ℕ, zero, suc, ◌+◌, ◌-◌, Bool, true, false, not, cond, eqb, ltb, nat_le, List, [], ◌∷◌, ◌++◌, length, take, drop, get_or, map, codes, Option, Some, None, Result, Ok, Err, refl, sym, ap, subst, ◌∙◌, arith, rules, inl, inr, add-one, ◌⊎◌, ◌&&◌, ◌||◌, length-drop}
-use Rattle.std.specs.List.{prefix_len, list_all, list_any, position, find}
+use Rattle.std.proofs.Common.{◌≡◌, ◌≤◌, ◌<◌, ℕ, ◌+◌, Bool, true, false, not, eqb, ltb, nat_le, List, [], ◌∷◌, length, drop, get_or, codes, Option, Some, None, Result, Ok, Err, refl, sym, ap, subst, ◌∙◌, arith, inl, inr, length-drop}
+use Rattle.std.specs.List.{prefix_len, list_all}
 use Rattle.std.specs.Str.{bytes_eq}
-use Rattle.std.proofs.lemmas.Bool.{cases_Bool, cases_lt, true≢false}
+use Rattle.std.proofs.lemmas.Bool.{cases_Bool, true≢false}
 use Rattle.std.proofs.lemmas.Bool.Decides.{nat_tests}
 use Rattle.std.proofs.lemmas.List.Folds.{list_all_at}
 use Rattle.std.proofs.lemmas.List.Quantifiers.{position-Some}
@@ -16,7 +16,7 @@ use Rattle.tm_lex.specs.declared.token.Token.{Token}
 use Rattle.tm_lex.specs.declared.token.LexFault.{LexFault}
 use Rattle.tm_lex.specs.declared.token.LexFault.TheVariants.{BadByte, LongWord}
 use Rattle.tm_lex.specs.Lexing.{Span, content, spans, bad_byte, long_part, first_fault, line_fault, line_tokens, lines_reading, before, unless_fault, as_words, as_raw, text_of, tokens_of}
-use Rattle.tm_lex.specs.Tiling.{may_stand, WordsAt, RawAt, AreKinds, AreParts, is_bad_at, is_long_at, IsFineBefore, IsFine, IsFirstOf, HaveTokens, HaveFault, AreTokens, IsFirstFault, lines_of}
+use Rattle.tm_lex.specs.Tiling.{may_stand, WordsAt, RawAt, AreKinds, AreParts, is_bad_at, is_long_at, IsFine, IsFirstOf, HaveTokens, HaveFault, AreTokens, IsFirstFault, lines_of}
 use Rattle.tm_lex.proofs.TilingLemmas.{all_pass, spans-are}
 
 -- ---- bytes that may not stand there

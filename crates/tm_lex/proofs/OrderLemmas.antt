@@ -1,13 +1,11 @@
 -- Tokens stand in order, within their text.
-use Rattle.std.proofs.Common.{◌≡◌, ◌≤◌, ◌<◌, ℕ, ◌+◌, Bool, true, false, cond, eqb, List, [], ◌∷◌, ◌++◌, length, map, Ok, refl, sym, ap, ◌∙◌, arith, inl, inr, ◌⊎◌}
-use Rattle.std.specs.List.{slice_split, onto_first, prefix_len}
+use Rattle.std.proofs.Common.{◌≡◌, ◌≤◌, ℕ, ◌+◌, eqb, List, [], ◌∷◌, ◌++◌, length, map, Ok, refl, arith, inl, inr}
 use Rattle.std.proofs.lemmas.Bool.{cases_Bool}
-use Rattle.std.proofs.lemmas.List.Sums.{prefix_len-le-length}
 use Rattle.std.proofs.lemmas.Grind.{common_steps}
 use Rattle.tm_lex.specs.declared.token.TokenKind.TheVariants.{LineEnd}
 use Rattle.tm_lex.specs.declared.token.Token.{Token}
-use Rattle.tm_lex.specs.Lexing.{Span, content, spans, with_end, token_at, tokens_of}
-use Rattle.tm_lex.specs.Tiling.{AreInOrder, HaveTokens, AreTokens, lines_of, AreParts}
+use Rattle.tm_lex.specs.Lexing.{content, with_end, token_at, tokens_of}
+use Rattle.tm_lex.specs.Tiling.{AreInOrder, HaveTokens, AreTokens, lines_of}
 use Rattle.tm_lex.proofs.FaultLemmas.{Part, Ascends, parts-ascend, tokens-are}
 
 joined : (i m n : ℕ) (xs ys : List Token) → AreInOrder i m xs → AreInOrder m n ys → AreInOrder i n (xs ++ ys)

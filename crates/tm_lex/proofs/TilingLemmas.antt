@@ -1,14 +1,13 @@
-use Rattle.std.proofs.Common.{◌≡◌, ◌≢◌, ◌≤◌, ◌<◌, ℕ, zero, suc, ◌+◌, ◌-◌, Bool, true, false, not, cond, eqb, ltb, List, [], ◌∷◌, ◌++◌, length, take, drop, get_or, reverse, codes, refl, sym, ap, ◌∙◌, arith, rules, inl, inr, add-one, ◌⊎◌, ◌&&◌, ◌||◌}
-use Rattle.std.specs.List.{prefix_len, suffix_len, list_all, list_any}
+use Rattle.std.proofs.Common.{◌≡◌, ◌≢◌, ◌≤◌, ◌<◌, ℕ, ◌+◌, ◌-◌, Bool, true, false, not, eqb, List, [], ◌∷◌, ◌++◌, length, drop, get_or, reverse, codes, refl, sym, ap, ◌∙◌, arith, inl, inr}
+use Rattle.std.specs.List.{prefix_len, suffix_len, list_all}
 use Rattle.std.specs.Str.{bytes_eq}
 use Rattle.std.proofs.lemmas.Bool.{cases_Bool, cases_lt, true≢false}
 use Rattle.std.proofs.lemmas.List.{get_or-reverse, length-reverse}
 use Rattle.std.proofs.lemmas.List.Sums.{prefix_len_passes, prefix_len_stops, prefix_len-le-length, suffix_len-le-length}
 use Rattle.std.proofs.lemmas.Slice.Eq.{bytes_eq-Decides}
 use Rattle.std.proofs.lemmas.Bool.Decides.{nat_tests}
-use Rattle.std.proofs.lemmas.Grind.{common_steps}
 use Rattle.tm_lex.specs.Lexing.{is_word, is_separator, words, word_byte, trimmed, Span, spans, with_kinds, text_of}
-use Rattle.tm_lex.specs.Tiling.{WordsAt, IsWordFirst, begins_no_word, RawAt, IsTrimmed, AreParts, AreKinds}
+use Rattle.tm_lex.specs.Tiling.{WordsAt, begins_no_word, RawAt, AreParts, AreKinds}
 
 -- a byte of a gap before what words follow
 gap_byte : (i b : ℕ) (bs : List ℕ) → is_word b ≡ false → (ss : List Span) → WordsAt ss (i + 1) bs → WordsAt ss i (b ∷ bs)

@@ -1,8 +1,7 @@
 -- The tokens of a text, line by line.
-use Rattle.std.specs.Prelude.{ℕ, ◌≡◌, ◌≤◌, ◌<◌, ◌+◌, ◌-◌, ◌==◌, Bool, ◌&&◌, ◌||◌, not, nat_le, nat_lt, nat_eq, if◌then◌else◌, List, [], ◌∷◌, ◌++◌, length, take, drop, map, find, position, Option, Some, None, option_map, Result, Ok, Err, codes, slice_index}
+use Rattle.std.specs.Prelude.{ℕ, ◌≡◌, ◌≤◌, ◌<◌, ◌+◌, ◌-◌, ◌==◌, Bool, ◌&&◌, ◌||◌, not, nat_le, nat_lt, if◌then◌else◌, List, [], ◌∷◌, ◌++◌, length, take, drop, map, find, position, Option, Some, None, option_map, Result, Ok, Err, codes, slice_index}
 use Rattle.std.specs.List.{before_first, prefix_len, suffix_len, slice_split}
 use Rattle.std.specs.Str.{bytes_eq}
-use Rattle.tm_base.specs.declared.Pos.{Pos}
 use Rattle.tm_lex.specs.declared.token.TokenKind.{TokenKind}
 use Rattle.tm_lex.specs.declared.token.TokenKind.TheVariants.{Word, Raw, LineEnd}
 use Rattle.tm_lex.specs.declared.token.Token.{Token}

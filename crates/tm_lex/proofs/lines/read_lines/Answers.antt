@@ -1,4 +1,4 @@
-use Rattle.std.proofs.Common.{◌≡◌, ◌≢◌, ◌+◌, ◌-◌, ◌≤◌, ◌<◌, length, take, drop, length-drop, arith, rules, ◌∙◌, sym, ap, rules}
+use Rattle.std.proofs.Common.{◌+◌, ◌-◌, ◌<◌, length, drop, length-drop, arith}
 use Rattle.std.proofs.lemmas.List.{length-take}
 use Rattle.std.proofs.lemmas.Result.{err_from_is_err_and}
 use Rattle.tm_lex.proofs.LineLemmas.{start-same, fault-there, last-there, more-there}

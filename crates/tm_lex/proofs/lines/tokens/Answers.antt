@@ -1,4 +1,4 @@
-use Rattle.std.proofs.Common.{◌≡◌, ◌≢◌, List, ℕ, length, Result, Ok, Err, IfOk, IfErr, refl}
+use Rattle.std.proofs.Common.{◌≡◌, ◌≢◌, List, ℕ, length, Result, Ok, Err, IfOk, IfErr}
 use Rattle.tm_lex.specs.declared.token.Token.{Token}
 use Rattle.tm_lex.specs.declared.token.LexFault.{LexFault}
 use Rattle.tm_lex.specs.declared.token.LexFault.TheVariants.{NoMemory}

@@ -1,4 +1,4 @@
-use Rattle.std.proofs.Common.{◌≡◌, ◌≢◌, ◌+◌, ◌≤◌, ◌<◌, ◌-◌, drop, take, length, length-drop, arith, rules}
+use Rattle.std.proofs.Common.{◌+◌, ◌-◌, drop, length, length-drop, arith}
 use Rattle.std.proofs.lemmas.List.{length-take}
 use Rattle.tm_lex.proofs.WordLemmas.{next-none, next-some}
 use Rattle.tm_lex.proofs.words.next_word.Goals as goal
