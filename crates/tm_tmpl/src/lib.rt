@@ -3,6 +3,7 @@
 
 mod lines;
 mod parse;
+mod print;
 mod read;
 mod template;
 #[cfg(test)]
@@ -11,6 +12,7 @@ mod tokens;
 mod words;
 
 pub use parse::parse_template;
+pub use print::print_template;
 pub use template::{
     BodyDecl, CaseDecl, Kind, Selector, SlotDecl, SlotText, Template, TmplFault, Want, WindowDecl,
 };
