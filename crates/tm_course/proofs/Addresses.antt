@@ -84,4 +84,3 @@ reports e = writes_in cell 8 e.access
 -- the first value of register r, in a memory that holds the tables
 abbrev pub fresh_in : Table → ℕ → ℕ
 fresh_in image r = image (2155872248 + 8 * r)
-

@@ -1,5 +1,5 @@
 -- The parts before the stream: from the text's first word to the exit mark, and from there to the stream's start.
-use Rattle.std.proofs.Common.{◌≡◌, ◌≢◌, ◌⊎◌, inl, inr, true, false, true≢false, ℕ, zero, suc, ◌+◌, ◌*◌, ◌%◌, ◌^◌, ◌<◌, ◌≤◌, List, [], ◌∷◌, ◌++◌, length, Some, refl, sym, ap, ◌∙◌, subst, arith, append-nil}
+use Rattle.std.proofs.Common.{◌≡◌, ◌≢◌, ◌⊎◌, inl, inr, true, false, true≢false, ℕ, zero, suc, ◌+◌, ◌*◌, ◌^◌, ◌<◌, ◌≤◌, List, [], ◌∷◌, ◌++◌, Some, refl, sym, ap, ◌∙◌, subst, arith, append-nil}
 use Rattle.std.specs.Prelude.{IsTrue, nat_eq}
 use Rattle.std.proofs.lemmas.Bool.Decides.{eqb_tells}
 use Rattle.tm_table.specs.declared.instr.Instr.{Instr}
@@ -7,23 +7,23 @@ use Rattle.tm_world.specs.Marks.{Mark, Exit, Enter}
 use Rattle.tm_table.specs.declared.state.Access.TheVariants.{Quiet, Read, Write}
 use Rattle.tm_table.specs.Row.{word64}
 use Rattle.tm_runs.specs.Machine.{World, State, Entry, Table, get, put, loaded, computes}
-use Rattle.tm_runs.specs.Runs.{Takes, Now, At, Does, IsQuiet}
+use Rattle.tm_runs.specs.Runs.{Takes, Now, At, IsQuiet}
 use Rattle.tm_runs.specs.Course.{Sofar, Good, Calm}
-use Rattle.tm_runs.proofs.Compose.{takes_then, takes_map, takes_more}
+use Rattle.tm_runs.proofs.Compose.{takes_then, takes_map}
 use Rattle.tm_runs.proofs.Tables.{at_front, at_next, put_same, put_other, get_put, get_put_other}
 use Rattle.tm_runs.proofs.Steps.{written, branched, step_ld, step_sd, step_addi, step_beq_taken, step_beq_on}
 use Rattle.tm_runs.proofs.Story.{calmly, good, sofar-one}
 use Rattle.tm_blocks.specs.Instrs.{addi, ld, sd, beq}
 use Rattle.tm_blocks.specs.Blocks.{constant, copy, load_registers_but_last}
-use Rattle.tm_blocks.specs.Laws.{Uses, Among, Nowhere, EachAccess, copies, HasAllButLast, after_last_load}
+use Rattle.tm_blocks.specs.Laws.{Uses, Among, Nowhere, EachAccess, copies, after_last_load}
 use Rattle.tm_blocks.proofs.Lengths.{length-constant, length-load_registers_but_last}
 use Rattle.tm_blocks.proofs.Constant.{constant_runs}
 use Rattle.tm_blocks.proofs.Collect.{copy_runs}
 use Rattle.tm_blocks.proofs.Registers.{load_all_but_last_runs, last_load_runs}
-use Rattle.tm_course.proofs.Ground.{Ground, Fact, Hold, is_out, fresh_in, entry_at, arrive_at, exit_at, run_at, start_at, end_at, between_at, last_at, halt_at, registers_at, first_at, tables_end, cell, private, count_at, shared, arrive_part, choose_part}
-use Rattle.tm_course.proofs.Calm.{Away, IsMild, mild-uses, mild-quiet, plain, calm, calm-does}
+use Rattle.tm_course.proofs.Ground.{Ground, Fact, Hold, is_out, fresh_in, entry_at, arrive_at, exit_at, run_at, start_at, end_at, between_at, last_at, halt_at, registers_at, first_at, tables_end, private, count_at, shared, arrive_part, choose_part}
+use Rattle.tm_course.proofs.Calm.{IsMild, mild-uses, mild-quiet, plain, calm, calm-does}
 use Rattle.tm_course.proofs.Notes.{Same, Blank, IsZero, same-then, same-part, same-low, same-one, same-exit, blank-same, low-quiet, low-uses, reads-uses, among-low, zero-copies, accesses-of}
-use Rattle.tm_course.proofs.Memory.{fits-put, stored-below, stored-count, stored-tables, usable-table, back-table, usable-own, back-own, usable-shared, free-shared, among-behind}
+use Rattle.tm_course.proofs.Memory.{fits-put, stored-below, stored-count, stored-tables, usable-table, back-table, usable-shared, free-shared, among-behind}
 
 -- the same instructions at the same address
 pub moved_to : (text : ℕ → Rattle.std.specs.Prelude.Option Instr) (a b : ℕ) (code : List Instr) → b ≡ a → At text a code → At text b code
@@ -52,15 +52,17 @@ module _ (w : World) (mark : ℕ → ℕ → List Mark) (n : ℕ) (image : Table
       (subst (EachAccess IsZero) (sym (accesses-of r.1.entries t.log u.log (copies first_at shared 0 c.values) r.1.log c.accesses)) (zero-copies first_at shared 0 c.values (λ i l.
       let m : i < 8 = omega (arith, c.read.count) in
       c.read.own i m (back-table w mark n ground first_at 8 (omega arith) (omega arith) i m) ∙ (ap (λ (f : Table). f (first_at + 8 * i)) p.mem ∙ (tables (first_at + 8 * i) (omega arith) (omega arith) ∙ blank i m)))))
-      (λ x _ m _. stored-below t.mem u.mem shared c.values c.mem x (omega arith)) in
-      (record {
-        pc = omega (arith, p.pc, c.pc);
-        base = c.regs 31 (omega arith) (omega arith) (omega arith) ∙ (ap (λ (f : Table). get f 31) p.regs ∙ get_put s.regs 31 private (omega arith));
-        count = stored-count t.mem u.mem shared 8 c.values c.mem c.read.count (inl (omega arith)) ∙ (ap (λ (f : Table). f count_at) p.mem ∙ count);
-        tables = λ a l m. stored-tables t.mem u.mem shared c.values c.mem (omega arith) a m ∙ (ap (λ (f : Table). f a) p.mem ∙ tables a l m);
-        fits = c.fits (p.fits fits);
-        sofar = r.2;
-      }, blank-same none (same-then a b)))
+      (λ x _ m _. stored-below t.mem u.mem shared c.values c.mem x (omega arith)) in (
+        record {
+          pc = omega (arith, p.pc, c.pc);
+          base = c.regs 31 (omega arith) (omega arith) (omega arith) ∙ (ap (λ (f : Table). get f 31) p.regs ∙ get_put s.regs 31 private (omega arith));
+          count = stored-count t.mem u.mem shared 8 c.values c.mem c.read.count (inl (omega arith)) ∙ (ap (λ (f : Table). f count_at) p.mem ∙ count);
+          tables = λ a l m. stored-tables t.mem u.mem shared c.values c.mem (omega arith) a m ∙ (ap (λ (f : Table). f a) p.mem ∙ tables a l m);
+          fits = c.fits (p.fits fits);
+          sofar = r.2;
+        },
+        blank-same none (same-then a b),
+      ))
       (calmly mark (Fact n image) (is_out n) way [] rest most 11 front (omega arith)
       (calm-does w mark n ground image t.pc (t.pc + 4 * (22 + 2 * 8)) (Uses (Among first_at 8) (Among shared 8)) (record { exit = inl (omega (arith, p.pc)); stream = inl (omega (arith, p.pc)); halt = omega (arith, p.pc) }) (mild-uses (Among first_at 8) (Among shared 8) (λ a h. among-behind w mark n ground shared 8 a (omega arith) h)))
       q.2
@@ -102,16 +104,19 @@ module _ (w : World) (mark : ℕ → ℕ → List Mark) (n : ℕ) (image : Table
       let mild : IsMild (Write count_at 8 (suc k)) = mild-uses Nowhere (Among count_at 1) (λ a g. among-behind w mark n ground count_at 1 a (omega arith) g) (Write count_at 8 (suc k)) (refl, record { index = 0; below = omega arith; is = refl }) in
       let c3 : Sofar mark (Fact n image) (is_out n) (ms ++ Exit ∷ []) (suc (suc (suc o))) e3.log = sofar-one mark (Fact n image) (is_out n) ms (Exit ∷ []) (suc (suc o)) _ s2.log (ap (mark s2.pc) next ∙ ground.exit s2.pc) (plain w mark n ground image _ (λ e. omega (arith, h.pc)) (λ e. omega (arith, h.pc)) mild s2.log) c2 in
       step_sd count_at refl code.1.1.0 place (refl, area.2) area.1 (here (ms ++ Exit ∷ []) rest (suc (suc (suc o))) _ behind (omega arith) c3)
-      (Now ((record {
-        pc = next;
-        base = h.base;
-        count = put_same s.mem count_at (suc k);
-        tables = λ a l m. put_other s.mem count_at (suc k) a (λ e. omega arith) ∙ h.tables a l m;
-        fits = fits-put (put s.regs 1 v) 1 (suc k) (fits-put s.regs 1 v h.fits (omega (arith, value))) (omega arith);
-        sofar = subst (λ (x : ℕ). Sofar mark (Fact n image) (is_out n) (ms ++ Exit ∷ []) x e3.log) (omega arith) c3;
-      }, same-then (same-one n _ s s1 refl (inl (omega (arith, h.pc))) (omega arith) (λ _ _ _ _. refl) (λ z. omega (arith, z, h.pc)))
-      (same-then (same-one n _ s1 s2 refl (inl (omega (arith, h.pc))) tt (λ _ _ _ _. refl) (λ z. omega (arith, z, h.pc)))
-      (same-one n _ s2 e3 refl (inl (omega (arith, h.pc))) (omega arith) (λ x _ _ ne. put_other s.mem count_at (suc k) x ne) (λ z. omega (arith, z, h.pc)))))))))
+      (Now ((
+        record {
+          pc = next;
+          base = h.base;
+          count = put_same s.mem count_at (suc k);
+          tables = λ a l m. put_other s.mem count_at (suc k) a (λ e. omega arith) ∙ h.tables a l m;
+          fits = fits-put (put s.regs 1 v) 1 (suc k) (fits-put s.regs 1 v h.fits (omega (arith, value))) (omega arith);
+          sofar = subst (λ (x : ℕ). Sofar mark (Fact n image) (is_out n) (ms ++ Exit ∷ []) x e3.log) (omega arith) c3;
+        },
+        same-then (same-one n _ s s1 refl (inl (omega (arith, h.pc))) (omega arith) (λ _ _ _ _. refl) (λ z. omega (arith, z, h.pc)))
+            (same-then (same-one n _ s1 s2 refl (inl (omega (arith, h.pc))) tt (λ _ _ _ _. refl) (λ z. omega (arith, z, h.pc)))
+            (same-one n _ s2 e3 refl (inl (omega (arith, h.pc))) (omega arith) (λ x _ _ ne. put_other s.mem count_at (suc k) x ne) (λ z. omega (arith, z, h.pc)))),
+      )))))
 
   -- ---- the count chooses the way on
 
@@ -210,15 +215,18 @@ module _ (w : World) (mark : ℕ → ℕ → List Mark) (n : ℕ) (image : Table
         halt = λ e. absurd (omega (arith, next));
         spares = λ _. tt;
       }) q.2) in
-      takes_map (λ x e. subst Told (sym e.is) (here (ms ++ Enter 0 ∷ []) rest (o + 42) u.log behind few so)) (λ x e. subst (λ (y : State). Hold mark n image k start_at (ms ++ Enter 0 ∷ []) (o + 42) y × Same n 0 s y) (sym e.is) (record {
-        pc = next;
-        base = last ∙ base;
-        count = ap (λ (f : Table). f count_at) p.mem ∙ h.count;
-        tables = λ a l m. ap (λ (f : Table). f a) p.mem ∙ h.tables a l m;
-        fits = fits-put t.regs 31 v (p.fits h.fits) e.small;
-        sofar = so;
-      }, same-then (same-low n private s.pc (s.pc + 164) (Uses (Among registers_at 30) Nowhere) s t (inl (omega (arith, h.pc))) (inr (omega (arith, h.pc))) (low-uses (Among registers_at 30) Nowhere (λ a g. among-low registers_at 30 a (omega arith) g) (λ a g. absurd g)) q.1 (λ a _ _ _. ap (λ (f : Table). f a) p.mem))
-      (same-one n _ t u refl (inl (omega (arith, next))) (omega arith) (λ _ _ _ _. refl) (λ z. omega (arith, z, next))))) (last_load_runs registers_at w t usable back at1 p.base))
+      takes_map (λ x e. subst Told (sym e.is) (here (ms ++ Enter 0 ∷ []) rest (o + 42) u.log behind few so)) (λ x e. subst (λ (y : State). Hold mark n image k start_at (ms ++ Enter 0 ∷ []) (o + 42) y × Same n 0 s y) (sym e.is) (
+        record {
+          pc = next;
+          base = last ∙ base;
+          count = ap (λ (f : Table). f count_at) p.mem ∙ h.count;
+          tables = λ a l m. ap (λ (f : Table). f a) p.mem ∙ h.tables a l m;
+          fits = fits-put t.regs 31 v (p.fits h.fits) e.small;
+          sofar = so;
+        },
+        same-then (same-low n private s.pc (s.pc + 164) (Uses (Among registers_at 30) Nowhere) s t (inl (omega (arith, h.pc))) (inr (omega (arith, h.pc))) (low-uses (Among registers_at 30) Nowhere (λ a g. among-low registers_at 30 a (omega arith) g) (λ a g. absurd g)) q.1 (λ a _ _ _. ap (λ (f : Table). f a) p.mem))
+            (same-one n _ t u refl (inl (omega (arith, next))) (omega arith) (λ _ _ _ _. refl) (λ z. omega (arith, z, next))),
+      )) (last_load_runs registers_at w t usable back at1 p.base))
     where
       loads : (t : State) (i : ℕ) → get t.regs (i + 1) ≡ image (registers_at + 8 * i) → get t.regs (suc i) ≡ fresh_in image (suc i)
       loads t i e = let a : suc i ≡ i + 1 = omega arith in let b : registers_at + 8 * i ≡ 2155872248 + 8 * suc i = omega arith in ap (get t.regs) a ∙ (e ∙ ap image b)

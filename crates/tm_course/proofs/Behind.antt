@@ -1,22 +1,21 @@
 -- The parts behind the stream's start: the stream, saving, collecting, and comparing.
-use Rattle.std.proofs.Common.{◌≡◌, ◌≢◌, ◌⊎◌, inl, inr, Bool, true, false, true≢false, ◌&&◌, not, nat_le, nat_lt, ◌==◌, ℕ, suc, ◌+◌, ◌*◌, ◌%◌, ◌^◌, ◌<◌, ◌≤◌, List, [], ◌∷◌, ◌++◌, length, Option, Some, None, ne_eqb, eq-eqb, append_assoc, refl, sym, ap, ◌∙◌, subst, arith, append-nil, length-append}
-use Rattle.std.specs.Prelude.{IsTrue, if◌then◌else◌}
+use Rattle.std.proofs.Common.{◌≡◌, ◌≢◌, ◌⊎◌, inl, inr, Bool, true, false, true≢false, ◌&&◌, not, ◌==◌, ℕ, suc, ◌+◌, ◌*◌, ◌%◌, ◌^◌, ◌<◌, ◌≤◌, List, [], ◌∷◌, ◌++◌, length, Option, Some, None, ne_eqb, eq-eqb, refl, sym, ap, ◌∙◌, subst, arith, append-nil, length-append}
+use Rattle.std.specs.Prelude.{if◌then◌else◌}
 use Rattle.std.proofs.lemmas.Bool.{cases_lt}
 use Rattle.std.proofs.lemmas.Bool.Decides.{nat_tests}
-use Rattle.tm_table.specs.declared.instr.Instr.{Instr}
 use Rattle.tm_table.specs.declared.state.Access.{Access}
 use Rattle.tm_table.specs.declared.state.Access.TheVariants.{Quiet, Read, Write}
 use Rattle.tm_plan.specs.Collected.{any}
 use Rattle.tm_world.specs.Lists.{count, or_else}
 use Rattle.tm_world.specs.Place.{byte_of}
 use Rattle.tm_world.specs.Run.{got}
-use Rattle.tm_world.specs.Marks.{Mark, Exit, Enter, End, Halt}
+use Rattle.tm_world.specs.Marks.{Mark, End, Halt}
 use Rattle.tm_world.specs.Course.{writes_in}
-use Rattle.tm_runs.specs.Machine.{World, State, Entry, Table, Strays, StreamAccess, get, put}
-use Rattle.tm_runs.specs.Runs.{Takes, Keeps, Now, At, Does, IsQuiet, Since}
-use Rattle.tm_runs.specs.Course.{Sofar, Good, Calm, trail}
-use Rattle.tm_runs.proofs.Compose.{takes_then, takes_map, takes_more, keeps_map}
-use Rattle.tm_runs.proofs.Tables.{at_front, at_next, put_other, get_put_zero}
+use Rattle.tm_runs.specs.Machine.{World, State, Entry, Table, Strays, StreamAccess, get}
+use Rattle.tm_runs.specs.Runs.{Takes, Keeps, Now, At, Does, Since}
+use Rattle.tm_runs.specs.Course.{Sofar, Good}
+use Rattle.tm_runs.proofs.Compose.{takes_then, takes_map, keeps_map}
+use Rattle.tm_runs.proofs.Tables.{at_front, at_next, get_put_zero}
 use Rattle.tm_runs.proofs.Steps.{jumped, step_jal}
 use Rattle.tm_runs.proofs.Story.{calmly, good, sofar-one, stream-story}
 use Rattle.tm_blocks.specs.Instrs.{sd, jump_back}
@@ -27,9 +26,9 @@ use Rattle.tm_blocks.proofs.Lengths.{length-save_registers, length-copy, length-
 use Rattle.tm_blocks.proofs.Collect.{copy_runs, collect_runs}
 use Rattle.tm_blocks.proofs.Registers.{save_registers_runs}
 use Rattle.tm_blocks.proofs.Whole.{compare_but_last_runs, last_store_runs}
-use Rattle.tm_course.proofs.Ground.{Ground, Fact, Hold, is_out, is_end, is_halt, reports, fresh_in, arrive_at, exit_at, start_at, end_at, between_at, last_at, halt_at, registers_at, mask_at, first_at, bytes_at, tables_end, cell, private, count_at, save_0, save_1, shared}
-use Rattle.tm_course.proofs.Calm.{Away, IsMild, mild-uses, mild-quiet, plain, calm, calm-does, calm-one, silent, ended}
-use Rattle.tm_course.proofs.Notes.{is_in, phase_at, left, first_read, first_got, outs, IsZero, Same, SameFrom, Stayed, Left, SavedRegisters, SavedState, Clear, HasRegisters, PassTold, Judged, IsSave, clear-same, clear-save, pass-told, told-same, told-save, same-then, same-from, same-part, same-low, same-one, low-uses, reads-uses, among-low, zero-copies, low-copies, accesses-of, each-append, outs-more, phase-same, left-same, read-other, read-here, or-none}
+use Rattle.tm_course.proofs.Ground.{Ground, Fact, Hold, is_out, is_end, is_halt, reports, arrive_at, exit_at, start_at, end_at, between_at, last_at, halt_at, registers_at, mask_at, first_at, bytes_at, tables_end, cell, private, count_at, save_0, save_1, shared}
+use Rattle.tm_course.proofs.Calm.{mild-uses, mild-quiet, calm, calm-does, calm-one, silent, ended}
+use Rattle.tm_course.proofs.Notes.{is_in, phase_at, left, first_read, first_got, outs, IsZero, Same, SameFrom, Stayed, Left, SavedRegisters, SavedState, Clear, HasRegisters, PassTold, Judged, clear-same, clear-save, pass-told, told-same, told-save, same-then, same-from, same-part, same-low, same-one, low-uses, reads-uses, among-low, zero-copies, low-copies, accesses-of, each-append, outs-more, phase-same, left-same, read-other, read-here, or-none}
 use Rattle.tm_course.proofs.FirstReads.{got-append, copies-none, copies-some}
 use Rattle.tm_blocks.proofs.Pointwise.{saved_register, saved_other, collected_register, collected_shared, collected_other}
 use Rattle.tm_course.proofs.Memory.{fits-put, stored-below, stored-count, stored-tables, usable-table, back-table, usable-own, back-own, free-own, usable-shared, free-shared, usable-cell, free-cell, among-behind}
@@ -89,11 +88,14 @@ module _ (w : World) (mark : ℕ → ℕ → List Mark) (n : ℕ) (image : Table
 
         by : (u.pc < end_at n) ⊎ (end_at n ≤ u.pc) → ((u.pc < end_at n) × (left n (phase_at s.log) u.log ≡ left n (phase_at s.log) s.log)) ⊎ ((end_at n ≤ u.pc) × Left n s u)
         by (inl l) = inl (l, left-next (phase_at s.log) true true same (inside-true u.pc r.least l) ∙ (or-none (left n (phase_at s.log) t.log) ∙ e))
-        by (inr l) = inr (l, record {
-          registers = r.entry.regs;
-          are = r.regs;
-          told = left-next (phase_at s.log) true false same (inside-false u.pc l) ∙ ap (λ (o : Option Table). or_else o (Some r.entry.regs)) e;
-        })
+        by (inr l) = inr (
+          l,
+          record {
+            registers = r.entry.regs;
+            are = r.regs;
+            told = left-next (phase_at s.log) true false same (inside-false u.pc l) ∙ ap (λ (o : Option Table). or_else o (Some r.entry.regs)) e;
+          },
+        )
 
   kept : (k : ℕ) (s t u : State) → Stays k s t → start_at ≤ t.pc → t.pc < end_at n → Strays w start_at (end_at n) t u → Stays k s u
   kept k s t u h a b r = record {
@@ -146,14 +148,17 @@ module _ (w : World) (mark : ℕ → ℕ → List Mark) (n : ℕ) (image : Table
       let e = jumped (jump_back b) arrive_at s in
       let so : Sofar mark (Fact n image) (is_out n) ms (o + 1) e.log = subst (λ (x : ℕ). Sofar mark (Fact n image) (is_out n) ms x e.log) (omega arith) (calm-one w mark n ground image ms o _ s.log (calm w mark n ground image _ (λ z. omega arith) (λ z. omega arith) (inl (omega arith)) (mild-quiet Quiet refl)) h.sofar) in
       step_jal arrive_at refl (subst (λ (x : ℕ). w.text x ≡ Some (jump_back b)) (sym h.pc) at) (omega (arith, h.pc)) (good mark (Fact n image) (is_out n) way ms rest most (o + 1) e.log front few so)
-      (Now (record {
-        pc = refl;
-        base = get_put_zero s.regs (s.pc + 4) 31 ∙ h.base;
-        count = h.count;
-        tables = h.tables;
-        fits = fits-put s.regs 0 (s.pc + 4) h.fits (omega (arith, h.pc));
-        sofar = so;
-      }, same-one n _ s e refl (inr (omega (arith, h.pc))) tt (λ _ _ _ _. refl) (λ z. omega (arith, z, h.pc))))
+      (Now (
+        record {
+          pc = refl;
+          base = get_put_zero s.regs (s.pc + 4) 31 ∙ h.base;
+          count = h.count;
+          tables = h.tables;
+          fits = fits-put s.regs 0 (s.pc + 4) h.fits (omega (arith, h.pc));
+          sofar = so;
+        },
+        same-one n _ s e refl (inr (omega (arith, h.pc))) tt (λ _ _ _ _. refl) (λ z. omega (arith, z, h.pc)),
+      ))
 
   -- ---- saving
 
@@ -217,15 +222,17 @@ module _ (w : World) (mark : ℕ → ℕ → List Mark) (n : ℕ) (image : Table
       → Takes w Told (λ t. Hold mark n image k (place + 392) ms (o + 98) t × SavedState n save s t) 98 s
   collected ms rest k o save place s front few lo hi code after' before al h =
       takes_map (λ u g. g) (λ u r.
-      let c = r.0 in
-      (record {
-        pc = omega (arith, c.pc, h.pc);
-        base = c.regs 31 (omega arith) (omega arith) (omega arith) ∙ h.base;
-        count = stored-count s.mem u.mem save 38 (dwords s.mem private 30 ++ c.values) c.mem (length-append (dwords s.mem private 30) c.values ∙ ap (λ (x : ℕ). 30 + x) c.count) (inl (omega arith)) ∙ h.count;
-        tables = λ a l m. stored-tables s.mem u.mem save (dwords s.mem private 30 ++ c.values) c.mem (omega arith) a m ∙ h.tables a l m;
-        fits = c.fits h.fits;
-        sofar = r.2;
-      }, saved-state s u save c r.1 (inr (omega (arith, h.pc))) (inr (omega (arith, h.pc))) (omega arith)))
+      let c = r.0 in (
+        record {
+          pc = omega (arith, c.pc, h.pc);
+          base = c.regs 31 (omega arith) (omega arith) (omega arith) ∙ h.base;
+          count = stored-count s.mem u.mem save 38 (dwords s.mem private 30 ++ c.values) c.mem (length-append (dwords s.mem private 30) c.values ∙ ap (λ (x : ℕ). 30 + x) c.count) (inl (omega arith)) ∙ h.count;
+          tables = λ a l m. stored-tables s.mem u.mem save (dwords s.mem private 30 ++ c.values) c.mem (omega arith) a m ∙ h.tables a l m;
+          fits = c.fits h.fits;
+          sofar = r.2;
+        },
+        saved-state s u save c r.1 (inr (omega (arith, h.pc))) (inr (omega (arith, h.pc))) (omega arith),
+      ))
       (calmly mark (Fact n image) (is_out n) way ms rest most o front few
       (calm-does w mark n ground image s.pc (s.pc + 4 * (82 + 2 * 8)) (Uses (Collects private shared 8) (Among save 38)) (record { exit = inr (omega (arith, h.pc)); stream = inr (omega (arith, h.pc)); halt = omega (arith, h.pc) }) (mild-uses (Collects private shared 8) (Among save 38) (λ a g. among-behind w mark n ground save 38 a (omega arith) g)))
       h.sofar
@@ -242,15 +249,17 @@ module _ (w : World) (mark : ℕ → ℕ → List Mark) (n : ℕ) (image : Table
       (subst (EachAccess IsZero) (sym (accesses-of r.1.entries s.log u.log (copies first_at shared 0 c.values) r.1.log c.accesses)) (zero-copies first_at shared 0 c.values (λ i l.
       let m : i < 8 = omega (arith, c.read.count) in
       c.read.own i m (back-table w mark n ground first_at 8 (omega arith) (omega arith) i m) ∙ (h.tables (first_at + 8 * i) (omega arith) (omega arith) ∙ blank i m))))
-      (λ x _ m _. stored-below s.mem u.mem shared c.values c.mem x (omega arith)) in
-      (record {
-        pc = omega (arith, c.pc, h.pc);
-        base = c.regs 31 (omega arith) (omega arith) (omega arith) ∙ h.base;
-        count = stored-count s.mem u.mem shared 8 c.values c.mem c.read.count (inl (omega arith)) ∙ h.count;
-        tables = λ a l m. stored-tables s.mem u.mem shared c.values c.mem (omega arith) a m ∙ h.tables a l m;
-        fits = c.fits h.fits;
-        sofar = r.2;
-      }, b))
+      (λ x _ m _. stored-below s.mem u.mem shared c.values c.mem x (omega arith)) in (
+        record {
+          pc = omega (arith, c.pc, h.pc);
+          base = c.regs 31 (omega arith) (omega arith) (omega arith) ∙ h.base;
+          count = stored-count s.mem u.mem shared 8 c.values c.mem c.read.count (inl (omega arith)) ∙ h.count;
+          tables = λ a l m. stored-tables s.mem u.mem shared c.values c.mem (omega arith) a m ∙ h.tables a l m;
+          fits = c.fits h.fits;
+          sofar = r.2;
+        },
+        b,
+      ))
       (calmly mark (Fact n image) (is_out n) way ms rest most o front few
       (calm-does w mark n ground image s.pc (s.pc + 4 * (22 + 2 * 8)) (Uses (Among first_at 8) (Among shared 8)) (record { exit = inr (omega (arith, h.pc)); stream = inr (omega (arith, h.pc)); halt = omega (arith, h.pc) }) (mild-uses (Among first_at 8) (Among shared 8) (λ a g. among-behind w mark n ground shared 8 a (omega arith) g)))
       h.sofar

@@ -1,6 +1,6 @@
 -- Parts of support code whose steps come to no mark and write no verdict.
-use Rattle.std.proofs.Common.{eq-eqb, suc, [], ◌∷◌, ◌++◌, ◌==◌, ◌||◌, ap, append-nil, ◌≡◌, ◌≢◌, ◌⊎◌, inl, inr, ℕ, ◌+◌, ◌*◌, ◌<◌, ◌≤◌, Bool, true, false, true≢false, refl, sym, ◌∙◌, arith, List}
-use Rattle.std.specs.Prelude.{IsTrue, if◌then◌else◌}
+use Rattle.std.proofs.Common.{eq-eqb, suc, [], ◌∷◌, ◌++◌, ◌==◌, ◌||◌, ap, append-nil, ◌≡◌, ◌≢◌, ◌⊎◌, inl, inr, ℕ, ◌+◌, ◌<◌, ◌≤◌, Bool, true, false, true≢false, refl, sym, ◌∙◌, arith, List}
+use Rattle.std.specs.Prelude.{if◌then◌else◌}
 use Rattle.std.proofs.lemmas.Bool.Decides.{nat_tests}
 use Rattle.tm_table.specs.declared.state.Access.{Access}
 use Rattle.tm_table.specs.declared.state.Access.TheVariants.{Quiet, Read, Write}
@@ -55,7 +55,6 @@ module _ (w : World) (mark : ℕ → ℕ → List Mark) (n : ℕ) (ground : Grou
     halt = λ at. absurd (y at);
     spares = λ _. m.spares;
   }
-
     where
       written : {v : ℕ} → e.access ≡ Write cell 8 v → writes_in cell 8 e.access ≡ true
       written q = ap (writes_in cell 8) q

@@ -1,11 +1,9 @@
 -- What each half run of a program of one hart does: the course, and the number of steps.
-use Rattle.std.proofs.Common.{◌≡◌, ◌≢◌, ◌⊎◌, inl, inr, ℕ, zero, suc, ◌+◌, ◌*◌, ◌^◌, ◌<◌, ◌≤◌, Bool, true, false, true≢false, ◌&&◌, ◌||◌, not, nat_le, nat_lt, ◌==◌, eqb-true, List, [], ◌∷◌, ◌++◌, length, Option, Some, None, refl, sym, ap, ap₂, ◌∙◌, subst, arith, append-nil}
+use Rattle.std.proofs.Common.{◌≡◌, ◌⊎◌, inl, inr, ℕ, zero, suc, ◌*◌, ◌^◌, ◌<◌, ◌≤◌, Bool, true, false, true≢false, ◌&&◌, ◌||◌, not, nat_le, nat_lt, ◌==◌, eqb-true, List, [], ◌∷◌, ◌++◌, length, Option, Some, None, refl, sym, ap, ap₂, ◌∙◌, subst, arith}
 use Rattle.std.specs.Prelude.{slice_get, slice_index, IsTrue, IsFalse, flat_map, if◌then◌else◌}
 use Rattle.std.proofs.lemmas.Bool.{cases_lt}
 use Rattle.std.proofs.lemmas.Bool.Decides.{nat_tests}
-use Rattle.tm_table.specs.declared.state.Access.{Access}
-use Rattle.tm_table.specs.declared.state.Access.TheVariants.{Quiet, Read, Write}
-use Rattle.tm_table.specs.State.{Hart}
+use Rattle.tm_table.specs.declared.state.Access.TheVariants.{Write}
 use Rattle.tm_plan.specs.declared.cases.Case.{Case}
 use Rattle.tm_plan.specs.declared.cases.Stream.{Stream}
 use Rattle.tm_plan.specs.declared.masks.CaseMask.{CaseMask}
@@ -13,16 +11,16 @@ use Rattle.tm_plan.specs.declared.program.Program.{Program}
 use Rattle.tm_plan.specs.Map.{text_base, tables_base, verdict_at}
 use Rattle.tm_plan.specs.Collected.{any, count_from}
 use Rattle.tm_world.specs.Lists.{count, IsFront}
-use Rattle.tm_world.specs.Place.{harts, case_count, passes, start_of, end_of, halt_of, inside, is_text, is_table}
-use Rattle.tm_world.specs.Run.{Step, Always, now, first_state, pc_of, access_of, Writes}
+use Rattle.tm_world.specs.Place.{harts, case_count, passes, start_of, inside, is_text, is_table}
+use Rattle.tm_world.specs.Run.{Step, Always, now, first_state, pc_of, access_of}
 use Rattle.tm_world.specs.Writers.{stream_in}
-use Rattle.tm_world.specs.Kinds.{IsOpening, HalfPath, HalfStep, stream_at}
-use Rattle.tm_world.specs.Marks.{Mark, Exit, Enter, End, Halt, comes_to, visited, whole_way, pass_way, arrivals}
+use Rattle.tm_world.specs.Kinds.{IsOpening, HalfPath, stream_at}
+use Rattle.tm_world.specs.Marks.{Mark, Enter, Halt, comes_to, whole_way, pass_way, arrivals}
 use Rattle.tm_world.specs.Course.{OnHalf, KeepsOrder, EntersFresh, KeepsVerdicts, HasAllVerdicts, IsFresh, WritesVerdict, writes_in}
 use Rattle.tm_world.specs.Work.{GoesOn}
 use Rattle.tm_runs.specs.Machine.{State, Entry, get}
 use Rattle.tm_runs.specs.Runs.{Keeps, Stopped}
-use Rattle.tm_runs.specs.World.{Sizes, world_of, start, image_dword}
+use Rattle.tm_runs.specs.World.{world_of, start, image_dword}
 use Rattle.tm_runs.specs.Shadow.{entry_of, entries_of}
 use Rattle.tm_runs.specs.Course.{trail, Story, Good}
 use Rattle.tm_runs.proofs.Bytes.{within-false}
@@ -32,8 +30,8 @@ use Rattle.tm_legal.specs.Tame.{SparesImage, OutsideSpares}
 use Rattle.tm_legal.proofs.Inside.{writes-map}
 use Rattle.tm_stays.specs.Stays.{outside_steps, one_outside}
 use Rattle.tm_course.specs.OneHart.{IsOfOneHart}
-use Rattle.tm_course.proofs.Ground.{Fact, is_out, reports, fresh_in, entry_at, start_at, end_at, halt_at, cell}
-use Rattle.tm_course.proofs.Laying.{one-case, shaped, start-is, end-is, halt-is, stream-in, stream-out}
+use Rattle.tm_course.proofs.Ground.{Fact, is_out, reports, start_at, end_at, halt_at, cell}
+use Rattle.tm_course.proofs.Laying.{one-case, start-is, end-is, halt-is, stream-in, stream-out}
 use Rattle.tm_course.proofs.Tables.{register-dword, base-dword, count-dword, first-blank}
 use Rattle.tm_course.proofs.Grounded.{ground}
 use Rattle.tm_course.proofs.Behind.{Done}

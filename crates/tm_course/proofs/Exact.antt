@@ -1,6 +1,6 @@
 -- The number that a hart writes is the verdict, on each half run of a program of one hart.
-use Rattle.std.proofs.Common.{◌≡◌, ◌≢◌, ◌⊎◌, inl, inr, ℕ, zero, suc, ◌+◌, ◌-◌, ◌*◌, ◌/◌, ◌%◌, ◌^◌, ◌<◌, ◌≤◌, Bool, true, false, true≢false, ◌&&◌, not, nat_le, nat_lt, ◌==◌, eqb-true, eq-eqb, List, [], ◌∷◌, ◌++◌, length, Option, Some, None, refl, sym, ap, ap₂, ◌∙◌, subst, arith}
-use Rattle.std.specs.Prelude.{slice_get, slice_index, slice_index_or, IsTrue, All, filter, map, if◌then◌else◌, option_map}
+use Rattle.std.proofs.Common.{◌≡◌, ◌⊎◌, inl, inr, ℕ, zero, suc, ◌+◌, ◌-◌, ◌*◌, ◌/◌, ◌%◌, ◌^◌, ◌<◌, ◌≤◌, Bool, true, false, ◌&&◌, not, nat_le, nat_lt, ◌==◌, eqb-true, eq-eqb, List, [], ◌∷◌, length, Option, Some, None, refl, sym, ap, ap₂, ◌∙◌, subst, arith}
+use Rattle.std.specs.Prelude.{slice_get, slice_index, IsTrue, All, map, if◌then◌else◌, option_map}
 use Rattle.std.proofs.lemmas.Bool.{cases_lt}
 use Rattle.std.proofs.lemmas.Bool.Decides.{nat_tests}
 use Rattle.std.proofs.lemmas.List.Elements.{All-head}
@@ -13,8 +13,8 @@ use Rattle.tm_plan.specs.declared.program.Program.{Program}
 use Rattle.tm_plan.specs.Map.{verdict_at, windows_base}
 use Rattle.tm_plan.specs.Collected.{count_from, owned}
 use Rattle.tm_world.specs.Lists.{count, or_else}
-use Rattle.tm_world.specs.Place.{harts, passes, exit_of, inside, image_byte, byte_of}
-use Rattle.tm_world.specs.Run.{Step, Always, now, first_state, pc_of, access_of, got, phase, earliest}
+use Rattle.tm_world.specs.Place.{passes, exit_of, inside, image_byte, byte_of}
+use Rattle.tm_world.specs.Run.{Step, now, first_state, pc_of, access_of, got, phase}
 use Rattle.tm_world.specs.Kinds.{IsOpening, HalfPath}
 use Rattle.tm_world.specs.Course.{OnHalf}
 use Rattle.tm_world.specs.Verdict.{Part, Register, Byte, run_phase, left_with, first_read as first_read_of, end_value, parts, saved, is_checked, Same as SameParts, IsVerdict, agree, differ, WritesExactly}
@@ -27,7 +27,7 @@ use Rattle.tm_runs.proofs.Paths.{on-half, phase-entries}
 use Rattle.tm_blocks.specs.Verdict.{verdict_number, Agrees, IsMask, IsNumber, agree as same_all, differ as first_other}
 use Rattle.tm_blocks.proofs.Masks.{verdict_agrees}
 use Rattle.tm_course.specs.OneHart.{IsOfOneHart}
-use Rattle.tm_course.proofs.Addresses.{start_at, end_at, exit_at, mask_at, bytes_at, save_0, save_1, shared, cell}
+use Rattle.tm_course.proofs.Addresses.{mask_at, bytes_at, save_0, save_1, shared, cell}
 use Rattle.tm_course.proofs.Logs.{is_in, phase_at, left, first_read, PassTold, Judged}
 use Rattle.tm_course.proofs.Laying.{start-is, end-is, exit-is}
 use Rattle.tm_course.proofs.Tables.{shaped-mask, mask-dword, mask-byte, image-small}

@@ -1,14 +1,12 @@
 -- What the parts of one hart's program stand on: where their words, the marks and the memory lie, in numbers. A stream of n words
 -- stands between them.
-use Rattle.std.proofs.Common.{◌≡◌, ◌≢◌, ◌⊎◌, ℕ, suc, ◌+◌, ◌*◌, ◌^◌, ◌<◌, ◌≤◌, Bool, true, false, not, ◌&&◌, nat_le, nat_lt, ◌==◌, List, [], ◌∷◌, ◌++◌, Some}
+use Rattle.std.proofs.Common.{◌≡◌, ◌≢◌, ◌⊎◌, ℕ, ◌+◌, ◌*◌, ◌^◌, ◌<◌, ◌≤◌, Bool, true, false, ◌==◌, List, [], ◌∷◌, ◌++◌, Some}
 use Rattle.std.specs.Prelude.{IsTrue}
-use Rattle.tm_table.specs.declared.state.Access.{Access}
 use Rattle.tm_table.specs.declared.state.Access.TheVariants.{Write}
 use Rattle.tm_table.specs.declared.instr.Instr.{Instr}
 use Rattle.tm_plan.specs.Collected.{any}
 use Rattle.tm_world.specs.Lists.{count}
 use Rattle.tm_world.specs.Marks.{Mark, Exit, Enter, End, Halt}
-use Rattle.tm_world.specs.Course.{writes_in}
 use Rattle.tm_world.specs.Run.{Writes}
 use Rattle.tm_runs.specs.Machine.{World, State, Table, Entry, get}
 use Rattle.tm_runs.specs.Runs.{At}

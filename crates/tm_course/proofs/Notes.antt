@@ -1,20 +1,19 @@
 -- What a log tells of end values and of shared memory, and what of it parts leave as it was.
-use Rattle.std.proofs.Common.{◌≡◌, ◌≢◌, ◌⊎◌, inl, inr, ℕ, zero, suc, ◌+◌, ◌-◌, ◌*◌, ◌<◌, ◌≤◌, Bool, true, false, true≢false, ◌&&◌, ◌||◌, not, nat_le, nat_lt, ◌==◌, eqb-true, eq-eqb, ne_eqb, List, [], ◌∷◌, ◌++◌, length, Option, Some, None, refl, sym, ap, ap₂, ◌∙◌, subst, arith, append_assoc}
-use Rattle.std.specs.Prelude.{IsTrue, slice_index, if◌then◌else◌}
-use Rattle.std.proofs.lemmas.Bool.Decides.{nat_tests, eqb_tells}
+use Rattle.std.proofs.Common.{◌≡◌, ◌≢◌, ◌⊎◌, inl, inr, ℕ, suc, ◌+◌, ◌-◌, ◌*◌, ◌<◌, ◌≤◌, Bool, true, false, ◌&&◌, not, ◌==◌, eq-eqb, ne_eqb, List, [], ◌∷◌, ◌++◌, length, Option, Some, None, refl, sym, ap, ◌∙◌, subst, arith}
+use Rattle.std.specs.Prelude.{slice_index, if◌then◌else◌}
+use Rattle.std.proofs.lemmas.Bool.Decides.{nat_tests}
 use Rattle.std.proofs.lemmas.List.{append_cancel_right}
 use Rattle.tm_table.specs.declared.state.Access.{Access}
 use Rattle.tm_table.specs.declared.state.Access.TheVariants.{Quiet, Read, Write}
-use Rattle.tm_plan.specs.Collected.{any}
-use Rattle.tm_world.specs.Lists.{count, or_else}
+use Rattle.tm_world.specs.Lists.{or_else}
 use Rattle.tm_world.specs.Place.{byte_of}
 use Rattle.tm_world.specs.Run.{got}
-use Rattle.tm_runs.specs.Machine.{World, State, Table, Entry, Strays, get}
+use Rattle.tm_runs.specs.Machine.{State, Table, Entry, get}
 use Rattle.tm_runs.specs.Runs.{Does, Each, Since}
 use Rattle.tm_blocks.specs.Laws.{accesses, with_access, copies, EachAccess, Among, Uses}
 use Rattle.tm_runs.proofs.Bytes.{within-false}
 pub use Rattle.tm_course.proofs.Logs.{is_in, phase_at, left, first_read, first_got, outs, IsZero, PassTold, Judged}
-use Rattle.tm_course.proofs.Addresses.{is_out, exit_at, start_at, end_at, first_at, private, count_at, save_0, save_1, shared}
+use Rattle.tm_course.proofs.Addresses.{exit_at, start_at, end_at, private, count_at, save_0, save_1, shared}
 
 -- ---- kinds of access
 

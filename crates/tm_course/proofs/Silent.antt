@@ -1,8 +1,6 @@
 -- On each legal run of a program of one hart both passes end alike, so no case is reported.
-use Rattle.std.proofs.Common.{◌≡◌, ◌≢◌, ◌⊎◌, inl, inr, ℕ, zero, suc, ◌+◌, ◌-◌, ◌*◌, ◌/◌, ◌%◌, ◌^◌, ◌<◌, ◌≤◌, Bool, true, false, true≢false, ◌&&◌, ◌||◌, not, nat_le, nat_lt, ◌==◌, List, [], ◌∷◌, ◌++◌, length, Option, Some, None, refl, sym, ap, ap₂, ◌∙◌, subst, arith}
-use Rattle.std.specs.Prelude.{slice_get, slice_index, IsTrue, IfSome, if◌then◌else◌, unwrap_or}
-use Rattle.std.proofs.lemmas.Bool.Decides.{nat_tests}
-use Rattle.tm_table.specs.declared.instr.Instr.{Instr}
+use Rattle.std.proofs.Common.{◌≡◌, ◌⊎◌, inl, inr, ℕ, zero, suc, ◌+◌, ◌-◌, ◌*◌, ◌/◌, ◌%◌, ◌<◌, ◌≤◌, Bool, true, false, true≢false, ◌&&◌, not, nat_le, nat_lt, ◌==◌, List, [], ◌∷◌, length, Option, Some, None, refl, sym, ap, ap₂, ◌∙◌, subst, arith}
+use Rattle.std.specs.Prelude.{slice_get, slice_index, IfSome, if◌then◌else◌}
 use Rattle.tm_table.specs.declared.state.Access.{Access}
 use Rattle.tm_table.specs.declared.state.Access.TheVariants.{Quiet, Read, Write}
 use Rattle.tm_table.specs.State.{Hart}
@@ -14,36 +12,32 @@ use Rattle.tm_plan.specs.declared.masks.CaseMask.{CaseMask}
 use Rattle.tm_plan.specs.declared.program.Program.{Program}
 use Rattle.tm_plan.specs.Map.{verdict_at, text_base, tables_base}
 use Rattle.tm_plan.specs.Slots.{load_width, store_width, is_access}
-use Rattle.tm_plan.specs.Collected.{any, count_from}
-use Rattle.tm_world.specs.Lists.{count, those, or_else}
+use Rattle.tm_plan.specs.Collected.{count_from}
+use Rattle.tm_world.specs.Lists.{those, or_else}
 use Rattle.tm_world.specs.Place.{harts, case_count, passes, exit_of, inside, is_text, is_table, image_byte, byte_of}
-use Rattle.tm_world.specs.Run.{Step, Run, Always, now, first_state, hart_of, pc_of, access_of, own, phase, in_phase, got, written, last_write, read_value, Reads}
-use Rattle.tm_world.specs.Writers.{stream_in, may_write, writers, wrote, settle, settled}
+use Rattle.tm_world.specs.Run.{Step, Run, now, first_state, hart_of, pc_of, access_of, own, phase, in_phase, got, written, last_write, read_value, Reads}
+use Rattle.tm_world.specs.Writers.{may_write, writers, wrote, settle, settled}
 use Rattle.tm_world.specs.Kinds.{IsOpening, HalfPath, Follows, Path, Legal, another, legal_owed, phase_of}
-use Rattle.tm_world.specs.Course.{OnHalf, KeepsOrder}
-use Rattle.tm_world.specs.Verdict.{Part, Register, Byte, end_value, first_read as first_read_of, run_phase, saved, Same as SameParts, IsVerdict, agree, differ, WritesExactly}
+use Rattle.tm_world.specs.Verdict.{first_read as first_read_of, run_phase, saved, Same as SameParts, IsVerdict, agree, differ}
 use Rattle.tm_world.specs.Sound.{NotReported}
 use Rattle.tm_world.proofs.Prefix.{earlier, Legal-earlier}
-use Rattle.tm_runs.specs.Machine.{Table, Entry}
 use Rattle.tm_runs.specs.World.{image_dword}
-use Rattle.tm_runs.specs.Shadow.{entry_of, entries_of}
+use Rattle.tm_runs.specs.Shadow.{entries_of}
 use Rattle.tm_runs.proofs.Bytes.{within-false}
 use Rattle.tm_runs.proofs.Places.{within-parts}
-use Rattle.tm_legal.specs.Tame.{Formed, Tame}
 use Rattle.tm_legal.proofs.Own.{own-here}
 use Rattle.tm_legal.proofs.Rows.{IsOfKind, IsMachine}
-use Rattle.tm_legal.proofs.Streams.{Slot, slot-at}
-use Rattle.tm_legal.proofs.Inside.{Rowed, rowed}
+use Rattle.tm_legal.proofs.Streams.{slot-at}
+use Rattle.tm_legal.proofs.Inside.{rowed}
 use Rattle.tm_legal.proofs.Half.{legal-steps, path-machine}
-use Rattle.tm_stays.specs.Laws.{HasNoLoad}
 use Rattle.tm_stays.proofs.Alike.{passes-alike}
 use Rattle.tm_blocks.specs.Laws.{EachAccess, with_access}
 use Rattle.tm_blocks.specs.Verdict.{Agrees}
 use Rattle.tm_course.specs.OneHart.{IsOfOneHart}
-use Rattle.tm_course.proofs.Addresses.{is_out, start_at, end_at, mask_at, bytes_at, save_0, save_1, shared, cell}
+use Rattle.tm_course.proofs.Addresses.{mask_at, bytes_at, save_0, save_1, shared, cell}
 use Rattle.tm_course.proofs.Logs.{is_in, outs, IsZero, Judged}
 use Rattle.tm_course.proofs.Laying.{one-case, start-is, end-is}
-use Rattle.tm_course.proofs.Course.{fact-of, place-of, stream-found}
+use Rattle.tm_course.proofs.Course.{fact-of, stream-found}
 use Rattle.tm_course.proofs.Exact.{register-end, byte-end, to-parts, every, cell-is, exact-step}
 use Rattle.tm_course.proofs.Whole.{formed, tame}
 

@@ -1,6 +1,6 @@
 -- What the image of a program of one hart holds in its tables.
-use Rattle.std.proofs.Common.{◌≡◌, ℕ, zero, suc, ◌+◌, ◌-◌, ◌*◌, ◌/◌, ◌%◌, ◌^◌, ◌<◌, ◌≤◌, List, [], ◌∷◌, ◌++◌, length, drop, refl, sym, ap, ◌∙◌, subst, arith, append_assoc, append-nil, length-append, length-drop}
-use Rattle.std.specs.Prelude.{slice_get, slice_index, All}
+use Rattle.std.proofs.Common.{◌≡◌, ℕ, zero, suc, ◌+◌, ◌*◌, ◌^◌, ◌<◌, ◌≤◌, List, [], ◌∷◌, ◌++◌, length, drop, refl, sym, ap, ◌∙◌, subst, arith, append_assoc, append-nil, length-append, length-drop}
+use Rattle.std.specs.Prelude.{slice_index, All}
 use Rattle.std.proofs.lemmas.List.{get_or_append_left, get_or-append-add}
 use Rattle.std.proofs.lemmas.List.Elements.{All-head}
 use Rattle.tm_plan.specs.declared.cases.Case.{Case}
@@ -13,12 +13,12 @@ use Rattle.tm_plan.specs.Map.{tables_base, private_at, private_size}
 use Rattle.tm_plan.specs.Shaped.{IsShapedMask}
 use Rattle.tm_plan.specs.Tables.{dword_bytes, dwords_bytes, hart_tables, case_tables, table_bytes}
 use Rattle.tm_world.specs.Place.{image_byte, byte_of}
-use Rattle.tm_runs.specs.World.{Sizes, image_dword, is_private_dword}
+use Rattle.tm_runs.specs.World.{image_dword}
 use Rattle.tm_runs.proofs.Bytes.{joined-lt}
 use Rattle.tm_runs.proofs.Places.{image-lt}
 use Rattle.tm_runs.proofs.Worlds.{private-dword, image-dword, image-table, image-private}
 use Rattle.tm_course.specs.OneHart.{IsOfOneHart}
-use Rattle.tm_course.proofs.Ground.{registers_at, mask_at, bytes_at, count_at, private, fresh_in}
+use Rattle.tm_course.proofs.Ground.{mask_at, bytes_at, count_at, private, fresh_in}
 use Rattle.tm_course.proofs.Laying.{shaped, shaped-case}
 
 -- ---- bytes of dwords

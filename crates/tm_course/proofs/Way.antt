@@ -1,12 +1,12 @@
 -- The whole way of a hart through its program.
-use Rattle.std.proofs.Common.{◌≡◌, ◌≢◌, ℕ, suc, ◌+◌, ◌*◌, ◌^◌, ◌<◌, ◌≤◌, List, [], ◌∷◌, ◌++◌, refl, arith}
+use Rattle.std.proofs.Common.{◌≡◌, ℕ, ◌+◌, ◌*◌, ◌^◌, ◌<◌, ◌≤◌, List, [], ◌∷◌, refl, arith}
 use Rattle.tm_world.specs.Marks.{Mark, Exit, Enter, End, Halt}
 use Rattle.tm_runs.specs.Machine.{World, State, Table, get}
 use Rattle.tm_runs.specs.Runs.{Takes, Keeps}
 use Rattle.tm_runs.specs.Course.{Good}
 use Rattle.tm_runs.proofs.Compose.{takes_then, takes_map, keeps_after, keeps_then, keeps_now}
-use Rattle.tm_course.proofs.Ground.{Ground, Fact, Hold, is_out, entry_at, start_at, end_at, registers_at, first_at, tables_end, private, count_at, save_0, save_1}
-use Rattle.tm_course.proofs.Notes.{Same, Stayed, Left, Clear, PassTold, IsSave, same-from, clear-blank, clear-same, clear-stay, clear-save, has-registers, registers-same, pass-told, told-same, told-stay}
+use Rattle.tm_course.proofs.Ground.{Ground, Fact, Hold, is_out, entry_at, start_at, end_at, registers_at, first_at, tables_end, private, count_at, save_0}
+use Rattle.tm_course.proofs.Notes.{Stayed, Left, Clear, PassTold, IsSave, same-from, clear-blank, clear-same, clear-stay, clear-save, has-registers, registers-same, pass-told, told-same, told-stay}
 use Rattle.tm_course.proofs.Begin.{begin, count, choose_run, choose_between, choose_last, enter}
 use Rattle.tm_course.proofs.Behind.{stay, leave, between, finish, Done}
 
