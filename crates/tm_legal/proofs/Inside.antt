@@ -8,6 +8,7 @@ use Rattle.tm_table.specs.declared.state.Access.TheVariants.{Quiet, Read, Write}
 use Rattle.tm_table.specs.State.{Hart}
 use Rattle.tm_table.specs.Words.{low}
 use Rattle.tm_table.specs.Row.{Effect, Gives, Loads, Stores, Branches, Jumps, effect, word64, row, after}
+use Rattle.tm_table.proofs.Signs.{low-lt}
 use Rattle.tm_plan.specs.declared.program.Program.{Program}
 use Rattle.tm_plan.specs.declared.cases.Stream.{Stream}
 use Rattle.tm_plan.specs.Map.{window_at, within}
@@ -40,7 +41,7 @@ rowed p h hart s i m f is =
     record {
       effects = e;
       is = refl;
-      kind = of-kind i.op hart.pc (slice_index hart.x i.rs1) (slice_index hart.x i.rs2) (low 64 i.imm) (m.fits i.rs1) (m.fits i.rs2);
+      kind = of-kind i.op hart.pc (slice_index hart.x i.rs1) (slice_index hart.x i.rs2) (low 64 i.imm) (m.fits i.rs1) (m.fits i.rs2) (low-lt 64 i.imm);
       result = subst (λ (k : Instr). row hart k (read_value (access_of s)) ≡ (s.after, access_of s)) same eq;
     }
 

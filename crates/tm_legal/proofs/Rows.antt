@@ -53,20 +53,20 @@ IsOfKind op pc a n (Stores addr width value) = (addr ≡ word64 (a + n)) × (wid
 IsOfKind op pc a n (Branches taken) = taken ≡ true → is_jump op ≡ true
 IsOfKind op pc a n (Jumps link goes) = (link < 2 ^ 64) × (goes < 2 ^ 64) × (is_barred op ≡ false → (is_jump op ≡ true) × (goes ≡ word64 (pc + n)))
 
-pub of-kind : (op : Op) (pc a b n : ℕ) → a < 2 ^ 64 → b < 2 ^ 64 → IsOfKind op pc a n (effect op pc a b n)
+pub of-kind : (op : Op) (pc a b n : ℕ) → a < 2 ^ 64 → b < 2 ^ 64 → n < 2 ^ 64 → IsOfKind op pc a n (effect op pc a b n)
 unfolding effect
-of-kind Lui pc a b n p q = low-lt 64 _
-of-kind Addi pc a b n p q = word64-lt _
-of-kind Slli pc a b n p q = word64-lt _
-of-kind Add pc a b n p q = word64-lt _
-of-kind Xor pc a b n p q = xor_lt 64 a b p q
-of-kind And pc a b n p q = let le = and_le_l a b in omega arith
-of-kind Ld pc a b n p q = (refl, refl, refl, refl)
-of-kind Sd pc a b n p q = (refl, refl, refl, refl)
-of-kind Beq pc a b n p q = λ _. refl
-of-kind Bne pc a b n p q = λ _. refl
-of-kind Jal pc a b n p q = (word64-lt _, word64-lt _, λ _. (refl, refl))
-of-kind _ pc a b n p q = omega arith
+of-kind Lui pc a b n p q r = low-lt 64 _
+of-kind Addi pc a b n p q r = word64-lt _
+of-kind Slli pc a b n p q r = word64-lt _
+of-kind Add pc a b n p q r = word64-lt _
+of-kind Xor pc a b n p q r = xor_lt 64 a b p q
+of-kind And pc a b n p q r = let le = and_le_l a b in omega arith
+of-kind Ld pc a b n p q r = (refl, refl, refl, refl)
+of-kind Sd pc a b n p q r = (refl, refl, refl, refl)
+of-kind Beq pc a b n p q r = λ _. refl
+of-kind Bne pc a b n p q r = λ _. refl
+of-kind Jal pc a b n p q r = (word64-lt _, word64-lt _, λ _. (refl, refl))
+of-kind _ pc a b n p q r = omega arith
 
 -- ---- machine states
 

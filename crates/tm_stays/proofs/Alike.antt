@@ -10,6 +10,7 @@ use Rattle.tm_table.specs.declared.state.Access.{Access}
 use Rattle.tm_table.specs.State.{Hart}
 use Rattle.tm_table.specs.Words.{low}
 use Rattle.tm_table.specs.Row.{Effect, Gives, Loads, Stores, Branches, Jumps, effect, row, row_word, after}
+use Rattle.tm_table.proofs.Signs.{low-lt}
 use Rattle.tm_plan.specs.declared.program.Program.{Program}
 use Rattle.tm_plan.specs.declared.cases.Stream.{Stream}
 use Rattle.tm_plan.specs.Collected.{count_from}
@@ -46,7 +47,7 @@ row-same hart i read other m none =
     let a = slice_index hart.x i.rs1 in
     let b = slice_index hart.x i.rs2 in
     let n = low 64 i.imm in
-    after-same i.op hart.pc a n (effect i.op hart.pc a b n) hart i.rd read other none (of-kind i.op hart.pc a b n (m.fits i.rs1) (m.fits i.rs2))
+    after-same i.op hart.pc a n (effect i.op hart.pc a b n) hart i.rd read other none (of-kind i.op hart.pc a b n (m.fits i.rs1) (m.fits i.rs2) (low-lt 64 i.imm))
 
 -- the state after the row of the word at the program counter, which reads 0, if it reads
 abbrev result : Hart → Option (Hart × Access) → Hart
