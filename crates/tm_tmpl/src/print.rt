@@ -9,10 +9,12 @@ use crate::{BodyDecl, CaseDecl, Kind, Selector, SlotDecl, SlotText, Template, Wi
 use std::alloc::Global;
 use tm_base::{NoMemory, Text, push_decimal};
 
-/// A template's printed form: single spaces, decimal numbers, no indent, one LF behind each statement.
+/// A template's printed form: single spaces, decimal numbers, no indent, one LF behind each statement. It is read back as a template
+/// that equals this one apart from places.
 #[tactic(auto, unfolding(crate::specs::Printed::printed))]
 pub fn print_template(alloc: Global, t: &Template) -> Result<Text, NoMemory>
     ensures text { IfOk result (λ text. text ≡ printed.printed t.now) }
+    ensures reads_back { IfOk result (λ text. printed.IsWritable t.now → printed.ReadsBack text t.now) }
 {
     let mut out = Text::new(alloc);
     put_template_name(&mut out, &t.name)?;
