@@ -4,3 +4,5 @@ pub mod PrintLemmas
 pub mod SpacedLemmas
 pub mod ReadBackLemmas
 pub mod BareLemmas
+pub mod SayableLemmas
+pub mod RawLemmas
