@@ -6,3 +6,4 @@ pub mod ReadBackLemmas
 pub mod BareLemmas
 pub mod SayableLemmas
 pub mod RawLemmas
+pub mod Rows

@@ -1,5 +1,5 @@
 -- What is read of lines is what some line spells.
-use Rattle.std.proofs.Common.{◌≡◌, ◌≢◌, ◌<◌, ℕ, ◌^◌, Bool, true, false, not, cond, nat_lt, List, [], ◌∷◌, ◌++◌, codes, Option, None, Some, Result, Ok, Err, refl, sym, ap, subst, ◌∙◌, arith, inl, inr, ◌⊎◌, ◌&&◌}
+use Rattle.std.proofs.Common.{◌≡◌, ◌<◌, ℕ, ◌^◌, Bool, true, false, cond, nat_lt, List, [], ◌∷◌, ◌++◌, codes, Option, None, Some, Result, Ok, Err, refl, sym, subst, arith, inl, inr, ◌&&◌}
 use Rattle.std.specs.Str.{bytes_eq}
 use Rattle.std.proofs.lemmas.Bool.{cases_Bool, true≢false}
 use Rattle.std.proofs.lemmas.Bool.Decides.{nat_tests}
@@ -52,9 +52,9 @@ if_ended {A} P a xs h = if_bound {A = Unit {0}} {B = A} P (λ _. Unit {0}) (one 
 
 name_good : (x : Lexeme) (n : List ℕ) → name x ≡ Some n → is_name n ≡ true
 name_good x n h = elim (cases_Bool (is_word x.0.kind && is_name x.1)) [
-    | inl here ↦ (let same : x.1 ≡ n = same_Some _ _ (rw here at h) in rw (← same) (second _ _ here))
-    | inr other ↦ (let no : None ≡ Some n = rw other at h in absurd (cc))
-  ] where
+  | inl here ↦ (let same : x.1 ≡ n = same_Some _ _ (rw here at h) in rw (← same) (second _ _ here))
+  | inr other ↦ (let no : None ≡ Some n = rw other at h in absurd (cc))
+] where
   second : (a b : Bool) → (a && b) ≡ true → b ≡ true
   second true b h = h
   second false b h = absurd (true≢false (sym h))
@@ -62,15 +62,15 @@ name_good x n h = elim (cases_Bool (is_word x.0.kind && is_name x.1)) [
 small_good : (r : Result ℕ NumberFault) (n : ℕ) → small_number r ≡ Some n → n < 2 ^ 32
 small_good (Err e) n h = absurd (cc)
 small_good (Ok m) n h = elim (cases_Bool (nat_lt m (2 ^ 32))) [
-    | inl here ↦ (let same : m ≡ n = same_Some _ _ (rw here at h) in let below : m < 2 ^ 32 = grind (arith, nat_tests) in rw (← same) below)
-    | inr other ↦ (let no : None ≡ Some n = rw other at h in absurd (cc))
-  ]
+  | inl here ↦ (let same : m ≡ n = same_Some _ _ (rw here at h) in let below : m < 2 ^ 32 = grind (arith, nat_tests) in rw (← same) below)
+  | inr other ↦ (let no : None ≡ Some n = rw other at h in absurd (cc))
+]
 
 number_good : (x : Lexeme) (n : ℕ) → number x ≡ Some n → n < 2 ^ 32
 number_good x n h = elim (cases_Bool (is_word x.0.kind)) [
-    | inl here ↦ small_good (number_of x.1) n (rw here at h)
-    | inr other ↦ (let no : None ≡ Some n = rw other at h in absurd (cc))
-  ]
+  | inl here ↦ small_good (number_of x.1) n (rw here at h)
+  | inr other ↦ (let no : None ≡ Some n = rw other at h in absurd (cc))
+]
 
 number_one : (xs : List Lexeme) → IfRead IsSmall (one want.Number number xs)
 number_one xs = if_one IsSmall want.Number number xs number_good
@@ -80,9 +80,9 @@ name_one xs = if_one (λ n. is_name n ≡ true) want.Name name xs name_good
 
 asm_good : (x : Lexeme) (a : List ℕ) → asm x ≡ Some a → (is_raw x.0.kind ≡ true → IsAsm x.1) → IsAsm a
 asm_good x a h good = elim (cases_Bool (is_raw x.0.kind)) [
-    | inl here ↦ (let same : x.1 ≡ a = same_Some _ _ (rw here at h) in rw (← same) (good here))
-    | inr other ↦ (let no : None ≡ Some a = rw other at h in absurd (cc))
-  ]
+  | inl here ↦ (let same : x.1 ≡ a = same_Some _ _ (rw here at h) in rw (← same) (good here))
+  | inr other ↦ (let no : None ≡ Some a = rw other at h in absurd (cc))
+]
 
 asm_one : (xs : List Lexeme) → HaveAsm xs → IfRead IsAsm (one want.Asm asm xs)
 asm_one [] h = tt
@@ -104,7 +104,7 @@ passes_good xs = if_bound IsSayable IsSmall (last_number xs) (λ n rest. Ok (pas
 
 window_good : (xs : List Lexeme) → IfRead IsSayable (window_line xs)
 window_good xs = if_bound IsSayable IsSmall (one want.Number number xs) (λ w rest. one want.Kind kind rest >>= (λ k rest. one want.Number number rest >>= (λ n rest. ended (window w k n) rest))) (number_one xs)
-  (λ w rest small. if_bound {A = Kind} IsSayable (λ _. Unit {0}) (one want.Kind kind rest) (λ k rest. one want.Number number rest >>= (λ n rest. ended (window w k n) rest)) (if_any (one want.Kind kind rest))
+    (λ w rest small. if_bound {A = Kind} IsSayable (λ _. Unit {0}) (one want.Kind kind rest) (λ k rest. one want.Number number rest >>= (λ n rest. ended (window w k n) rest)) (if_any (one want.Kind kind rest))
     (λ k rest _. if_bound IsSayable IsSmall (one want.Number number rest) (λ n rest. ended (window w k n) rest) (number_one rest) (λ n rest good. if_ended IsSayable (window w k n) rest (small, good))))
 
 case_good : (xs : List Lexeme) → IfRead IsSayable (case_line xs)
@@ -128,12 +128,12 @@ emit_good xs raws = if_bound IsSayable IsAsm (one want.Asm asm xs) (λ a rest. e
 mix_good : (xs : List Lexeme) → IfRead IsSayable (mix_line xs)
 mix_good xs = if_bound IsSayable IsSmall (one want.Number number xs) (λ n rest. weight (codes "alu") rest >>= (λ a rest. weight (codes "load") rest >>= (λ l rest.
     weight (codes "store") rest >>= (λ s rest. weight (codes "branch") rest >>= (λ b rest. ended (slot (Mix n a l s b)) rest))))) (number_one xs)
-  (λ n rest n_good. if_bound IsSayable IsSmall (weight (codes "alu") rest) (λ a rest. weight (codes "load") rest >>= (λ l rest.
-      weight (codes "store") rest >>= (λ s rest. weight (codes "branch") rest >>= (λ b rest. ended (slot (Mix n a l s b)) rest)))) (weight_good (codes "alu") rest)
+    (λ n rest n_good. if_bound IsSayable IsSmall (weight (codes "alu") rest) (λ a rest. weight (codes "load") rest >>= (λ l rest.
+    weight (codes "store") rest >>= (λ s rest. weight (codes "branch") rest >>= (λ b rest. ended (slot (Mix n a l s b)) rest)))) (weight_good (codes "alu") rest)
     (λ a rest a_good. if_bound IsSayable IsSmall (weight (codes "load") rest) (λ l rest. weight (codes "store") rest >>= (λ s rest. weight (codes "branch") rest >>= (λ b rest. ended (slot (Mix n a l s b)) rest))) (weight_good (codes "load") rest)
-      (λ l rest l_good. if_bound IsSayable IsSmall (weight (codes "store") rest) (λ s rest. weight (codes "branch") rest >>= (λ b rest. ended (slot (Mix n a l s b)) rest)) (weight_good (codes "store") rest)
-        (λ s rest s_good. if_bound IsSayable IsSmall (weight (codes "branch") rest) (λ b rest. ended (slot (Mix n a l s b)) rest) (weight_good (codes "branch") rest)
-          (λ b rest b_good. if_ended IsSayable (slot (Mix n a l s b)) rest (n_good, a_good, l_good, s_good, b_good))))))
+    (λ l rest l_good. if_bound IsSayable IsSmall (weight (codes "store") rest) (λ s rest. weight (codes "branch") rest >>= (λ b rest. ended (slot (Mix n a l s b)) rest)) (weight_good (codes "store") rest)
+    (λ s rest s_good. if_bound IsSayable IsSmall (weight (codes "branch") rest) (λ b rest. ended (slot (Mix n a l s b)) rest) (weight_good (codes "branch") rest)
+    (λ b rest b_good. if_ended IsSayable (slot (Mix n a l s b)) rest (n_good, a_good, l_good, s_good, b_good))))))
 
 -- ---- lines, and statements
 
@@ -148,7 +148,7 @@ choice_good head xs w x raws = if_either (bytes_eq w (codes "passes")) _ _ (pass
 choice_good windows xs w x raws = if_either (bytes_eq w (codes "window")) _ _ (window_good xs) (if_either (bytes_eq w (codes "case")) _ _ (case_good xs) tt)
 choice_good cases xs w x raws = if_either (bytes_eq w (codes "body")) _ _ (body_good xs) (if_either (bytes_eq w (codes "case")) _ _ (case_good xs) tt)
 choice_good slots xs w x raws = if_either (bytes_eq w (codes "emit")) _ _ (emit_good xs raws) (if_either (bytes_eq w (codes "mix")) _ _ (mix_good xs)
-  (if_either (bytes_eq w (codes "body")) _ _ (body_good xs) (if_either (bytes_eq w (codes "case")) _ _ (case_good xs) tt)))
+    (if_either (bytes_eq w (codes "body")) _ _ (body_good xs) (if_either (bytes_eq w (codes "case")) _ _ (case_good xs) tt)))
 
 placed_good : (p : Pos) (r : Reading Statement) (s : At) → IfRead IsSayable r → placed p r ≡ Ok s → IsSayable s.1
 placed_good p (Ok q) s h same = let here : (p, q.0) ≡ s = cc in subst (λ v. IsSayable v.1) here h
@@ -170,9 +170,9 @@ lines_good : (xs : List Lexeme) → HaveAsm xs → AllHaveAsm (token_lines xs)
 unfolding token_lines
 lines_good [] h = tt
 lines_good (x ∷ xs) h = elim (cases_Bool (is_line_end x.0.kind)) [
-    | inl here ↦ rw here ((h.0, tt), lines_good xs h.1)
-    | inr other ↦ rw other (onto_good x (token_lines xs) h.0 (lines_good xs h.1))
-  ]
+  | inl here ↦ rw here ((h.0, tt), lines_good xs h.1)
+  | inr other ↦ rw other (onto_good x (token_lines xs) h.0 (lines_good xs h.1))
+]
 
 statements_good : (lines : List (List Lexeme)) (b : Before) (ss : List At) → AllHaveAsm lines → statements lines b ≡ Ok ss → AreSayable ss
 unfolding statements
@@ -184,14 +184,15 @@ statements_good [] b ss h read = none_good b ss read where
   none_good cases ss h = let same : [] ≡ ss = cc in subst AreSayable same tt
   none_good slots ss h = let same : [] ≡ ss = cc in subst AreSayable same tt
 statements_good (line ∷ rest) b ss h read =
-  first_good (line_reading b line) (statements rest) ss (λ s same. line_good b line s h.0 same) (λ s us same. statements_good rest (place_after s.1) us h.1 same) read where
-  more_good : (s : At) (r : Result (List At) TmplFault) (ss : List At) → IsSayable s.1 → ((us : List At) → r ≡ Ok us → AreSayable us) → more s r ≡ Ok ss → AreSayable ss
-  more_good s (Err e) ss here next same = absurd (cc)
-  more_good s (Ok us) ss here next same = let whole : s ∷ us ≡ ss = cc in subst AreSayable whole (here, next us refl)
-  first_good : (r : Result At TmplFault) (rest : Before → Result (List At) TmplFault) (ss : List At) → ((s : At) → r ≡ Ok s → IsSayable s.1)
-      → ((s : At) (us : List At) → rest (place_after s.1) ≡ Ok us → AreSayable us) → then_more rest r ≡ Ok ss → AreSayable ss
-  first_good (Err e) rest ss here next same = absurd (cc)
-  first_good (Ok s) rest ss here next same = more_good s (rest (place_after s.1)) ss (here s refl) (next s) same
+    first_good (line_reading b line) (statements rest) ss (λ s same. line_good b line s h.0 same) (λ s us same. statements_good rest (place_after s.1) us h.1 same) read where
+      more_good : (s : At) (r : Result (List At) TmplFault) (ss : List At) → IsSayable s.1 → ((us : List At) → r ≡ Ok us → AreSayable us) → more s r ≡ Ok ss → AreSayable ss
+      more_good s (Err e) ss here next same = absurd (cc)
+      more_good s (Ok us) ss here next same = let whole : s ∷ us ≡ ss = cc in subst AreSayable whole (here, next us refl)
+
+      first_good : (r : Result At TmplFault) (rest : Before → Result (List At) TmplFault) (ss : List At) → ((s : At) → r ≡ Ok s → IsSayable s.1)
+          → ((s : At) (us : List At) → rest (place_after s.1) ≡ Ok us → AreSayable us) → then_more rest r ≡ Ok ss → AreSayable ss
+      first_good (Err e) rest ss here next same = absurd (cc)
+      first_good (Ok s) rest ss here next same = more_good s (rest (place_after s.1)) ss (here s refl) (next s) same
 
 pub read-sayable : (xs : List Lexeme) (b : Before) (ss : List At) → HaveAsm xs → statements (token_lines xs) b ≡ Ok ss → AreSayable ss
 read-sayable xs b ss h read = statements_good (token_lines xs) b ss (lines_good xs h) read
@@ -205,6 +206,6 @@ pub writable-of : (t : Template) (p : Pos) (text : List ℕ) (tokens : List Toke
     → follows text tokens start ≡ Ok ((p, template t.name) ∷ (t.passes_at, passes t.passes) ∷ (windows_at t.windows ++ (cases_at t.cases ++ []))) → IsWritable t
 unfolding follows IsWritable
 writable-of t p text tokens raws read =
-  let good = read-sayable (lexemes text tokens) start _ raws read in
-  let rest = split_good (windows_at t.windows) (cases_at t.cases ++ []) good.1.1 in
-  (good.0, good.1.0, rest.0, (split_good (cases_at t.cases) [] rest.1).0)
+    let good = read-sayable (lexemes text tokens) start _ raws read in
+    let rest = split_good (windows_at t.windows) (cases_at t.cases ++ []) good.1.1 in
+    (good.0, good.1.0, rest.0, (split_good (cases_at t.cases) [] rest.1).0)

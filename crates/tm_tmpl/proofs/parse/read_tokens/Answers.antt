@@ -11,5 +11,5 @@ returns-clause-ok c =
 
 pub returns-clause-writable : goal.returns-clause-writable
 returns-clause-writable c =
-  writable-of (record { name = c.in_ok-name.name; passes = c.in_ok-passes.passes; passes_at = c.in_ok-passes.passes_at; windows = c.in_ok-windows.windows; cases = c.in_ok-cases.cases; end = c.end_of.result }) (first_at c.args.tokens.now)
+    writable-of (record { name = c.in_ok-name.name; passes = c.in_ok-passes.passes; passes_at = c.in_ok-passes.passes_at; windows = c.in_ok-windows.windows; cases = c.in_ok-cases.cases; end = c.end_of.result }) (first_at c.args.tokens.now)
     c.args.text.now c.args.tokens.now c.requires.asm (rw (c.in_ok-name.ensures.ok, c.in_ok-passes.ensures.ok, c.in_ok-windows.ensures.ok, c.in_ok-cases.ensures.ok))
