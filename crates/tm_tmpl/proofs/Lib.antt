@@ -4,3 +4,6 @@ pub mod PrintLemmas
 pub mod SpacedLemmas
 pub mod ReadBackLemmas
 pub mod BareLemmas
+pub mod SayableLemmas
+pub mod RawLemmas
+pub mod Rows

@@ -54,12 +54,14 @@ early _ = None
 abbrev pub At : Type 0
 At = Pos × Statement
 
+abbrev pub placed : Pos → Reading Statement → Result At TmplFault
+placed p (Ok s) = Ok (p, s.0)
+placed p (Err e) = Err e
+
+-- what a line is read as behind what stands before it
 abbrev pub line_reading : Before → List Lexeme → Result At TmplFault
 line_reading b [] = Err (Early want.Statement)
-line_reading b (x ∷ xs) = with_place x.0.at (choice xs b x.1 x) where
-  with_place : Pos → Reading Statement → Result At TmplFault
-  with_place p (Ok s) = Ok (p, s.0)
-  with_place p (Err e) = Err e
+line_reading b (x ∷ xs) = placed x.0.at (choice xs b x.1 x)
 
 -- the lines of the tokens, each with its line end
 abbrev pub onto_first : Lexeme → List (List Lexeme) → List (List Lexeme)

@@ -16,7 +16,7 @@ use Rattle.tm_tmpl.specs.declared.template.Selector.TheVariants as whose
 use Rattle.tm_tmpl.specs.declared.template.SlotText.{SlotText}
 use Rattle.tm_tmpl.specs.declared.template.SlotText.TheVariants.{Emit, Mix}
 use Rattle.tm_tmpl.specs.declared.template.Template.{Template}
-use Rattle.tm_tmpl.specs.Readings.{is_name, Statement, template, passes, window, case_of, body, slot}
+use Rattle.tm_tmpl.specs.Readings.{Lexeme, is_raw, is_name, Statement, template, passes, window, case_of, body, slot}
 use Rattle.tm_tmpl.specs.Grammar.{At, template_of}
 use Rattle.tm_tmpl.specs.Steps.{windows_at, cases_at}
 
@@ -70,6 +70,11 @@ pub record IsAsm (asm : List ℕ) : Type 0 where
   pub bytes : list_all may_stand asm ≡ true
   pub first : is_separator (slice_index asm 0) ≡ false
   pub last : is_separator (slice_index asm (length asm - 1)) ≡ false
+
+-- each raw token among lexemes is such a line
+abbrev pub HaveAsm : List Lexeme → Type 0
+HaveAsm [] = Unit {0}
+HaveAsm (x ∷ xs) = (is_raw x.0.kind ≡ true → IsAsm x.1) × HaveAsm xs
 
 -- a number of a template
 abbrev pub IsSmall : ℕ → Type 0

@@ -2,6 +2,7 @@ ghost use Rattle.std.specs.Prelude.{◌≡◌, ◌≢◌, ◌^◌, ◌<◌, ◌�
 ghost use Rattle.std.specs.List.{suffix_len};
 ghost use Rattle.tm_tmpl.specs.Readings as readings;
 ghost use Rattle.tm_tmpl.specs.Grammar as grammar;
+ghost use Rattle.tm_tmpl.specs.Printed as printed;
 ghost use Rattle.tm_tmpl.specs.Steps as steps;
 
 use crate::read::{read_cases, read_name, read_passes, read_windows};
@@ -16,6 +17,7 @@ pub fn parse_template(alloc: Global, text: &[u8]) -> Result<Template, TmplFault>
     requires { length text.now < 2 ^ 31 }
     ensures ok { IfOk result (λ t. grammar.template_of text.now ≡ Ok t) }
     ensures err { IfErr result (λ e. e ≢ TmplFault.NoMemory → grammar.template_of text.now ≡ Err e) }
+    ensures writable { IfOk result printed.IsWritable }
 {
     match tokens(alloc, text) {
         Ok(list) => read_tokens(alloc, text, list.as_slice()),
@@ -37,9 +39,11 @@ fn of_tokens(fault: LexFault) -> TmplFault
 // The template of tokens.
 fn read_tokens(alloc: Global, text: &[u8], tokens: &[Token]) -> Result<Template, TmplFault>
     requires spans { All (readings.IsSpan text.now) tokens.now }
+    requires asm { printed.HaveAsm (readings.lexemes text.now tokens.now) }
     requires size { length text.now < 2 ^ 31 }
     ensures ok { IfOk result (λ t. grammar.made_of text.now (steps.follows text.now tokens.now grammar.start) ≡ Ok t) }
     ensures err { IfErr result (λ e. e ≢ TmplFault.NoMemory → grammar.made_of text.now (steps.follows text.now tokens.now grammar.start) ≡ Err e) }
+    ensures writable { IfOk result printed.IsWritable }
 {
     let (name, tokens) = read_name(alloc, text, tokens)?;
     let (passes, passes_at, tokens) = read_passes(text, tokens)?;

@@ -1,6 +1,7 @@
 use Rattle.tm_tmpl.specs.Grammar.{template_of}
 use Rattle.tm_tmpl.specs.Steps.{follows}
 use Rattle.tm_tmpl.proofs.MadeLemmas.{within}
+use Rattle.tm_tmpl.proofs.RawLemmas.{tokens-asm}
 use Rattle.tm_tmpl.proofs.parse.parse_template.Goals as goal
 
 pub read_tokens-requires-clause-spans : goal.read_tokens-requires-clause-spans
@@ -19,3 +20,6 @@ unfolding template_of
 returns-in-Err-clause-err c = λ other.
     let fault = c.of_tokens.ensures other in
     rw (fault.1, c.in-Err.ensures.err fault.0)
+
+pub read_tokens-requires-clause-asm : goal.read_tokens-requires-clause-asm
+read_tokens-requires-clause-asm c = rw c.as_slice.ensures (tokens-asm c.args.text.now _ c.in-Ok.ensures.tiled)

@@ -1,8 +1,5 @@
-use Rattle.std.proofs.Common.{◌≡◌, ◌∙◌, ◌∷◌, [], refl, sym, get_or, arith, codes, append-nil}
-use Rattle.tm_tmpl.specs.Printed.{line_of, words_of, printed}
-use Rattle.tm_tmpl.specs.Steps.{window_at, windows_at, slot_at, slots_at, body_at, bodies_at, case_at, cases_at}
-use Rattle.tm_tmpl.proofs.StepLemmas.{windows-more, slots-more, bodies-more, cases-more}
-use Rattle.tm_tmpl.proofs.PrintLemmas.{lines-none, lines-one, lines-after, printed-more, lines-called, four-parts}
+use Rattle.tm_tmpl.specs.Steps.{slots_at}
+use Rattle.tm_tmpl.proofs.PrintLemmas.{lines-called}
 use Rattle.tm_tmpl.proofs.print.put_body.Goals as goal
 
 pub returns : goal.returns

@@ -1,6 +1,6 @@
 use Rattle.std.proofs.Common.{◌≡◌, ◌++◌, take}
 use Rattle.tm_tmpl.specs.Printed.{lines_of}
-use Rattle.tm_tmpl.specs.Steps.{windows_at, slots_at, bodies_at, cases_at}
+use Rattle.tm_tmpl.specs.Steps.{slots_at}
 use Rattle.tm_tmpl.proofs.print.put_slots.Given as goal
 
 abbrev pub invariant-loop-slot : goal.invariant-loop-slot

@@ -1,0 +1,64 @@
+-- Worked rows of the definitions, computed.
+use Rattle.std.proofs.Common.{◌≡◌, List, [], ◌∷◌, ◌++◌, ℕ, Ok, Err, codes, refl}
+use Rattle.std.specs.Fmt.{digits}
+use Rattle.tm_base.specs.Numbers.{number_of, place_value, value_of, reading_at, digits_reading}
+use Rattle.tm_lex.specs.Lexing.{tokens_of, is_word, is_separator, words, spans, line_fault, line_tokens, lines_reading}
+use Rattle.tm_lex.specs.declared.token.LexFault.TheVariants.{BadByte}
+use Rattle.tm_tmpl.specs.declared.template.Want.TheVariants as want
+use Rattle.tm_tmpl.specs.declared.template.TmplFault.TheVariants.{Lex, Early, Expected}
+use Rattle.tm_tmpl.specs.declared.template.Kind.TheVariants.{True}
+use Rattle.tm_tmpl.specs.declared.template.Selector.TheVariants.{All}
+use Rattle.tm_tmpl.specs.declared.template.SlotText.TheVariants.{Emit}
+use Rattle.tm_tmpl.specs.declared.template.Template.{Template}
+use Rattle.tm_tmpl.specs.Grammar.{template_of, choice, token_lines, statements, put_all}
+use Rattle.tm_tmpl.specs.Printed.{printed, lines_of, line_of, words_of}
+
+-- six lines, with what stands for the first and the last
+abbrev t0 : List ℕ → List ℕ → List ℕ
+t0 first last = first ++ codes "\npasses 2\nwindow 0 true 1\ncase a\nbody all\n" ++ last
+
+abbrev t : Template
+t = record {
+  name = codes "t";
+  passes = 2;
+  passes_at = record { line = 2; col = 1 };
+  windows = (record { at = record { line = 3; col = 1 }; number = 0; kind = True; lines = 1 }) ∷ [];
+  cases = (record {
+    at = record { line = 4; col = 1 };
+    name = codes "a";
+    bodies = (record {
+      at = record { line = 5; col = 1 };
+      whom = All;
+      slots = (record { at = record { line = 6; col = 1 }; what = Emit (codes "addi x6, x5, 1") }) ∷ [];
+    }) ∷ [];
+  }) ∷ [];
+  end = record { line = 7; col = 1 };
+}
+
+good : template_of (t0 (codes "template t") (codes "emit addi x6, x5, 1\n")) ≡ Ok t
+unfolding template_of choice token_lines statements put_all tokens_of lines_reading line_fault line_tokens spans words is_word is_separator number_of digits_reading reading_at value_of place_value
+good = refl
+
+print : printed t ≡ t0 (codes "template t") (codes "emit addi x6, x5, 1\n")
+unfolding printed lines_of line_of words_of digits
+print = refl
+
+nothing : template_of [] ≡ Err (Early want.Template)
+unfolding template_of choice token_lines statements put_all tokens_of lines_reading line_fault line_tokens spans words is_word is_separator
+nothing = refl
+
+bad_name : template_of (t0 (codes "template T") []) ≡ Err (Expected (record { line = 1; col = 10 }) want.Name)
+unfolding template_of choice token_lines statements put_all tokens_of lines_reading line_fault line_tokens spans words is_word is_separator number_of digits_reading reading_at value_of place_value
+bad_name = refl
+
+bad_byte : template_of (codes "template " ++ 7 ∷ codes "t") ≡ Err (Lex (BadByte (record { line = 1; col = 10 }) 7))
+unfolding template_of choice token_lines statements put_all tokens_of lines_reading line_fault line_tokens spans words is_word is_separator
+bad_byte = refl
+
+no_line : template_of (t0 (codes "template t") (codes "emit")) ≡ Err (Expected (record { line = 6; col = 5 }) want.Asm)
+unfolding template_of choice token_lines statements put_all tokens_of lines_reading line_fault line_tokens spans words is_word is_separator number_of digits_reading reading_at value_of place_value
+no_line = refl
+
+twice : template_of (codes "template t\npasses 2\npasses 2") ≡ Err (Expected (record { line = 3; col = 1 }) want.Statement)
+unfolding template_of choice token_lines statements put_all tokens_of lines_reading line_fault line_tokens spans words is_word is_separator number_of digits_reading reading_at value_of place_value
+twice = refl
