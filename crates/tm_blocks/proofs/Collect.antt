@@ -1,16 +1,12 @@
 -- What every run of the words does that copy and collect.
-use Rattle.std.proofs.Common.{◌≡◌, ◌≢◌, ℕ, suc, ◌+◌, ◌*◌, ◌^◌, ◌<◌, ◌≤◌, ◌⊎◌, inl, inr, List, ◌++◌, length, refl, sym, ap, ◌∙◌, arith, subst, append_assoc, length-append}
-use Rattle.std.specs.Prelude.{slice_index}
-use Rattle.tm_table.specs.declared.instr.Instr.{Instr}
+use Rattle.std.proofs.Common.{◌≡◌, ◌≢◌, ℕ, ◌+◌, ◌*◌, ◌<◌, inl, inr, List, ◌++◌, length, refl, sym, ap, ◌∙◌, arith, append_assoc, length-append}
 use Rattle.tm_table.specs.declared.state.Access.{Access}
 use Rattle.tm_table.specs.declared.state.Access.TheVariants.{Read, Write}
-use Rattle.tm_plan.specs.Collected.{count_from}
 use Rattle.tm_runs.specs.Machine.{World, State, Table, put, get}
-use Rattle.tm_runs.specs.Runs.{Takes, At, Within}
 use Rattle.tm_runs.proofs.Compose.{takes_then, takes_more, takes_map}
 use Rattle.tm_runs.proofs.Tables.{get_put_other, at_front, at_next}
 use Rattle.tm_blocks.specs.Blocks.{constant, copy_dwords, copy, collect}
-use Rattle.tm_blocks.specs.Laws.{accesses, copies, Among, Uses, Usable, ReadsBack, Changeable, Disjoint, dwords, stored_all, HasConstant, WasRead, HasCopied, CopyRuns, HasCollected, Collects, CollectRuns}
+use Rattle.tm_blocks.specs.Laws.{accesses, copies, Among, Uses, ReadsBack, Disjoint, dwords, stored_all, HasConstant, HasCopied, CopyRuns, HasCollected, Collects, CollectRuns}
 use Rattle.tm_blocks.proofs.Lengths.{length-constant, length-copy_dwords}
 use Rattle.tm_blocks.proofs.Dwords.{stored-shift, stored-append, list_by, usable_front, usable_back, changeable_back, quiet_uses}
 use Rattle.tm_blocks.proofs.Constant.{constant_takes}

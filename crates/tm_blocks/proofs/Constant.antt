@@ -1,11 +1,11 @@
 -- What every run of a constant's words does.
-use Rattle.std.proofs.Common.{◌≡◌, ℕ, suc, ◌+◌, ◌*◌, ◌/◌, ◌%◌, ◌^◌, ◌<◌, ◌≤◌, List, [], ◌∷◌, refl, sym, ap, ◌∙◌, arith, subst}
+use Rattle.std.proofs.Common.{◌≡◌, ℕ, ◌+◌, ◌*◌, ◌/◌, ◌%◌, ◌^◌, ◌<◌, ◌≤◌, refl, sym, ap, ◌∙◌, arith, subst}
 use Rattle.tm_runs.specs.Machine.{World, State, Table, put, get, computes}
 use Rattle.tm_runs.specs.Runs.{Takes, Now, At, Within, IsQuiet}
 use Rattle.tm_runs.proofs.Compose.{takes_then, takes_map}
 use Rattle.tm_runs.proofs.Steps.{step_addi, step_slli}
 use Rattle.tm_runs.proofs.Tables.{put_put, get_put}
-use Rattle.tm_blocks.specs.Instrs.{addi, slli}
+use Rattle.tm_blocks.specs.Instrs.{slli}
 use Rattle.tm_blocks.specs.Blocks.{shift_in, constant}
 use Rattle.tm_blocks.specs.Laws.{accesses, HasConstant, ConstantRuns}
 use Rattle.tm_blocks.proofs.Dwords.{on_quiet, fit_put}

@@ -1,5 +1,5 @@
 -- What every run of the words does that copy dwords one after another.
-use Rattle.std.proofs.Common.{◌≡◌, ◌≢◌, ℕ, zero, suc, ◌+◌, ◌*◌, ◌%◌, ◌^◌, ◌<◌, ◌≤◌, List, [], ◌∷◌, ◌++◌, length, flat_map, false, refl, sym, ap, subst, ◌∙◌, arith, append_assoc}
+use Rattle.std.proofs.Common.{◌≡◌, ◌≢◌, ℕ, zero, suc, ◌+◌, ◌*◌, ◌^◌, ◌<◌, ◌≤◌, List, [], ◌∷◌, ◌++◌, length, flat_map, refl, sym, ap, subst, ◌∙◌, arith, append_assoc}
 use Rattle.std.specs.Prelude.{IsTrue, slice_index}
 use Rattle.tm_table.specs.declared.state.Access.{Access}
 use Rattle.tm_table.specs.declared.state.Access.TheVariants.{Read, Write}
@@ -10,7 +10,7 @@ use Rattle.tm_runs.proofs.Compose.{takes_more, takes_map}
 use Rattle.tm_runs.proofs.Steps.{step_ld, step_sd, written}
 use Rattle.tm_runs.proofs.Tables.{put_other, get_put_other}
 use Rattle.tm_blocks.specs.Instrs.{ld, sd}
-use Rattle.tm_blocks.specs.Blocks.{copy_dword, copy_dwords}
+use Rattle.tm_blocks.specs.Blocks.{copy_dword}
 use Rattle.tm_blocks.specs.Laws.{accesses, copies, Usable, Changeable, stored_all, RegistersFit}
 use Rattle.tm_blocks.proofs.Dwords.{may_at, fit_put}
 

@@ -1,16 +1,16 @@
 -- Registers and dwords of a state, the accesses of a log, and steps inside a range of words.
-use Rattle.std.proofs.Common.{◌≡◌, ◌≢◌, ℕ, zero, suc, ◌+◌, ◌*◌, ◌%◌, ◌^◌, ◌<◌, ◌≤◌, ◌⊎◌, inl, inr, Bool, true, false, List, [], ◌∷◌, ◌++◌, length, map, refl, sym, ap, ap₂, ◌∙◌, arith, subst}
+use Rattle.std.proofs.Common.{◌≡◌, ◌≢◌, ℕ, zero, suc, ◌+◌, ◌*◌, ◌^◌, ◌<◌, ◌≤◌, Bool, true, false, List, [], ◌∷◌, ◌++◌, length, map, refl, sym, ap, ap₂, ◌∙◌, arith, subst}
 use Rattle.std.specs.Prelude.{nat_eq, if◌then◌else◌, slice_index, IsTrue}
 use Rattle.std.proofs.lemmas.Bool.{eqb-true, eqb-false}
 use Rattle.tm_table.specs.declared.instr.Instr.{Instr}
 use Rattle.tm_table.specs.declared.state.Access.{Access}
 use Rattle.tm_table.specs.declared.state.Access.TheVariants.{Quiet, Read, Write}
 use Rattle.tm_plan.specs.Collected.{count_from}
-use Rattle.tm_runs.specs.Machine.{World, State, Entry, Table, put, get, computes, loaded, MayAccess}
+use Rattle.tm_runs.specs.Machine.{World, State, Table, put, get, computes, loaded, MayAccess}
 use Rattle.tm_runs.specs.Runs.{Within, IsQuiet}
 use Rattle.tm_runs.proofs.Compose.{within_map}
 use Rattle.tm_runs.proofs.Steps.{branched}
-use Rattle.tm_runs.proofs.Tables.{put_same, put_other, get_put, get_put_other}
+use Rattle.tm_runs.proofs.Tables.{put_other}
 use Rattle.tm_blocks.specs.Laws.{Uses, Usable, Changeable, stored_all}
 
 -- every register has 64 bits
@@ -24,9 +24,6 @@ fit_put f r v small h (suc x) = by (nat_eq (suc x) r)
     by : (b : Bool) → (if b then v else f (suc x)) < 2 ^ 64
     by true = small
     by false = h (suc x)
-
-pub fit_same : (f g : Table) → ((r : ℕ) → get g r ≡ get f r) → Fit f → Fit g
-fit_same f g e h r = let a = e r in let b = h r in omega arith
 
 -- where three registers alone change
 pub fit_three : (f g : Table) → get g 6 < 2 ^ 64 → get g 7 < 2 ^ 64 → get g 8 < 2 ^ 64 → ((r : ℕ) → r ≢ 6 → r ≢ 7 → r ≢ 8 → get g r ≡ get f r) → Fit f → Fit g

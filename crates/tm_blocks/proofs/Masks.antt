@@ -1,12 +1,12 @@
 -- Dwords that are compared under a mask, by their bytes.
-use Rattle.std.proofs.Common.{◌≡◌, ◌≢◌, ℕ, zero, suc, ◌+◌, ◌-◌, ◌*◌, ◌/◌, ◌%◌, ◌^◌, ◌<◌, ◌≤◌, ◌⊎◌, inl, inr, true, false, true≢false, refl, sym, ap, ap₂, ◌∙◌, arith, subst}
+use Rattle.std.proofs.Common.{◌≡◌, ◌≢◌, ℕ, zero, suc, ◌+◌, ◌-◌, ◌/◌, ◌%◌, ◌^◌, ◌<◌, ◌≤◌, ◌⊎◌, inl, inr, true, false, true≢false, refl, sym, ap, ap₂, ◌∙◌, arith, subst}
 use Rattle.std.specs.Prelude.{Bool, bit_and, bit_xor, nat_eq}
 use Rattle.std.specs.Int.Bits.{and_zero_r, xor_self, xor_add_and}
 use Rattle.std.proofs.lemmas.Bool.{cases_lt, eqb-true, eqb-false}
 use Rattle.std.proofs.lemmas.Nat.{and_shr, xor_shr, and_mod, xor_mod, and_mask, and_le_l, and_le_r}
 use Rattle.tm_world.specs.Place.{byte_of}
 use Rattle.tm_runs.proofs.Bytes.{byte-shift, byte-lt, same_dword}
-use Rattle.tm_blocks.specs.Verdict.{differs, verdict_number, IsNumber, Agrees, IsMask}
+use Rattle.tm_blocks.specs.Verdict.{differs, verdict_number, Agrees, IsMask, NamesLeast}
 use Rattle.tm_blocks.proofs.Verdicts.{dword_same, dword_other, register_unchecked, register_same, register_other, unset, set, number_map, verdict_is}
 
 byte-and : (i a b : ℕ) → byte_of (bit_and a b) i ≡ bit_and (byte_of a i) (byte_of b i)
@@ -90,8 +90,8 @@ module _ (M : ℕ) (mask a b : ℕ → ℕ) where
           (masked_of_bytes (a i) (b i) (mask (i - 30)) (masks (i - 30) is) (λ k p full. h.bytes (i - 30) k is p full)))
 
 -- The verdict's number is the verdict by registers and bytes.
-pub verdict_agrees : (registers : ℕ) (mask a b : ℕ → ℕ) (k n : ℕ) → ((j : ℕ) → j < n → IsMask (mask j)) → IsNumber (Agrees registers mask a b) k (30 + n) (verdict_number registers mask a b k n)
-verdict_agrees registers mask a b k n masks =
+pub verdict_agrees : (k n : ℕ) → NamesLeast k n
+verdict_agrees k n registers mask a b masks =
     number_map (λ i. differs registers mask a b i ≡ false) (Agrees registers mask a b) k (30 + n) (verdict_number registers mask a b k n)
     (λ i l same. agrees registers mask a b i same)
     (λ i l same. agrees_not registers mask a b i (λ j is. masks j (omega arith)) same)

@@ -1,5 +1,5 @@
 -- What every run of the words does that save registers and load them.
-use Rattle.std.proofs.Common.{◌≡◌, ◌≢◌, ℕ, zero, suc, ◌+◌, ◌-◌, ◌*◌, ◌%◌, ◌^◌, ◌<◌, ◌≤◌, ◌⊎◌, inl, inr, List, [], ◌∷◌, ◌++◌, length, map, refl, sym, ap, ◌∙◌, arith, subst, append_assoc, length-append}
+use Rattle.std.proofs.Common.{◌≡◌, ◌≢◌, ℕ, zero, suc, ◌+◌, ◌-◌, ◌*◌, ◌^◌, ◌<◌, ◌≤◌, ◌⊎◌, inl, inr, List, [], ◌∷◌, ◌++◌, map, refl, sym, ap, ◌∙◌, arith, subst, append_assoc}
 use Rattle.std.proofs.lemmas.Bool.{cases_lt}
 use Rattle.tm_table.specs.declared.instr.Instr.{Instr}
 use Rattle.tm_table.specs.declared.state.Access.{Access}
@@ -11,8 +11,8 @@ use Rattle.tm_runs.proofs.Compose.{takes_then, takes_map, within_map}
 use Rattle.tm_runs.proofs.Steps.{step_ld, step_sd, written}
 use Rattle.tm_runs.proofs.Tables.{get_put, get_put_other, at_front, at_next}
 use Rattle.tm_blocks.specs.Instrs.{ld, sd}
-use Rattle.tm_blocks.specs.Blocks.{constant, load_registers, load_registers_but_last, save_registers}
-use Rattle.tm_blocks.specs.Laws.{accesses, reads, writes, Among, Nowhere, Uses, Usable, ReadsBack, Changeable, dwords, stored_all, RegistersFit, HasConstant, HasAllButLast, HasAll, HasLast, after_last_load, LoadAllButLastRuns, LastLoadRuns, LoadRegistersRuns, first_registers, HasSaved, SaveRegistersRuns}
+use Rattle.tm_blocks.specs.Blocks.{constant, load_registers_but_last, save_registers}
+use Rattle.tm_blocks.specs.Laws.{accesses, reads, writes, Among, Nowhere, Uses, Usable, ReadsBack, Changeable, dwords, stored_all, RegistersFit, HasAllButLast, HasAll, HasLast, LoadAllButLastRuns, LastLoadRuns, LoadRegistersRuns, SaveRegistersRuns}
 use Rattle.tm_blocks.proofs.Lengths.{length-constant, length-load_registers_but_last, load_registers_parts}
 use Rattle.tm_blocks.proofs.Dwords.{may_at, fit_put, quiet_uses, uses_map}
 use Rattle.tm_blocks.proofs.Constant.{constant_takes}

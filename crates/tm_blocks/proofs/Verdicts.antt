@@ -1,9 +1,11 @@
 -- The verdict's number: what differs, and that it names the least that does.
-use Rattle.std.proofs.Common.{◌≡◌, ◌≢◌, ℕ, zero, suc, ◌+◌, ◌-◌, ◌*◌, ◌/◌, ◌%◌, ◌^◌, ◌<◌, ◌≤◌, ◌⊎◌, inl, inr, Bool, true, false, true≢false, not, refl, sym, ap, ap₂, ◌∙◌, arith, subst, eq-eqb, ne_eqb, eqb-true}
-use Rattle.std.specs.Prelude.{bit_and, bit_xor, nat_lt, ◌==◌, ◌&&◌, if◌then◌else◌}
+use Rattle.std.proofs.Common.{◌≡◌, ◌≢◌, ℕ, zero, suc, ◌+◌, ◌-◌, ◌*◌, ◌/◌, ◌%◌, ◌^◌, ◌<◌, ◌≤◌, ◌⊎◌, inl, inr, Bool, true, false, true≢false, not, List, ◌++◌, refl, sym, ap, ap₂, ◌∙◌, arith, subst, eq-eqb, ne_eqb}
+use Rattle.std.specs.Prelude.{bit_and, bit_xor, ◌==◌, ◌&&◌, if◌then◌else◌}
 use Rattle.std.proofs.lemmas.Bool.{cases_lt, lt-ltb, le-ltb}
 use Rattle.std.proofs.lemmas.Nat.{and_comm, pow_pos}
 use Rattle.std.proofs.lemmas.Nat.Bits.{and_pow}
+use Rattle.tm_table.specs.declared.state.Access.{Access}
+use Rattle.tm_blocks.specs.Laws.{reads_until}
 use Rattle.tm_blocks.specs.Verdict.{differs, first_from, above, verdict_number, IsNumber, agree, differ}
 
 module _ (M : ℕ) (mask a b : ℕ → ℕ) where
@@ -43,8 +45,15 @@ module _ (M : ℕ) (mask a b : ℕ → ℕ) where
   set i (suc zero) e l h = refl
   set i (suc (suc x)) e l h = absurd (omega arith)
 
+  -- whether it is set
+  pub bit_off : (i : ℕ) → bit_and (2 ^ suc i) M ≡ 0 → (M / 2 ^ (i + 1) % 2 == 1) ≡ false
+  bit_off i h = ne_eqb _ _ (unset i (M / 2 ^ (i + 1) % 2) refl h)
+
+  pub bit_on : (i : ℕ) → bit_and (2 ^ suc i) M ≢ 0 → (M / 2 ^ (i + 1) % 2 == 1) ≡ true
+  bit_on i h = eq-eqb _ _ (set i (M / 2 ^ (i + 1) % 2) refl (omega arith) h)
+
   pub register_unchecked : (i : ℕ) → i < 30 → bit_and (2 ^ suc i) M ≡ 0 → differs M mask a b i ≡ false
-  register_unchecked i l h = register i l ∙ ap (λ (c : Bool). c && not (a i == b i)) (ne_eqb _ _ (unset i (M / 2 ^ (i + 1) % 2) refl h))
+  register_unchecked i l h = register i l ∙ ap (λ (c : Bool). c && not (a i == b i)) (bit_off i h)
 
   pub register_same : (i : ℕ) → i < 30 → a i ≡ b i → differs M mask a b i ≡ false
   register_same i l e = register i l ∙ (ap (λ (c : Bool). (M / 2 ^ (i + 1) % 2 == 1) && not c) (eq-eqb _ _ e) ∙ none (M / 2 ^ (i + 1) % 2 == 1))
@@ -54,7 +63,7 @@ module _ (M : ℕ) (mask a b : ℕ → ℕ) where
       none false = refl
 
   pub register_other : (i : ℕ) → i < 30 → bit_and (2 ^ suc i) M ≢ 0 → a i ≢ b i → differs M mask a b i ≡ true
-  register_other i l h e = register i l ∙ ap₂ (λ (c d : Bool). c && not d) (eq-eqb _ _ (set i (M / 2 ^ (i + 1) % 2) refl (omega arith) h)) (ne_eqb _ _ e)
+  register_other i l h e = register i l ∙ ap₂ (λ (c d : Bool). c && not d) (bit_on i h) (ne_eqb _ _ e)
 
 -- what comes first
 pub first_here : (test : ℕ → Bool) (i n : ℕ) → test i ≡ true → first_from test i (suc n) ≡ suc i
@@ -62,6 +71,13 @@ first_here test i n e = ap (λ (c : Bool). if c then suc i else first_from test 
 
 pub first_later : (test : ℕ → Bool) (i n : ℕ) → test i ≡ false → first_from test i (suc n) ≡ first_from test (suc i) n
 first_later test i n e = ap (λ (c : Bool). if c then suc i else first_from test (suc i) n) e
+
+-- the reads up to it
+pub reads_here : (test : ℕ → Bool) (one : ℕ → List Access) (i n : ℕ) → test i ≡ true → reads_until test one i (suc n) ≡ one i
+reads_here test one i n e = ap (λ (c : Bool). if c then one i else reads_until test one (suc i) n ++ one i) e
+
+pub reads_later : (test : ℕ → Bool) (one : ℕ → List Access) (i n : ℕ) → test i ≡ false → reads_until test one i (suc n) ≡ reads_until test one (suc i) n ++ one i
+reads_later test one i n e = ap (λ (c : Bool). if c then one i else reads_until test one (suc i) n ++ one i) e
 
 pub first_small : (test : ℕ → Bool) (i n : ℕ) → first_from test i n ≤ i + n
 first_small test i zero = omega arith

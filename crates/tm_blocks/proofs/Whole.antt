@@ -1,19 +1,20 @@
 -- What every run of a whole comparison does.
-use Rattle.std.proofs.Common.{◌≡◌, ◌≢◌, ℕ, zero, suc, ◌+◌, ◌*◌, ◌%◌, ◌^◌, ◌<◌, ◌≤◌, ◌⊎◌, inl, inr, List, [], ◌∷◌, ◌++◌, length, refl, sym, ap, ◌∙◌, arith, subst, append_assoc, length-append, IsTrue}
+use Rattle.std.proofs.Common.{◌≡◌, ◌≢◌, ℕ, zero, suc, ◌+◌, ◌*◌, ◌^◌, ◌<◌, ◌≤◌, ◌⊎◌, inl, inr, List, [], ◌∷◌, ◌++◌, length, refl, sym, ap, ◌∙◌, arith, subst, append_assoc, length-append, IsTrue, Bool, true, false}
+use Rattle.std.specs.Prelude.{◌-◌, ◌/◌, ◌%◌, nat_lt, ◌==◌, if◌then◌else◌}
+use Rattle.std.proofs.lemmas.Bool.{ltb-false}
 use Rattle.tm_table.specs.declared.instr.Instr.{Instr}
 use Rattle.tm_table.specs.declared.state.Access.{Access}
 use Rattle.tm_table.specs.declared.state.Access.TheVariants.{Quiet, Read, Write}
-use Rattle.tm_runs.specs.Machine.{World, State, Entry, Table, put, get, computes, loaded}
-use Rattle.tm_runs.specs.Runs.{Takes, Now, At, Within, Each, Does, Since}
+use Rattle.tm_runs.specs.Machine.{World, State, Table, put, get, computes}
+use Rattle.tm_runs.specs.Runs.{Takes, Now, At, Within}
 use Rattle.tm_runs.proofs.Compose.{takes_then, takes_more, takes_map, within_map}
-use Rattle.tm_runs.proofs.Split.{takes_since}
 use Rattle.tm_runs.proofs.Steps.{step_addi, step_slli, step_add, step_ld, step_sd, step_beq, branched}
 use Rattle.tm_runs.proofs.Tables.{get_put_other, at_front, at_next}
-use Rattle.tm_blocks.specs.Instrs.{addi, slli, add, ld, sd, beq}
+use Rattle.tm_blocks.specs.Instrs.{addi, slli, ld, sd, beq}
 use Rattle.tm_blocks.specs.Blocks.{constant}
-use Rattle.tm_blocks.specs.Compare.{checks, verdict, compare, compare_but_last}
-use Rattle.tm_blocks.specs.Verdict.{differs, first_from, above, verdict_number}
-use Rattle.tm_blocks.specs.Laws.{accesses, with_access, EachAccess, Among, Nowhere, Uses, Usable, ReadsBack, Changeable, RegistersFit, HasConstant, Comparable, Compares, Mask, verdict_in, HasVerdict, CompareButLastRuns, after_verdict, LastStoreRuns, HasCompared, CompareRuns}
+use Rattle.tm_blocks.specs.Compare.{checks, verdict, compare_but_last}
+use Rattle.tm_blocks.specs.Verdict.{first_from, above, verdict_number}
+use Rattle.tm_blocks.specs.Laws.{accesses, EachAccess, check_reads, reads_until, differs_in, compare_reads, Among, Nowhere, Uses, Usable, ReadsBack, RegistersFit, HasConstant, Comparable, Compares, First, Other, Mask, Bytes, HasVerdict, CompareButLastRuns, after_verdict, LastStoreRuns, HasCompared, CompareRuns}
 use Rattle.tm_blocks.proofs.Lengths.{length-constant, length-checks, length-compare_but_last, compare_parts}
 use Rattle.tm_blocks.proofs.Dwords.{may_at, fit_put, on_quiet, on_branch, on_read, quiet_uses, uses_map}
 use Rattle.tm_blocks.proofs.Constant.{constant_takes}
@@ -31,6 +32,7 @@ record Numbered (k v : ℕ) (s t : State) : Type 0 where
   number : get t.regs 8 ≡ above k v
   regs : (r : ℕ) → r ≢ 6 → r ≢ 8 → get t.regs r ≡ get s.regs r
   mem : t.mem ≡ s.mem
+  log : accesses t.log ≡ accesses s.log
   fits : RegistersFit s → RegistersFit t
 
 verdict_takes : (w : World) (lo hi : ℕ) (A : Access → Type 0) → A Quiet → (k v : ℕ) (s : State) → k < 2 ^ 11 → v < 2 ^ 62 → get s.regs 8 ≡ v → lo ≤ s.pc → s.pc + 16 ≤ hi → At w.text s.pc (verdict k) → Takes w (Within lo hi A) (Numbered k v s) 4 s
@@ -38,7 +40,7 @@ verdict_takes w lo hi A q k v s pass small is x y at =
     step_beq (s.pc + 16) refl at.0 (omega arith)
     (λ zero. (
       on_branch _ _ s q (omega arith) (omega arith) (omega arith) (omega arith),
-      Now (record { pc = refl; number = zero ∙ sym (ap (above k) (sym is ∙ zero)); regs = λ r n6 n8. refl; mem = refl; fits = λ k. k }),
+      Now (record { pc = refl; number = zero ∙ sym (ap (above k) (sym is ∙ zero)); regs = λ r n6 n8. refl; mem = refl; log = refl; fits = λ k. k }),
     ))
     (λ some. (
       on_branch _ _ s q (omega arith) (omega arith) (omega arith) (omega arith),
@@ -54,36 +56,10 @@ verdict_takes w lo hi A q k v s pass small is x y at =
             number = sym (above_is k v (λ e. some (is ∙ e)));
             regs = λ r n6 n8. get_put_other s3.regs 8 n r n8 ∙ (get_put_other s2.regs 6 (k * 2 ^ 32) r n6 ∙ get_put_other s1.regs 6 k r n6);
             mem = refl;
+            log = refl;
             fits = λ h. fit_put s3.regs 8 n (omega arith) (fit_put s2.regs 6 (k * 2 ^ 32) (omega arith) (fit_put s1.regs 6 k (omega arith) h));
           })))),
     ))
-
--- the accesses since a state, where each is one that A allows
-record Accessed (A : Access → Type 0) (log old : List Entry) : Type 0 where
-  made : List Access
-  each : EachAccess A made
-  are : accesses log ≡ made ++ accesses old
-
-accessed_one : (A : Access → Type 0) (x : Access) (made before old : List Access) → A x → EachAccess A made → before ≡ made ++ old → (more : List Access) × EachAccess A more × (with_access x before ≡ more ++ old)
-accessed_one A Quiet made before old a e is = (made, e, is)
-accessed_one A (Read b n v) made before old a e is = (Read b n v ∷ made, (a, e), ap (λ (l : List Access). Read b n v ∷ l) is)
-accessed_one A (Write b n v) made before old a e is = (Write b n v ∷ made, (a, e), ap (λ (l : List Access). Write b n v ∷ l) is)
-
-accessed : (A : Access → Type 0) (lo hi : ℕ) (es old : List Entry) → Each (Does lo hi A) es → Accessed A (es ++ old) old
-accessed A lo hi [] old h = record { made = []; each = tt; are = refl }
-accessed A lo hi (e ∷ es) old h =
-    let before = accessed A lo hi es old h.1 in
-    let one = accessed_one A e.access before.made (accesses (es ++ old)) (accesses old) h.0.access before.each before.are in
-    record { made = one.0; each = one.1; are = one.2 }
-
--- x8 is the verdict, without the accesses
-record Judged (first other masks bytes cell k n : ℕ) (s t : State) : Type 0 where
-  pc : t.pc ≡ s.pc + 4 * (301 + 7 * n)
-  place : get t.regs 7 ≡ cell
-  number : get t.regs 8 ≡ verdict_in s.mem first other masks bytes k n
-  regs : (r : ℕ) → r ≢ 1 → r ≢ 2 → (r < 4) ⊎ (8 < r) → get t.regs r ≡ get s.regs r
-  mem : t.mem ≡ s.mem
-  fits : RegistersFit s → RegistersFit t
 
 -- the mask of the registers is loaded
 record Masked (masks : ℕ) (s t : State) : Type 0 where
@@ -91,6 +67,7 @@ record Masked (masks : ℕ) (s t : State) : Type 0 where
   small : s.mem masks < 2 ^ 64
   regs : t.regs ≡ put s.regs 5 (s.mem masks)
   mem : t.mem ≡ s.mem
+  log : accesses t.log ≡ Read masks 8 (s.mem masks) ∷ accesses s.log
 
 mask_takes : (w : World) (lo hi masks : ℕ) (A : Access → Type 0) (s : State) → ((v : ℕ) → A (Read masks 8 v)) → Usable w masks 1 → ReadsBack w masks 1 → get s.regs 4 ≡ masks → lo ≤ s.pc → s.pc + 4 ≤ hi → At w.text s.pc (ld 5 0 4 ∷ []) → Takes w (Within lo hi A) (Masked masks s) 1 s
 mask_takes w lo hi masks A s may usable back four x y at =
@@ -99,21 +76,47 @@ mask_takes w lo hi masks A s may usable back four x y at =
     step_ld masks refl at.0 (rw four (omega arith)) (may_at 0 _ usable (omega arith) (sym here))
     (λ v _ _. on_read _ masks v s (may v) x y)
     (λ v small own. let is : v ≡ s.mem masks = own (subst (λ (a : ℕ). IsTrue (w.own a)) here (back 0 (omega arith))) in
-    Now (record { pc = refl; small = subst (λ (n : ℕ). n < 2 ^ 64) is small; regs = ap (put s.regs 5) is; mem = refl }))
+    Now (record { pc = refl; small = subst (λ (n : ℕ). n < 2 ^ 64) is small; regs = ap (put s.regs 5) is; mem = refl; log = ap (λ (x : ℕ). Read masks 8 x ∷ accesses s.log) is }))
+
+-- the reads are those that are allowed
+reads_allowed : (A : Access → Type 0) (test : ℕ → Bool) (one : ℕ → List Access) (n i : ℕ) (last : List Access) → EachAccess A last → ((j : ℕ) → i ≤ j → j < i + n → (rest : List Access) → EachAccess A rest → EachAccess A (one j ++ rest)) → EachAccess A (reads_until test one i n ++ last)
+reads_allowed A test one zero i last h f = h
+reads_allowed A test one (suc n) i last h f = by (test i) (reads_allowed A test one n (suc i) (one i ++ last) (f i (omega arith) (omega arith) last h) (λ j p q. f j (omega arith) (omega arith)))
+  where
+    by : (c : Bool) → EachAccess A (reads_until test one (suc i) n ++ (one i ++ last)) → EachAccess A ((if c then one i else reads_until test one (suc i) n ++ one i) ++ last)
+    by true g = f i (omega arith) (omega arith) last h
+    by false g = subst (EachAccess A) (sym (append_assoc (reads_until test one (suc i) n) (one i) last)) g
+
+check_allowed : (mem : Table) (first other masks bytes registers n i : ℕ) → i < 30 + n → (rest : List Access) → EachAccess (Uses (Compares first other masks bytes n) Nowhere) rest → EachAccess (Uses (Compares first other masks bytes n) Nowhere) (check_reads mem first other bytes registers i ++ rest)
+unfolding check_reads
+check_allowed mem first other masks bytes registers n i l rest h = by (nat_lt i 30) refl (registers / 2 ^ (i + 1) % 2 == 1)
+  where
+    by : (c : Bool) → nat_lt i 30 ≡ c → (d : Bool) → EachAccess (Uses (Compares first other masks bytes n) Nowhere) ((if c then (if d then Read (other + 8 * i) 8 (mem (other + 8 * i)) ∷ Read (first + 8 * i) 8 (mem (first + 8 * i)) ∷ [] else []) else Read (bytes + 8 * (i - 30)) 8 (mem (bytes + 8 * (i - 30))) ∷ Read (other + 8 * i) 8 (mem (other + 8 * i)) ∷ Read (first + 8 * i) 8 (mem (first + 8 * i)) ∷ []) ++ rest)
+    by true e true = ((refl, Other (record { index = i; below = l; is = refl })), ((refl, First (record { index = i; below = l; is = refl })), h))
+    by true e false = h
+    by false e d = let k = ltb-false i 30 e in ((refl, Bytes (record { index = i - 30; below = omega arith; is = refl })), ((refl, Other (record { index = i; below = l; is = refl })), ((refl, First (record { index = i; below = l; is = refl })), h)))
 
 -- after all parts
-judged : (first other masks bytes cell k n : ℕ) (s s1 s2 s3 s4 s5 s6 s7 t : State) → HasConstant 4 masks s s1 → Masked masks s1 s2 → HasConstant 1 first s2 s3 → HasConstant 2 other s3 s4 → HasConstant 4 bytes s4 s5
-    → Checked (s5.pc + 4 * (241 + 7 * n)) (first_from (differs (s.mem masks) (λ j. s.mem (bytes + 8 * j)) (λ i. s.mem (first + 8 * i)) (λ i. s.mem (other + 8 * i))) 0 (30 + n)) s5 s6
-    → Numbered k (first_from (differs (s.mem masks) (λ j. s.mem (bytes + 8 * j)) (λ i. s.mem (first + 8 * i)) (λ i. s.mem (other + 8 * i))) 0 (30 + n)) s6 s7
-    → HasConstant 7 cell s7 t → Judged first other masks bytes cell k n s t
+judged : (first other masks bytes cell k n lo hi : ℕ) (w : World) (c : Comparable w first other masks bytes n) (s s1 s2 s3 s4 s5 s6 s7 t : State) → HasConstant 4 masks s s1 → Masked masks s1 s2 → HasConstant 1 first s2 s3 → HasConstant 2 other s3 s4 → HasConstant 4 bytes s4 s5
+    → Checked w lo hi first other masks bytes n (s.mem masks) s.mem c (s5.pc + 4 * (241 + 7 * n)) 0 (30 + n) s5 s6
+    → Numbered k (first_from (differs_in s.mem first other masks bytes) 0 (30 + n)) s6 s7
+    → HasConstant 7 cell s7 t → HasVerdict first other masks bytes cell k n s t
 unfolding verdict_number
-judged first other masks bytes cell k n s s1 s2 s3 s4 s5 s6 s7 t c1 m c2 c3 c4 h v c5 =
+judged first other masks bytes cell k n lo hi w c s s1 s2 s3 s4 s5 s6 s7 t c1 m c2 c3 c4 h v c5 =
+    let seen = reads_until (differs_in s.mem first other masks bytes) (check_reads s.mem first other bytes (s.mem masks)) 0 (30 + n) in
     record {
       pc = omega (arith, c1.pc, m.pc, c2.pc, c3.pc, c4.pc, h.pc, v.pc, c5.pc);
       place = ap (λ (f : Table). get f 7) c5.regs;
       number = ap (λ (f : Table). get f 8) c5.regs ∙ v.number;
       regs = λ r n1 n2 far. same r n1 n2 (not 4 r far (omega arith) (omega arith)) (not 5 r far (omega arith) (omega arith)) (not 6 r far (omega arith) (omega arith)) (not 7 r far (omega arith) (omega arith)) (not 8 r far (omega arith) (omega arith));
       mem = c5.mem ∙ (v.mem ∙ (h.mem ∙ (c4.mem ∙ (c3.mem ∙ (c2.mem ∙ (m.mem ∙ c1.mem))))));
+      read = compare_reads s.mem first other masks bytes n;
+      only = reads_allowed (Uses (Compares first other masks bytes n) Nowhere) (differs_in s.mem first other masks bytes) (check_reads s.mem first other bytes (s.mem masks)) (30 + n) 0 (Read masks 8 (s.mem masks) ∷ []) ((refl, Mask refl), tt)
+          (λ j _ p. check_allowed s.mem first other masks bytes (s.mem masks) n j (omega arith));
+      exact = refl;
+      accesses = c5.accesses ∙ (v.log ∙ (h.log
+          ∙ (ap (λ (l : List Access). seen ++ l) (c4.accesses ∙ (c3.accesses ∙ (c2.accesses ∙ (m.log ∙ (ap (λ (f : Table). Read masks 8 (f masks) ∷ accesses s1.log) c1.mem ∙ ap (λ (l : List Access). Read masks 8 (s.mem masks) ∷ l) c1.accesses)))))
+          ∙ sym (append_assoc seen (Read masks 8 (s.mem masks) ∷ []) (accesses s.log)))));
       fits = λ f. c5.fits (v.fits (h.fits (c4.fits (c3.fits (c2.fits (masked (c1.fits f)))))));
     }
   where
@@ -134,14 +137,14 @@ judged first other masks bytes cell k n s s1 s2 s3 s4 s5 s6 s7 t c1 m c2 c3 c4 h
         ∙ (ap (λ (f : Table). get f r) m.regs ∙ (get_put_other s1.regs 5 (s1.mem masks) r n5
         ∙ (ap (λ (f : Table). get f r) c1.regs ∙ get_put_other s.regs 4 masks r n4))))))))))))
 
-judge_takes : (first other masks bytes cell k n : ℕ) (w : World) (s : State) → k < 2 ^ 11 → cell < 2 ^ 64 → Comparable w first other masks bytes n → At w.text s.pc (compare_but_last first other masks bytes cell k n) → Takes w (Within s.pc (s.pc + 4 * (301 + 7 * n)) (Uses (Compares first other masks bytes n) Nowhere)) (Judged first other masks bytes cell k n s) (301 + 7 * n) s
+pub compare_but_last_runs : (first other masks bytes cell k n : ℕ) → k < 2 ^ 11 → cell < 2 ^ 64 → CompareButLastRuns first other masks bytes cell k n
 unfolding compare_but_last
-judge_takes first other masks bytes cell k n w s pass here c at =
+compare_but_last_runs first other masks bytes cell k n pass here w s c at =
     let lo = s.pc in
     let hi = s.pc + 4 * (301 + 7 * n) in
     let R = Compares first other masks bytes n in
     let quiet = quiet_uses lo hi R Nowhere in
-    let test = differs (s.mem masks) (λ j. s.mem (bytes + 8 * j)) (λ i. s.mem (first + 8 * i)) (λ i. s.mem (other + 8 * i)) in
+    let test = differs_in s.mem first other masks bytes in
     let fl = c.first_usable.low in
     let ol = c.other_usable.low in
     let ml = c.mask_usable.low in
@@ -182,7 +185,7 @@ judge_takes first other masks bytes cell k n w s pass here c at =
     let pc6 = h.pc in
     takes_then (verdict_takes w lo hi (Uses R Nowhere) tt k (first_from test 0 (30 + n)) s6 pass (omega (arith, first_small test 0 (30 + n))) h.answer (omega arith) (omega arith) (at_next w.text s.pc s6.pc (l1 ++ l2 ++ l3 ++ l4 ++ l5 ++ l6) l7 (286 + 7 * n) n6 (omega arith) at7)) (λ s7 v.
     let pc7 = v.pc in
-    takes_map quiet (λ t c5. judged first other masks bytes cell k n s s1 s2 s3 s4 s5 s6 s7 t c1 m c2 c3 c4 h v c5)
+    takes_map quiet (λ t c5. judged first other masks bytes cell k n lo hi w c s s1 s2 s3 s4 s5 s6 s7 t c1 m c2 c3 c4 h v c5)
     (constant_takes w lo hi 7 cell (omega arith) s7 (omega arith) (omega arith) here (at_next w.text s.pc s7.pc (l1 ++ l2 ++ l3 ++ l4 ++ l5 ++ l6 ++ l7) l8 (290 + 7 * n) n7 (omega arith) at))))))))))
   where
     -- where the checks begin
@@ -196,15 +199,6 @@ judge_takes first other masks bytes cell k n w s pass here c at =
           five = ap (λ (f : Table). get f 5) regs ∙ (ap (λ (f : Table). get f 5) m.regs ∙ ap (λ (f : Table). f masks) c1.mem);
           mem = c4.mem ∙ (c3.mem ∙ (c2.mem ∙ (m.mem ∙ c1.mem)));
         }
-
-pub compare_but_last_runs : (first other masks bytes cell k n : ℕ) → k < 2 ^ 11 → cell < 2 ^ 64 → CompareButLastRuns first other masks bytes cell k n
-compare_but_last_runs first other masks bytes cell k n pass here w s c at =
-    takes_map (λ t g. g.0) (λ t q. seen t q.0 q.1) (takes_since (judge_takes first other masks bytes cell k n w s pass here c at))
-  where
-    seen : (t : State) → Judged first other masks bytes cell k n s t → Since (Does s.pc (s.pc + 4 * (301 + 7 * n)) (Uses (Compares first other masks bytes n) Nowhere)) s t → HasVerdict first other masks bytes cell k n s t
-    seen t j since =
-        let a = accessed (Uses (Compares first other masks bytes n) Nowhere) s.pc (s.pc + 4 * (301 + 7 * n)) since.entries s.log since.each in
-        record { pc = j.pc; place = j.place; number = j.number; regs = j.regs; mem = j.mem; read = a.made; only = a.each; accesses = ap accesses since.log ∙ a.are; fits = j.fits }
 
 pub last_store_runs : (cell : ℕ) → LastStoreRuns cell
 last_store_runs cell w s usable free at place =
@@ -221,6 +215,7 @@ verdict_stored first other masks bytes cell k n s u t v is =
       mem = ap (λ (f : Table). put f cell (get u.regs 8)) v.mem ∙ ap (put s.mem cell) v.number;
       read = v.read;
       only = v.only;
+      exact = v.exact;
       accesses = ap (λ (l : List Access). Write cell 8 (get u.regs 8) ∷ l) v.accesses ∙ ap (λ (x : ℕ). Write cell 8 x ∷ v.read ++ accesses s.log) v.number;
       fits = v.fits;
     })

@@ -2,17 +2,16 @@
 -- world, in any state at the part's first word: it comes, in so many steps, to the address behind the last, never back to the
 -- first, and each step until then makes the accesses alone that are named; what holds then says how the state differs from the one
 -- before, and which accesses were made.
-use Rattle.std.specs.Prelude.{◌≡◌, ◌≢◌, ℕ, suc, ◌+◌, ◌*◌, ◌%◌, ◌^◌, ◌<◌, ◌≤◌, ◌⊎◌, List, [], ◌∷◌, ◌++◌, length, slice_index, map, false, IsTrue}
+use Rattle.std.specs.Prelude.{◌≡◌, ◌≢◌, ℕ, zero, suc, ◌+◌, ◌-◌, ◌*◌, ◌/◌, ◌%◌, ◌^◌, ◌<◌, ◌≤◌, ◌⊎◌, List, [], ◌∷◌, ◌++◌, length, slice_index, map, Bool, false, nat_lt, ◌==◌, if◌then◌else◌, IsTrue}
 use Rattle.tm_table.specs.declared.state.Access.{Access}
 use Rattle.tm_table.specs.declared.state.Access.TheVariants.{Quiet, Read, Write}
-use Rattle.tm_table.specs.Words.{word_of}
 use Rattle.tm_plan.specs.Collected.{count_from}
 use Rattle.tm_runs.specs.Machine.{Table, Entry, State, World, put, get, loaded, moved}
-use Rattle.tm_runs.specs.Runs.{Takes, At, Each, Within, IsQuiet}
+use Rattle.tm_runs.specs.Runs.{Takes, At, Within, IsQuiet}
 use Rattle.tm_blocks.specs.Instrs.{ld, sd}
 use Rattle.tm_blocks.specs.Blocks.{constant, load_registers, load_registers_but_last, save_registers, copy, collect}
 use Rattle.tm_blocks.specs.Compare.{compare, compare_but_last}
-use Rattle.tm_blocks.specs.Verdict.{verdict_number}
+use Rattle.tm_blocks.specs.Verdict.{differs, verdict_number}
 
 -- ---- accesses
 
@@ -243,6 +242,27 @@ pub data Compares (first other masks bytes n a : ℕ) : Type 0 where
   Mask : a ≡ masks → Compares first other masks bytes n a
   Bytes : Among bytes n a → Compares first other masks bytes n a
 
+-- the reads of dword i's check, the newest first: of a register that is checked, the two saved values; of a collected dword, the two
+-- and then its mask
+unfoldable pub check_reads : Table → (first other bytes registers i : ℕ) → List Access
+check_reads mem first other bytes registers i =
+    if nat_lt i 30 then (if registers / 2 ^ (i + 1) % 2 == 1 then Read (other + 8 * i) 8 (mem (other + 8 * i)) ∷ Read (first + 8 * i) 8 (mem (first + 8 * i)) ∷ [] else [])
+    else Read (bytes + 8 * (i - 30)) 8 (mem (bytes + 8 * (i - 30))) ∷ Read (other + 8 * i) 8 (mem (other + 8 * i)) ∷ Read (first + 8 * i) 8 (mem (first + 8 * i)) ∷ []
+
+-- the reads of n checks from dword i on, up to the first that finds a difference, the newest first
+abbrev pub reads_until : (ℕ → Bool) → (ℕ → List Access) → (i n : ℕ) → List Access
+reads_until test one i zero = []
+reads_until test one i (suc n) = if test i then one i else reads_until test one (suc i) n ++ one i
+
+-- which dwords of two saved states differ
+abbrev pub differs_in : Table → (first other masks bytes : ℕ) → ℕ → Bool
+differs_in mem first other masks bytes = differs (mem masks) (λ j. mem (bytes + 8 * j)) (λ i. mem (first + 8 * i)) (λ i. mem (other + 8 * i))
+
+-- all reads of a comparison, the newest first; the first is that of the registers' mask
+abbrev pub compare_reads : Table → (first other masks bytes n : ℕ) → List Access
+compare_reads mem first other masks bytes n =
+    reads_until (differs_in mem first other masks bytes) (check_reads mem first other bytes (mem masks)) 0 (30 + n) ++ Read masks 8 (mem masks) ∷ []
+
 -- the verdict on pass k over the memory: dword i of a saved state is at its address plus 8 * i
 abbrev pub verdict_in : Table → (first other masks bytes k n : ℕ) → ℕ
 verdict_in mem first other masks bytes k n = verdict_number (mem masks) (λ j. mem (bytes + 8 * j)) (λ i. mem (first + 8 * i)) (λ i. mem (other + 8 * i)) k n
@@ -256,6 +276,7 @@ pub record HasVerdict (first other masks bytes cell k n : ℕ) (s t : State) : T
   pub mem : t.mem ≡ s.mem
   pub read : List Access
   pub only : EachAccess (Uses (Compares first other masks bytes n) Nowhere) read
+  pub exact : read ≡ compare_reads s.mem first other masks bytes n
   pub accesses : accesses t.log ≡ read ++ accesses s.log
   pub fits : RegistersFit s → RegistersFit t
 
@@ -280,6 +301,7 @@ pub record HasCompared (first other masks bytes cell k n : ℕ) (s t : State) : 
   pub mem : t.mem ≡ put s.mem cell (verdict_in s.mem first other masks bytes k n)
   pub read : List Access
   pub only : EachAccess (Uses (Compares first other masks bytes n) Nowhere) read
+  pub exact : read ≡ compare_reads s.mem first other masks bytes n
   pub accesses : accesses t.log ≡ Write cell 8 (verdict_in s.mem first other masks bytes k n) ∷ read ++ accesses s.log
   pub fits : RegistersFit s → RegistersFit t
 

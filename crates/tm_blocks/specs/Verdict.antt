@@ -1,5 +1,5 @@
 -- The verdict as a number, apart from the machine that computes it (this project's own).
-use Rattle.std.specs.Prelude.{◌≡◌, ℕ, zero, suc, ◌+◌, ◌-◌, ◌*◌, ◌/◌, ◌%◌, ◌^◌, ◌<◌, Bool, true, false, ◌&&◌, not, nat_lt, ◌==◌, if◌then◌else◌, bit_and, bit_xor, ◌⊎◌}
+use Rattle.std.specs.Prelude.{◌≡◌, ℕ, zero, suc, ◌+◌, ◌-◌, ◌*◌, ◌/◌, ◌%◌, ◌^◌, ◌<◌, Bool, ◌&&◌, not, nat_lt, ◌==◌, if◌then◌else◌, bit_and, bit_xor, ◌⊎◌}
 use Rattle.tm_world.specs.Place.{byte_of}
 
 -- Dword i of two saved states, a and b, differs where it is checked: dword i below 30 is register i + 1, checked where that bit of
@@ -40,3 +40,7 @@ pub record Agrees (registers : ℕ) (mask a b : ℕ → ℕ) (i : ℕ) : Type 0 
 -- each byte of a dword is 0 or 255
 abbrev pub IsMask : ℕ → Type 0
 IsMask m = (m < 2 ^ 64) × ((l : ℕ) → l < 8 → (byte_of m l ≡ 0) ⊎ (byte_of m l ≡ 255))
+
+-- the number of any two saved states is the verdict on them, by registers and bytes
+abbrev pub NamesLeast : (k n : ℕ) → Type 0
+NamesLeast k n = (registers : ℕ) (mask a b : ℕ → ℕ) → ((j : ℕ) → j < n → IsMask (mask j)) → IsNumber (Agrees registers mask a b) k (30 + n) (verdict_number registers mask a b k n)

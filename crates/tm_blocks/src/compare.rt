@@ -1,6 +1,7 @@
 // The comparison of two saved states, appended as its words.
 ghost use Rattle.std.specs.Prelude.{◌≡◌, ◌++◌, ◌<◌, ◌≤◌, OnOk};
 ghost use Rattle.tm_blocks.specs.Instrs.{words_of};
+ghost use Rattle.tm_blocks.specs.Verdict.{NamesLeast};
 ghost use Rattle.tm_blocks.specs.Laws.{CompareRuns, CompareButLastRuns, LastStoreRuns};
 ghost use Rattle.tm_blocks.specs.Compare.{register_check, register_checks, dword_check, dword_checks, checks, verdict, compare};
 
@@ -32,6 +33,7 @@ pub fn put_compare(out: &mut Words, c: Comparison) -> Result<(), NoMemory>
     ensures runs { OnOk result (CompareRuns c.first c.other c.masks c.bytes c.cell c.pass c.dwords) }
     ensures runs_but_last { OnOk result (CompareButLastRuns c.first c.other c.masks c.bytes c.cell c.pass c.dwords) }
     ensures runs_last { OnOk result (LastStoreRuns c.cell) }
+    ensures least { OnOk result (NamesLeast c.pass c.dwords) }
 {
     put_constant(out, 4, c.masks)?;
     ld(out, 5, 0, 4)?;

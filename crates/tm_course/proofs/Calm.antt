@@ -1,13 +1,13 @@
 -- Parts of support code whose steps come to no mark and write no verdict.
-use Rattle.std.proofs.Common.{eq-eqb, suc, [], ◌∷◌, ◌++◌, ◌==◌, ◌||◌, ap, append-nil, ◌≡◌, ◌≢◌, ◌⊎◌, inl, inr, ℕ, ◌+◌, ◌*◌, ◌<◌, ◌≤◌, Bool, true, false, true≢false, refl, sym, ◌∙◌, arith, List}
-use Rattle.std.specs.Prelude.{IsTrue, if◌then◌else◌}
+use Rattle.std.proofs.Common.{eq-eqb, suc, [], ◌∷◌, ◌++◌, ◌==◌, ◌||◌, ap, append-nil, ◌≡◌, ◌≢◌, ◌⊎◌, inl, inr, ℕ, ◌+◌, ◌<◌, ◌≤◌, Bool, true, false, true≢false, refl, sym, ◌∙◌, arith, List}
+use Rattle.std.specs.Prelude.{if◌then◌else◌}
 use Rattle.std.proofs.lemmas.Bool.Decides.{nat_tests}
 use Rattle.tm_table.specs.declared.state.Access.{Access}
 use Rattle.tm_table.specs.declared.state.Access.TheVariants.{Quiet, Read, Write}
 use Rattle.tm_world.specs.Marks.{Mark}
 use Rattle.tm_world.specs.Course.{writes_in}
 use Rattle.tm_world.specs.Run.{Writes}
-use Rattle.tm_runs.specs.Machine.{World, Entry}
+use Rattle.tm_runs.specs.Machine.{World, Table, Entry}
 use Rattle.tm_runs.specs.Runs.{Does}
 use Rattle.tm_plan.specs.Collected.{any}
 use Rattle.tm_world.specs.Lists.{count}
@@ -45,25 +45,29 @@ or-false-right : (a b : Bool) → (a || b) ≡ false → b ≡ false
 or-false-right true b e = absurd (true≢false e)
 or-false-right false b e = e
 
-module _ (w : World) (mark : ℕ → ℕ → List Mark) (n : ℕ) (ground : Ground w mark n) (fresh : ℕ → ℕ) where
+module _ (w : World) (mark : ℕ → ℕ → List Mark) (n : ℕ) (ground : Ground w mark n) (image : Table) where
   -- an entry that comes neither to the stream's start nor to halt
-  pub plain : (e : Entry) → e.next ≢ start_at → e.next ≢ halt_at n → IsMild e.access → (past : List Entry) → Fact n fresh past e
+  pub plain : (e : Entry) → e.next ≢ start_at → e.next ≢ halt_at n → IsMild e.access → (past : List Entry) → Fact n image past e
   plain e x y m past = record {
     fresh = λ at _ r _ _. absurd (x at);
     verdict = λ v. absurd (true≢false (sym v ∙ m.silent));
+    exact = λ v e. absurd (true≢false (sym (written e) ∙ m.silent));
     halt = λ at. absurd (y at);
     spares = λ _. m.spares;
   }
+    where
+      written : {v : ℕ} → e.access ≡ Write cell 8 v → writes_in cell 8 e.access ≡ true
+      written q = ap (writes_in cell 8) q
 
   -- an entry away from marks
-  pub calm : (e : Entry) → e.next ≢ exit_at → e.next ≢ halt_at n → (e.next < start_at) ⊎ (end_at n < e.next) → IsMild e.access → Calm mark (Fact n fresh) e
+  pub calm : (e : Entry) → e.next ≢ exit_at → e.next ≢ halt_at n → (e.next < start_at) ⊎ (end_at n < e.next) → IsMild e.access → Calm mark (Fact n image) e
   calm e x y z m = record { mark = ground.none e.pc e.next x y z; fact = plain e (by z) y m }
     where
       by : (e.next < start_at) ⊎ (end_at n < e.next) → e.next ≢ start_at
       by (inl p) = λ q. omega arith
       by (inr p) = λ q. omega arith
 
-  pub calm-does : (lo hi : ℕ) (A : Access → Type 0) → Away n lo hi → ((a : Access) → A a → IsMild a) → (e : Entry) → Does lo hi A e → Calm mark (Fact n fresh) e
+  pub calm-does : (lo hi : ℕ) (A : Access → Type 0) → Away n lo hi → ((a : Access) → A a → IsMild a) → (e : Entry) → Does lo hi A e → Calm mark (Fact n image) e
   calm-does lo hi A away mild e d = calm e (by-exit away.exit) (λ q. omega (arith, away.halt, d.most)) (by-stream away.stream) (mild e.access d.access)
     where
       by-exit : (hi < exit_at) ⊎ (exit_at ≤ lo) → e.next ≢ exit_at
@@ -75,8 +79,8 @@ module _ (w : World) (mark : ℕ → ℕ → List Mark) (n : ℕ) (ground : Grou
       by-stream (inr p) = inr (omega (arith, d.least))
 
   -- one calm entry more
-  pub calm-one : (ms : List Mark) (k : ℕ) (e : Entry) (log : List Entry) → Calm mark (Fact n fresh) e → Sofar mark (Fact n fresh) (is_out n) ms k log → Sofar mark (Fact n fresh) (is_out n) ms (suc k) (e ∷ log)
-  calm-one ms k e log c so = let m = sofar-one mark (Fact n fresh) (is_out n) ms [] k e log c.mark (c.fact log) so in record { way = m.way ∙ append-nil ms; story = m.story; few = m.few }
+  pub calm-one : (ms : List Mark) (k : ℕ) (e : Entry) (log : List Entry) → Calm mark (Fact n image) e → Sofar mark (Fact n image) (is_out n) ms k log → Sofar mark (Fact n image) (is_out n) ms (suc k) (e ∷ log)
+  calm-one ms k e log c so = let m = sofar-one mark (Fact n image) (is_out n) ms [] k e log c.mark (c.fact log) so in record { way = m.way ∙ append-nil ms; story = m.story; few = m.few }
 
   -- ---- what the marks say of the log
 
@@ -89,7 +93,7 @@ module _ (w : World) (mark : ℕ → ℕ → List Mark) (n : ℕ) (ground : Grou
       by false e = e
 
   -- no verdict was written where halt was not come to
-  pub silent : (log : List Entry) → Story (Fact n fresh) log → any is_halt (trail mark log) ≡ false → any reports log ≡ false
+  pub silent : (log : List Entry) → Story (Fact n image) log → any is_halt (trail mark log) ≡ false → any reports log ≡ false
   silent [] story e = refl
   silent (x ∷ past) story e = by (reports x) refl (silent past story.1 (or-false-left _ _ (sym (any-append (trail mark past) (mark x.pc x.next)) ∙ e)))
     where

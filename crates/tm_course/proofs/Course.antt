@@ -1,11 +1,9 @@
 -- What each half run of a program of one hart does: the course, and the number of steps.
-use Rattle.std.proofs.Common.{◌≡◌, ◌≢◌, ◌⊎◌, inl, inr, ℕ, zero, suc, ◌+◌, ◌*◌, ◌^◌, ◌<◌, ◌≤◌, Bool, true, false, true≢false, ◌&&◌, ◌||◌, not, nat_le, nat_lt, ◌==◌, eqb-true, List, [], ◌∷◌, ◌++◌, length, Option, Some, None, refl, sym, ap, ap₂, ◌∙◌, subst, arith, append-nil}
+use Rattle.std.proofs.Common.{◌≡◌, ◌⊎◌, inl, inr, ℕ, zero, suc, ◌*◌, ◌^◌, ◌<◌, ◌≤◌, Bool, true, false, true≢false, ◌&&◌, ◌||◌, not, nat_le, nat_lt, ◌==◌, eqb-true, List, [], ◌∷◌, ◌++◌, length, Option, Some, None, refl, sym, ap, ap₂, ◌∙◌, subst, arith}
 use Rattle.std.specs.Prelude.{slice_get, slice_index, IsTrue, IsFalse, flat_map, if◌then◌else◌}
 use Rattle.std.proofs.lemmas.Bool.{cases_lt}
 use Rattle.std.proofs.lemmas.Bool.Decides.{nat_tests}
-use Rattle.tm_table.specs.declared.state.Access.{Access}
-use Rattle.tm_table.specs.declared.state.Access.TheVariants.{Quiet, Read, Write}
-use Rattle.tm_table.specs.State.{Hart}
+use Rattle.tm_table.specs.declared.state.Access.TheVariants.{Write}
 use Rattle.tm_plan.specs.declared.cases.Case.{Case}
 use Rattle.tm_plan.specs.declared.cases.Stream.{Stream}
 use Rattle.tm_plan.specs.declared.masks.CaseMask.{CaseMask}
@@ -13,16 +11,16 @@ use Rattle.tm_plan.specs.declared.program.Program.{Program}
 use Rattle.tm_plan.specs.Map.{text_base, tables_base, verdict_at}
 use Rattle.tm_plan.specs.Collected.{any, count_from}
 use Rattle.tm_world.specs.Lists.{count, IsFront}
-use Rattle.tm_world.specs.Place.{harts, case_count, passes, start_of, end_of, halt_of, inside, is_text, is_table}
-use Rattle.tm_world.specs.Run.{Step, Always, now, first_state, pc_of, access_of, Writes}
+use Rattle.tm_world.specs.Place.{harts, case_count, passes, start_of, inside, is_text, is_table}
+use Rattle.tm_world.specs.Run.{Step, Always, now, first_state, pc_of, access_of}
 use Rattle.tm_world.specs.Writers.{stream_in}
-use Rattle.tm_world.specs.Kinds.{IsOpening, HalfPath, HalfStep, stream_at}
-use Rattle.tm_world.specs.Marks.{Mark, Exit, Enter, End, Halt, comes_to, visited, whole_way, pass_way, arrivals}
+use Rattle.tm_world.specs.Kinds.{IsOpening, HalfPath, stream_at}
+use Rattle.tm_world.specs.Marks.{Mark, Enter, Halt, comes_to, whole_way, pass_way, arrivals}
 use Rattle.tm_world.specs.Course.{OnHalf, KeepsOrder, EntersFresh, KeepsVerdicts, HasAllVerdicts, IsFresh, WritesVerdict, writes_in}
 use Rattle.tm_world.specs.Work.{GoesOn}
 use Rattle.tm_runs.specs.Machine.{State, Entry, get}
 use Rattle.tm_runs.specs.Runs.{Keeps, Stopped}
-use Rattle.tm_runs.specs.World.{Sizes, world_of, start, image_dword}
+use Rattle.tm_runs.specs.World.{world_of, start, image_dword}
 use Rattle.tm_runs.specs.Shadow.{entry_of, entries_of}
 use Rattle.tm_runs.specs.Course.{trail, Story, Good}
 use Rattle.tm_runs.proofs.Bytes.{within-false}
@@ -32,9 +30,9 @@ use Rattle.tm_legal.specs.Tame.{SparesImage, OutsideSpares}
 use Rattle.tm_legal.proofs.Inside.{writes-map}
 use Rattle.tm_stays.specs.Stays.{outside_steps, one_outside}
 use Rattle.tm_course.specs.OneHart.{IsOfOneHart}
-use Rattle.tm_course.proofs.Ground.{Fact, is_out, reports, fresh_in, entry_at, start_at, end_at, halt_at, cell}
-use Rattle.tm_course.proofs.Laying.{one-case, shaped, start-is, end-is, halt-is, stream-in, stream-out}
-use Rattle.tm_course.proofs.Tables.{register-dword, base-dword, count-dword}
+use Rattle.tm_course.proofs.Ground.{Fact, is_out, reports, start_at, end_at, halt_at, cell}
+use Rattle.tm_course.proofs.Laying.{one-case, start-is, end-is, halt-is, stream-in, stream-out}
+use Rattle.tm_course.proofs.Tables.{register-dword, base-dword, count-dword, first-blank}
 use Rattle.tm_course.proofs.Grounded.{ground}
 use Rattle.tm_course.proofs.Behind.{Done}
 use Rattle.tm_course.proofs.Way.{both_passes, most_steps, keeps-way}
@@ -51,7 +49,7 @@ module _ (p : Program) (case : Case) (stream : Stream) (mask : CaseMask) (is : I
   image = image_dword p
 
   abbrev Told : State → Type 0
-  Told t = Good (arrivals p 0) (Fact size (fresh_in image)) (is_out size) both_passes most_steps t.log
+  Told t = Good (arrivals p 0) (Fact size image) (is_out size) both_passes most_steps t.log
 
   abbrev End' : State → Type 0
   End' = Done (world_of p 0) (arrivals p 0) size image (ground p case stream mask is) both_passes most_steps
@@ -61,7 +59,7 @@ module _ (p : Program) (case : Case) (stream : Stream) (mask : CaseMask) (is : I
 
   opens : (x : List ℕ) → IsOpening 0 x → Keeps (world_of p 0) Told End' (start p x)
   unfolding text_base
-  opens x o = keeps-way (world_of p 0) (arrivals p 0) size image (ground p case stream mask is) (base-dword p case stream mask is) (start p x) refl refl (count-dword p case stream mask is) (λ a _ _. refl) fits
+  opens x o = keeps-way (world_of p 0) (arrivals p 0) size image (ground p case stream mask is) (base-dword p case stream mask is) (first-blank p case stream mask is) (start p x) refl refl (count-dword p case stream mask is) (λ a _ _. refl) fits
     where
       fits : (r : ℕ) → get (λ r. slice_index x r) r < 2 ^ 64
       fits zero = omega arith
@@ -71,17 +69,17 @@ module _ (p : Program) (case : Case) (stream : Stream) (mask : CaseMask) (is : I
   stops t d = stopped p 0 t (ap (stream_at p 0) (halt-is p case stream mask is) ∙ stream-out p case stream mask is (halt_at size) (inr (omega arith))) (d.pc ∙ sym (halt-is p case stream mask is))
 
   -- what the log of each half run tells
-  tells : (H : List Entry → Type 0) → H [] → ((log : List Entry) → Good (arrivals p 0) (Fact size (fresh_in image)) (is_out size) both_passes most_steps log → H log) → (x : List ℕ) → IsOpening 0 x → (own : List Step) → HalfPath p 0 (first_state x) own → H (entries_of own)
+  tells : (H : List Entry → Type 0) → H [] → ((log : List Entry) → Good (arrivals p 0) (Fact size image) (is_out size) both_passes most_steps log → H log) → (x : List ℕ) → IsOpening 0 x → (own : List Step) → HalfPath p 0 (first_state x) own → H (entries_of own)
   tells H none f x o own path = told-log p 0 is.sizes few x o Told End' (opens x o) stops H none (λ t g. f t.log g) (λ t d. f t.log d.told) own path
 
   -- the fact of a step on a half run
-  fact-of : (x : List ℕ) → IsOpening 0 x → (past : List Step) (s : Step) → HalfPath p 0 (first_state x) (s ∷ past) → Fact size (fresh_in image) (entries_of past) (entry_of s)
-  fact-of x o past s path = (tells (Story (Fact size (fresh_in image))) tt (λ log g. g.sofar.story) x o (s ∷ past) path).0
+  pub fact-of : (x : List ℕ) → IsOpening 0 x → (past : List Step) (s : Step) → HalfPath p 0 (first_state x) (s ∷ past) → Fact size image (entries_of past) (entry_of s)
+  fact-of x o past s path = (tells (Story (Fact size image)) tt (λ log g. g.sofar.story) x o (s ∷ past) path).0
 
-  place-of : (x : List ℕ) (past : List Step) (s : Step) → HalfPath p 0 (first_state x) (s ∷ past) → pc_of s ≡ (now (first_state x) past).pc
+  pub place-of : (x : List ℕ) (past : List Step) (s : Step) → HalfPath p 0 (first_state x) (s ∷ past) → pc_of s ≡ (now (first_state x) past).pc
   place-of x past s path = stands p 0 (stream_at p 0 (now (first_state x) past).pc) (now (first_state x) past) past s path.0
 
-  steps : (P : List Step → Step → Type 0) → (x : List ℕ) → ((past : List Step) (s : Step) → HalfPath p 0 (first_state x) (s ∷ past) → P past s) → (own : List Step) → HalfPath p 0 (first_state x) own → Always P own
+  pub steps : (P : List Step → Step → Type 0) → (x : List ℕ) → ((past : List Step) (s : Step) → HalfPath p 0 (first_state x) (s ∷ past) → P past s) → (own : List Step) → HalfPath p 0 (first_state x) own → Always P own
   steps P x f own path = always p 0 (first_state x) P f own path
 
   -- ---- the order of the marks
@@ -119,11 +117,11 @@ module _ (p : Program) (case : Case) (stream : Stream) (mask : CaseMask) (is : I
   same-stream : {a b : Stream} → Some a ≡ Some b → a ≡ b
   same-stream e = cc
 
+  pub stream-found : stream_in p.cases 0 0 ≡ Some stream
+  stream-found = let e1 : slice_get p.cases.cases 0 ≡ Some case = ap (λ (cs : List Case). slice_get cs 0) is.cases in rw e1 (ap (λ (ss : List Stream). slice_get ss 0) is.streams)
+
   pub stream-is : (c : ℕ) (other : Stream) → stream_in p.cases c 0 ≡ Some other → (c ≡ 0) × (stream ≡ other)
-  stream-is zero other e = (refl, same-stream (sym found ∙ e))
-    where
-      found : stream_in p.cases 0 0 ≡ Some stream
-      found = let e1 : slice_get p.cases.cases 0 ≡ Some case = ap (λ (cs : List Case). slice_get cs 0) is.cases in rw e1 (ap (λ (ss : List Stream). slice_get ss 0) is.streams)
+  stream-is zero other e = (refl, same-stream (sym stream-found ∙ e))
   stream-is (suc c) other e =
       let none : slice_get p.cases.cases (suc c) ≡ None = ap (λ (cs : List Case). slice_get cs (suc c)) is.cases in
       let no : ◌≡◌ {A = Option Stream} None (Some other) = rw none at e in

@@ -4,7 +4,7 @@ use Rattle.tm_table.specs.declared.instr.Instr.{Instr}
 use Rattle.tm_table.specs.Words.{Fits}
 use Rattle.tm_plan.specs.Collected.{count_from}
 use Rattle.tm_plan.specs.Map.{tables_base, private_at, save_at, verdict_at, table_at, windows_base}
-use Rattle.tm_blocks.specs.Instrs.{addi, slli, add, xor, and, ld, sd, beq, bne, jump, jump_back}
+use Rattle.tm_blocks.specs.Instrs.{ld, sd}
 use Rattle.tm_blocks.specs.Blocks.{shift_in, constant, load_registers, save_registers, copy_dword, copy_dwords, copy, collect}
 use Rattle.tm_blocks.specs.Compare.{register_check, dword_check, register_checks, dword_checks, checks, verdict, compare}
 use Rattle.tm_blocks.proofs.Fitting.{addi_fits, slli_fits, add_fits, xor_fits, and_fits, ld_fits, sd_fits, beq_fits, bne_fits, jump_fits, jump_back_fits}

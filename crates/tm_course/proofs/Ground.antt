@@ -1,89 +1,21 @@
 -- What the parts of one hart's program stand on: where their words, the marks and the memory lie, in numbers. A stream of n words
 -- stands between them.
-use Rattle.std.proofs.Common.{◌≡◌, ◌≢◌, ◌⊎◌, ℕ, suc, ◌+◌, ◌*◌, ◌^◌, ◌<◌, ◌≤◌, Bool, true, false, not, ◌&&◌, nat_le, nat_lt, ◌==◌, List, [], ◌∷◌, ◌++◌, Some}
+use Rattle.std.proofs.Common.{◌≡◌, ◌≢◌, ◌⊎◌, ℕ, ◌+◌, ◌*◌, ◌^◌, ◌<◌, ◌≤◌, Bool, true, false, ◌==◌, List, [], ◌∷◌, ◌++◌, Some}
 use Rattle.std.specs.Prelude.{IsTrue}
-use Rattle.tm_table.specs.declared.state.Access.{Access}
 use Rattle.tm_table.specs.declared.state.Access.TheVariants.{Write}
 use Rattle.tm_table.specs.declared.instr.Instr.{Instr}
 use Rattle.tm_plan.specs.Collected.{any}
 use Rattle.tm_world.specs.Lists.{count}
 use Rattle.tm_world.specs.Marks.{Mark, Exit, Enter, End, Halt}
-use Rattle.tm_world.specs.Course.{writes_in}
 use Rattle.tm_world.specs.Run.{Writes}
 use Rattle.tm_runs.specs.Machine.{World, State, Table, Entry, get}
 use Rattle.tm_runs.specs.Runs.{At}
 use Rattle.tm_runs.specs.Course.{Sofar}
+pub use Rattle.tm_course.proofs.Addresses.{entry_at, arrive_at, exit_at, run_at, start_at, end_at, between_at, last_at, halt_at, registers_at, mask_at, first_at, bytes_at, tables_end, cell, private, count_at, save_0, save_1, shared, is_out, reports, fresh_in}
+use Rattle.tm_course.proofs.Logs.{Judged}
 use Rattle.tm_blocks.specs.Instrs.{addi, ld, sd, beq, jump_back}
 use Rattle.tm_blocks.specs.Blocks.{constant, load_registers_but_last, save_registers, copy, collect}
 use Rattle.tm_blocks.specs.Compare.{compare_but_last}
-
--- ---- places of words
-
-abbrev pub entry_at : ℕ
-entry_at = 2147483648
-
-abbrev pub arrive_at : ℕ
-arrive_at = 2147483844
-
-abbrev pub exit_at : ℕ
-exit_at = 2147483856
-
-abbrev pub run_at : ℕ
-run_at = 2147483876
-
-abbrev pub start_at : ℕ
-start_at = 2147484044
-
-abbrev pub end_at : ℕ → ℕ
-end_at n = 2147484044 + 4 * n
-
-abbrev pub between_at : ℕ → ℕ
-between_at n = 2147484168 + 4 * n
-
-abbrev pub last_at : ℕ → ℕ
-last_at n = 2147484716 + 4 * n
-
-abbrev pub halt_at : ℕ → ℕ
-halt_at n = 2147486540 + 4 * n
-
--- ---- places of bytes
-
--- the first values of the registers, the mask of the registers, the first bytes of the windows, their mask bytes
-abbrev pub registers_at : ℕ
-registers_at = 2155872256
-
-abbrev pub mask_at : ℕ
-mask_at = 2155872504
-
-abbrev pub first_at : ℕ
-first_at = 2155872512
-
-abbrev pub bytes_at : ℕ
-bytes_at = 2155878656
-
--- behind the tables
-abbrev pub tables_end : ℕ
-tables_end = 2155884800
-
-abbrev pub cell : ℕ
-cell = 2160070656
-
--- the private area, the count of exits in it, and the save areas of the two passes
-abbrev pub private : ℕ
-private = 2160132096
-
-abbrev pub count_at : ℕ
-count_at = 2160132352
-
-abbrev pub save_0 : ℕ
-save_0 = 2160136192
-
-abbrev pub save_1 : ℕ
-save_1 = 2160144384
-
--- the declared line
-abbrev pub shared : ℕ
-shared = 2162688000
 
 -- ---- parts
 
@@ -134,28 +66,18 @@ pub record Ground (w : World) (mark : ℕ → ℕ → List Mark) (n : ℕ) : Typ
 
 -- ---- what each entry of the log keeps
 
--- the entry's step is outside the stream
-abbrev pub is_out : ℕ → Entry → Bool
-is_out n e = not (nat_le start_at e.pc && nat_lt e.pc (end_at n))
-
--- the entry writes the verdict cell
-abbrev pub reports : Entry → Bool
-reports e = writes_in cell 8 e.access
-
 -- A step that comes into the stream leaves fresh registers; one that writes the verdict cell does so with width 8, for the first time,
--- after two ends of the stream, and comes to halt; what comes to halt has written it; and outside the stream nothing is written below
+-- after two ends of the stream, and comes to halt, and its value is the
+-- verdict over the end states that the log tells; what comes to halt has written it; and outside the stream nothing is written below
 -- the flags.
-pub record Fact (n : ℕ) (values : ℕ → ℕ) (past : List Entry) (e : Entry) : Type 0 where
-  pub fresh : e.next ≡ start_at → IsTrue (is_out n e) → (r : ℕ) → 1 ≤ r → r < 32 → e.regs r ≡ values r
+pub record Fact (n : ℕ) (image : Table) (past : List Entry) (e : Entry) : Type 0 where
+  pub fresh : e.next ≡ start_at → IsTrue (is_out n e) → (r : ℕ) → 1 ≤ r → r < 32 → e.regs r ≡ fresh_in image r
   pub verdict : IsTrue (reports e) → ((v : ℕ) × (e.access ≡ Write cell 8 v)) × (any reports past ≡ false) × (2 ≤ count (λ t. t.next == end_at n) past) × (e.next ≡ halt_at n)
+  pub exact : (v : ℕ) → e.access ≡ Write cell 8 v → Judged n image past v
   pub halt : e.next ≡ halt_at n → any reports (e ∷ past) ≡ true
   pub spares : IsTrue (is_out n e) → Writes (λ b. 2160066560 ≤ b) e.access
 
 -- ---- what holds between parts
-
--- the first value of register r, in a memory that holds the tables
-abbrev pub fresh_in : Table → ℕ → ℕ
-fresh_in image r = image (2155872248 + 8 * r)
 
 -- Where the hart is between two parts: at pc, after k arrivals at the exit mark, with the marks ms behind it, and at most o steps outside
 -- the stream; x31 is its private area, and the tables are the image's.
@@ -165,4 +87,4 @@ pub record Hold (mark : ℕ → ℕ → List Mark) (n : ℕ) (image : Table) (k 
   pub count : t.mem count_at ≡ k
   pub tables : (a : ℕ) → registers_at ≤ a → a + 8 ≤ tables_end → t.mem a ≡ image a
   pub fits : (r : ℕ) → get t.regs r < 2 ^ 64
-  pub sofar : Sofar mark (Fact n (fresh_in image)) (is_out n) ms o t.log
+  pub sofar : Sofar mark (Fact n image) (is_out n) ms o t.log

@@ -1,5 +1,5 @@
 -- A program of one hart lies as its parts need it.
-use Rattle.std.proofs.Common.{◌≡◌, ◌≢◌, ◌⊎◌, inl, inr, ℕ, zero, suc, ◌+◌, ◌-◌, ◌*◌, ◌<◌, ◌≤◌, Bool, true, false, true≢false, ne_eqb, ◌||◌, List, [], ◌∷◌, ◌++◌, length, Some, refl, sym, ap, ap₂, ◌∙◌, subst, arith, append_assoc, length-append}
+use Rattle.std.proofs.Common.{◌≡◌, ◌≢◌, ◌⊎◌, inl, inr, ℕ, zero, suc, ◌+◌, ◌*◌, ◌<◌, ◌≤◌, true, false, true≢false, ne_eqb, List, [], ◌∷◌, ◌++◌, length, Some, refl, sym, ap, ap₂, ◌∙◌, subst, arith, append_assoc, length-append}
 use Rattle.std.specs.Prelude.{IsTrue, flat_map, slice_get}
 use Rattle.tm_table.specs.Words.{word_of}
 use Rattle.tm_table.specs.declared.instr.Instr.{Instr}
@@ -8,11 +8,11 @@ use Rattle.tm_plan.specs.declared.cases.Stream.{Stream}
 use Rattle.tm_plan.specs.declared.masks.CaseMask.{CaseMask}
 use Rattle.tm_plan.specs.declared.program.Program.{Program}
 use Rattle.tm_plan.specs.Collected.{count_from}
-use Rattle.tm_plan.specs.Map.{guest_base, guest_end, tables_base, table_at, private_at, private_size, save_at, verdict_at, windows_base, windows_size, within}
+use Rattle.tm_plan.specs.Map.{guest_base, guest_end, tables_base, table_at, private_at, private_size, save_at, verdict_at, windows_base, windows_size}
 use Rattle.tm_world.specs.Lists.{count, those}
-use Rattle.tm_world.specs.Place.{case_count, start_of, end_of, exit_of, halt_of, inside, is_window}
-use Rattle.tm_world.specs.Marks.{Mark, Exit, Enter, End, Halt, Stray, comes_to, all_marks, arrivals}
-use Rattle.tm_runs.specs.World.{world_of, support_at, bounds_at, is_fixed_dword, is_private_dword, is_guest_dword}
+use Rattle.tm_world.specs.Place.{case_count, start_of, end_of, inside}
+use Rattle.tm_world.specs.Marks.{Mark, Exit, Enter, End, Halt, Stray, comes_to, arrivals}
+use Rattle.tm_runs.specs.World.{world_of, support_at}
 use Rattle.tm_runs.specs.Runs.{At}
 use Rattle.tm_runs.proofs.Tables.{at_front, at_next}
 use Rattle.tm_runs.proofs.Arrivals.{Quiet, arrivals-none, arrivals-exit, arrivals-halt, arrivals-enter, arrivals-end, inside-true, inside-false, quiet-off, quiet-in, enters, ends}
@@ -21,13 +21,13 @@ use Rattle.tm_runs.proofs.Places.{guest-true, within-parts}
 use Rattle.tm_blocks.specs.Instrs.{ld, sd, jump, jump_back, words_of}
 use Rattle.tm_blocks.specs.Blocks.{constant, load_registers, load_registers_but_last, save_registers, copy, collect}
 use Rattle.tm_blocks.specs.Compare.{compare, compare_but_last}
-use Rattle.tm_blocks.proofs.Lengths.{length-words_of, length-constant, length-save_registers, length-copy, length-collect, length-compare}
+use Rattle.tm_blocks.proofs.Lengths.{length-words_of, length-constant, length-save_registers, length-copy, length-collect}
 use Rattle.tm_pass.specs.Hart.{registers_table, masks_table, first_table, bytes_table, first_bytes, entry, arrive, choose, run, leave, between, last, before_stream, behind_stream}
-use Rattle.tm_pass.proofs.Numbers.{length-first_bytes, length-arrive, length-run, length-leave, length-between, length-last, length-behind_stream}
+use Rattle.tm_pass.proofs.Numbers.{length-first_bytes, length-arrive, length-run, length-leave, length-between, length-behind_stream}
 use Rattle.tm_course.specs.OneHart.{IsOfOneHart}
-use Rattle.tm_course.proofs.Ground.{Ground, is_end, entry_at, arrive_at, exit_at, run_at, start_at, end_at, between_at, last_at, halt_at, registers_at, mask_at, first_at, bytes_at, tables_end, cell, private, count_at, save_0, save_1, shared, arrive_part, choose_part}
+use Rattle.tm_course.proofs.Ground.{Ground, is_end, entry_at, arrive_at, exit_at, run_at, start_at, end_at, between_at, last_at, halt_at, registers_at, mask_at, first_at, bytes_at, tables_end, cell, private, save_0, save_1, shared, arrive_part, choose_part}
 use Rattle.tm_course.proofs.Tables.{tables-size}
-use Rattle.tm_course.proofs.Laying.{Nothing, Other, count-none, count-less, one-case, shaped, start-is, end-is, exit-is, halt-is, stream-in, stream-out, before-at, behind-at, get-behind, words-append, rear}
+use Rattle.tm_course.proofs.Laying.{Nothing, Other, count-none, count-less, one-case, shaped, start-is, end-is, exit-is, halt-is, stream-in, before-at, behind-at, get-behind, words-append, rear}
 
 -- ---- the parts, with their addresses in numbers
 

@@ -1,6 +1,6 @@
 -- Where the words and marks of a program of one hart stand.
-use Rattle.std.proofs.Common.{◌≡◌, ◌≢◌, ◌⊎◌, inl, inr, ℕ, zero, suc, ◌+◌, ◌-◌, ◌*◌, ◌<◌, ◌≤◌, Bool, true, false, true≢false, List, [], ◌∷◌, ◌++◌, length, Option, Some, None, map, refl, sym, ap, ap₂, ◌∙◌, subst, arith, append_assoc, length-append}
-use Rattle.std.specs.Prelude.{slice_get, slice_index, All, flat_map, if◌then◌else◌}
+use Rattle.std.proofs.Common.{◌≡◌, ◌≢◌, ◌⊎◌, inl, inr, ℕ, zero, suc, ◌+◌, ◌*◌, ◌<◌, ◌≤◌, Bool, true, false, true≢false, List, [], ◌∷◌, ◌++◌, length, Some, None, refl, sym, ap, ◌∙◌, subst, arith, length-append}
+use Rattle.std.specs.Prelude.{slice_get, slice_index, All, if◌then◌else◌}
 use Rattle.std.proofs.lemmas.List.Elements.{All-head}
 use Rattle.tm_table.specs.declared.instr.Instr.{Instr}
 use Rattle.tm_table.specs.Words.{word_of}
@@ -8,20 +8,19 @@ use Rattle.tm_plan.specs.declared.cases.Case.{Case}
 use Rattle.tm_plan.specs.declared.cases.Stream.{Stream}
 use Rattle.tm_plan.specs.declared.masks.CaseMask.{CaseMask}
 use Rattle.tm_plan.specs.declared.program.Program.{Program}
-use Rattle.tm_plan.specs.Collected.{count_from}
 use Rattle.tm_plan.specs.Map.{text_base}
 use Rattle.tm_plan.specs.Shaped.{IsShapedCase, IsShapedStream}
 use Rattle.tm_world.specs.Lists.{count, those}
-use Rattle.tm_world.specs.Place.{harts, case_count, passes, start_of, end_of, exit_of, halt_of, inside, word_at}
+use Rattle.tm_world.specs.Place.{case_count, start_of, end_of, exit_of, halt_of, inside, word_at}
 use Rattle.tm_world.specs.Kinds.{stream_at}
-use Rattle.tm_world.specs.Marks.{Mark, Exit, Enter, End, Halt, Stray, comes_to, all_marks, arrivals}
-use Rattle.tm_runs.specs.World.{support_at, bounds_at}
+use Rattle.tm_world.specs.Marks.{Mark}
+use Rattle.tm_runs.specs.World.{support_at}
 use Rattle.tm_runs.specs.Runs.{At}
-use Rattle.tm_runs.proofs.Arrivals.{stream-some, stream-none, Quiet, arrivals-none, arrivals-exit, arrivals-halt, arrivals-enter, arrivals-end, inside-true, inside-false, quiet-off, quiet-in, enters, ends}
-use Rattle.tm_runs.proofs.Worlds.{fetched, instr-word, text-at, held}
+use Rattle.tm_runs.proofs.Arrivals.{stream-some, stream-none, inside-true, inside-false}
+use Rattle.tm_runs.proofs.Worlds.{fetched, instr-word, text-at}
 use Rattle.tm_blocks.specs.Instrs.{words_of}
 use Rattle.tm_blocks.proofs.Lengths.{length-words_of}
-use Rattle.tm_pass.specs.Hart.{hart_words, before_stream, behind_stream, exit_place, start_place, halt_place}
+use Rattle.tm_pass.specs.Hart.{hart_words, before_stream, behind_stream}
 use Rattle.tm_pass.proofs.Numbers.{length-entry, length-arrive, length-run, length-before_stream, length-behind_stream}
 use Rattle.tm_course.specs.OneHart.{IsOfOneHart}
 use Rattle.tm_course.proofs.Fitting.{AllFit, Nil, Fit, fit-before, fit-behind}
@@ -53,7 +52,7 @@ placed p h (i ∷ is) k (Fit fits more) l words out =
     let shift : (j : ℕ) → k + suc j ≡ suc k + j = λ j. omega arith in (
       fetched p h (text_base + 4 * k) (word_of i) i at.0 at.1 word (instr-word i fits),
       subst (λ (a : ℕ). At (support_at p h) a is) next (placed p h is (suc k) more (omega arith) (λ j m. ap (slice_get p.text) (sym (shift j)) ∙ words (suc j) (omega arith))
-      (λ j m. subst (λ (x : ℕ). (stream_at p h (text_base + 4 * x) ≡ None) × (text_base + 4 * x ≢ halt_of p h)) (shift j) (out (suc j) (omega arith)))),
+          (λ j m. subst (λ (x : ℕ). (stream_at p h (text_base + 4 * x) ≡ None) × (text_base + 4 * x ≢ halt_of p h)) (shift j) (out (suc j) (omega arith)))),
     )
 
 fit-front : (a b : List Instr) → AllFit (a ++ b) → AllFit a

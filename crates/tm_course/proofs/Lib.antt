@@ -1,3 +1,5 @@
+pub mod Addresses
+pub mod Logs
 pub mod Ground
 pub mod Calm
 pub mod Memory
@@ -10,3 +12,9 @@ pub mod Grounded
 pub mod Way
 pub mod Course
 pub mod Whole
+pub mod Notes
+pub mod FirstReads
+pub mod Owned
+pub mod Exact
+pub mod Silent
+pub mod Together

@@ -1,5 +1,5 @@
 -- What the parts find in memory and leave there.
-use Rattle.std.proofs.Common.{Bool, true, false, ◌≡◌, ◌≢◌, ◌⊎◌, inl, inr, ℕ, zero, suc, ◌+◌, ◌*◌, ◌%◌, ◌^◌, ◌<◌, ◌≤◌, List, [], ◌∷◌, length, refl, ap, ◌∙◌, arith}
+use Rattle.std.proofs.Common.{Bool, true, false, ◌≡◌, ◌⊎◌, inl, inr, ℕ, zero, suc, ◌+◌, ◌*◌, ◌%◌, ◌^◌, ◌<◌, ◌≤◌, List, [], ◌∷◌, length, refl, ap, ◌∙◌, arith}
 use Rattle.std.specs.Prelude.{IsTrue, nat_eq, if◌then◌else◌}
 use Rattle.tm_world.specs.Marks.{Mark}
 use Rattle.tm_runs.specs.Machine.{World, Table, get, put}
@@ -29,6 +29,9 @@ stored-count mem new b m values e l h = ap (λ (f : Table). f count_at) e ∙ st
     by : (count_at < b) ⊎ (b + 8 * m ≤ count_at) → (count_at < b + 8 * 0) ⊎ (b + 8 * (0 + length values) ≤ count_at)
     by (inl p) = inl (omega arith)
     by (inr p) = inr (omega arith)
+
+pub stored-below : (mem new : Table) (b : ℕ) (values : List ℕ) → new ≡ stored_all mem b 0 values → (a : ℕ) → a < b → new a ≡ mem a
+stored-below mem new b values e a l = ap (λ (f : Table). f a) e ∙ stored-other values mem b 0 a (inl (omega arith))
 
 pub stored-tables : (mem new : Table) (b : ℕ) (values : List ℕ) → new ≡ stored_all mem b 0 values → tables_end ≤ b → (a : ℕ) → a + 8 ≤ tables_end → new a ≡ mem a
 stored-tables mem new b values e l a m = ap (λ (f : Table). f a) e ∙ stored-other values mem b 0 a (inl (omega arith))

@@ -1,6 +1,6 @@
 -- What the image of a program of one hart holds in its tables.
-use Rattle.std.proofs.Common.{◌≡◌, ℕ, zero, suc, ◌+◌, ◌-◌, ◌*◌, ◌/◌, ◌%◌, ◌^◌, ◌<◌, ◌≤◌, List, [], ◌∷◌, ◌++◌, length, drop, refl, sym, ap, ◌∙◌, subst, arith, append_assoc, append-nil, length-append, length-drop}
-use Rattle.std.specs.Prelude.{slice_get, slice_index, All}
+use Rattle.std.proofs.Common.{◌≡◌, ℕ, zero, suc, ◌+◌, ◌*◌, ◌^◌, ◌<◌, ◌≤◌, List, [], ◌∷◌, ◌++◌, length, drop, refl, sym, ap, ◌∙◌, subst, arith, append_assoc, append-nil, length-append, length-drop}
+use Rattle.std.specs.Prelude.{slice_index, All}
 use Rattle.std.proofs.lemmas.List.{get_or_append_left, get_or-append-add}
 use Rattle.std.proofs.lemmas.List.Elements.{All-head}
 use Rattle.tm_plan.specs.declared.cases.Case.{Case}
@@ -13,12 +13,12 @@ use Rattle.tm_plan.specs.Map.{tables_base, private_at, private_size}
 use Rattle.tm_plan.specs.Shaped.{IsShapedMask}
 use Rattle.tm_plan.specs.Tables.{dword_bytes, dwords_bytes, hart_tables, case_tables, table_bytes}
 use Rattle.tm_world.specs.Place.{image_byte, byte_of}
-use Rattle.tm_runs.specs.World.{Sizes, image_dword, is_private_dword}
+use Rattle.tm_runs.specs.World.{image_dword}
 use Rattle.tm_runs.proofs.Bytes.{joined-lt}
 use Rattle.tm_runs.proofs.Places.{image-lt}
 use Rattle.tm_runs.proofs.Worlds.{private-dword, image-dword, image-table, image-private}
 use Rattle.tm_course.specs.OneHart.{IsOfOneHart}
-use Rattle.tm_course.proofs.Ground.{registers_at, mask_at, bytes_at, count_at, private, fresh_in}
+use Rattle.tm_course.proofs.Ground.{mask_at, bytes_at, count_at, private, fresh_in}
 use Rattle.tm_course.proofs.Laying.{shaped, shaped-case}
 
 -- ---- bytes of dwords
@@ -137,3 +137,53 @@ module _ (p : Program) (case : Case) (stream : Stream) (mask : CaseMask) (is : I
   pub count-dword : image_dword p count_at ≡ 0
   unfolding private_at private_size
   count-dword = image-private p 0 count_at is.sizes (omega arith) (private-dword 0 count_at (omega arith) (omega arith))
+
+  -- the first bytes of the windows are 0
+  pub first-blank : (j : ℕ) → j < 8 → image_dword p (2155872512 + 8 * j) ≡ 0
+  first-blank j l = image-dword p (2155872512 + 8 * j) 0 is.sizes (omega arith) by
+    where
+      by : (i : ℕ) → i < 8 → image_byte p (2155872512 + 8 * j + i) ≡ byte_of 0 i
+      by i k =
+          let a = dwords_bytes (drop 1 stream.regs) in
+          let b = dword_bytes (slice_index mask.regs 0) in
+          let e : 2155872512 + 8 * j + i ≡ 2155872256 + (248 + (8 + (8 * j + i))) = omega arith in
+          let n : length a ≡ 248 = length-dwords (drop 1 stream.regs) ∙ omega (arith, length-registers) in
+          ap (image_byte p) e
+          ∙ (byte-at (248 + (8 + (8 * j + i))) (omega arith)
+          ∙ (ap (λ (t : List ℕ). slice_index t (248 + (8 + (8 * j + i)))) table
+          ∙ (behind a (b ++ (dwords_bytes case.first ++ mask.bytes)) 248 (8 + (8 * j + i)) n
+          ∙ (behind b (dwords_bytes case.first ++ mask.bytes) 8 (8 * j + i) (length-dword (slice_index mask.regs 0))
+          ∙ (byte-of-dwords case.first mask.bytes j i (let c = (shaped-case p case stream mask is).first in omega arith) k
+          ∙ ap (λ (v : ℕ). byte_of v i) (is.first j))))))
+
+  -- the mask of the registers
+  pub mask-dword : image_dword p mask_at ≡ slice_index mask.regs 0
+  mask-dword = image-dword p mask_at (slice_index mask.regs 0) is.sizes (let s = is.small in omega arith) by
+    where
+      by : (i : ℕ) → i < 8 → image_byte p (mask_at + i) ≡ byte_of (slice_index mask.regs 0) i
+      by i k =
+          let a = dwords_bytes (drop 1 stream.regs) in
+          let b = dword_bytes (slice_index mask.regs 0) in
+          let e : mask_at + i ≡ 2155872256 + (248 + i) = omega arith in
+          let n : length a ≡ 248 = length-dwords (drop 1 stream.regs) ∙ omega (arith, length-registers) in
+          ap (image_byte p) e
+          ∙ (byte-at (248 + i) (omega arith)
+          ∙ (ap (λ (t : List ℕ). slice_index t (248 + i)) table
+          ∙ (behind a (b ++ (dwords_bytes case.first ++ mask.bytes)) 248 i n
+          ∙ (get_or_append_left b (dwords_bytes case.first ++ mask.bytes) 0 i (omega (arith, length-dword (slice_index mask.regs 0))) ∙ byte-of-dword (slice_index mask.regs 0) i k))))
+
+  -- the mask of a shared byte
+  pub mask-byte : (k : ℕ) → k < 6144 → image_byte p (bytes_at + k) ≡ slice_index mask.bytes k
+  mask-byte k l =
+      let a = dwords_bytes (drop 1 stream.regs) in
+      let b = dword_bytes (slice_index mask.regs 0) in
+      let c = dwords_bytes case.first in
+      let e : bytes_at + k ≡ 2155872256 + (248 + (8 + (6144 + k))) = omega arith in
+      let n : length a ≡ 248 = length-dwords (drop 1 stream.regs) ∙ omega (arith, length-registers) in
+      let m : length c ≡ 6144 = length-dwords case.first ∙ omega (arith, (shaped-case p case stream mask is).first) in
+      ap (image_byte p) e
+      ∙ (byte-at (248 + (8 + (6144 + k))) (omega arith)
+      ∙ (ap (λ (t : List ℕ). slice_index t (248 + (8 + (6144 + k)))) table
+      ∙ (behind a (b ++ (c ++ mask.bytes)) 248 (8 + (6144 + k)) n
+      ∙ (behind b (c ++ mask.bytes) 8 (6144 + k) (length-dword (slice_index mask.regs 0))
+      ∙ behind c mask.bytes 6144 k m))))

@@ -1,31 +1,25 @@
--- A program of one hart is sound in the parts that are claimed.
-use Rattle.std.proofs.Common.{◌≡◌, ◌≢◌, ◌⊎◌, inl, inr, ℕ, zero, suc, ◌+◌, ◌*◌, ◌<◌, ◌≤◌, Bool, false, List, [], ◌∷◌, ◌++◌, length, Some, refl, sym, ap, ap₂, ◌∙◌, subst, arith}
-use Rattle.std.specs.Prelude.{slice_get, slice_index, slice_index_or, All, AllPairs, flat_map, map}
+-- The text of a program of one hart, and the bound on its steps.
+use Rattle.std.proofs.Common.{◌≡◌, ◌≢◌, ◌⊎◌, inl, ℕ, zero, suc, ◌+◌, ◌*◌, ◌<◌, ◌≤◌, false, List, [], ◌∷◌, ◌++◌, length, Some, sym, ap, ap₂, ◌∙◌, subst, arith}
+use Rattle.std.specs.Prelude.{slice_get, slice_index_or, All, AllPairs, flat_map, map}
 use Rattle.tm_plan.specs.declared.cases.Case.{Case}
 use Rattle.tm_plan.specs.declared.cases.Stream.{Stream}
 use Rattle.tm_plan.specs.declared.masks.CaseMask.{CaseMask}
 use Rattle.tm_plan.specs.declared.program.Program.{Program}
 use Rattle.tm_plan.specs.Map.{text_base}
 use Rattle.tm_plan.specs.Collected.{count_from, work_of, pass_work, slots_of, work_in}
-use Rattle.tm_table.specs.Words.{word_of}
 use Rattle.tm_world.specs.Place.{harts, case_count, passes, start_of, end_of, exit_of, halt_of, inside, word_at}
-use Rattle.tm_world.specs.Run.{Run, own}
 use Rattle.tm_world.specs.Writers.{stream_in}
-use Rattle.tm_world.specs.Kinds.{Legal}
-use Rattle.tm_world.specs.Course.{OnHalf, KeepsOrder, EntersFresh, KeepsVerdicts, HasAllVerdicts}
 use Rattle.tm_world.specs.Whole.{Laid, marks_of, mark_addresses, stream_ranges}
-use Rattle.tm_world.specs.Work.{Bound, work_steps}
+use Rattle.tm_world.specs.Work.{Bound}
 use Rattle.tm_runs.proofs.Arrivals.{inside-false}
 use Rattle.tm_runs.proofs.Worlds.{text-at}
 use Rattle.tm_legal.specs.Tame.{Formed, Tame}
 use Rattle.tm_stays.specs.Stays.{words_in}
 use Rattle.tm_stays.proofs.Stays.{ends-soon}
-use Rattle.tm_blocks.specs.Instrs.{jump, words_of}
 use Rattle.tm_course.specs.OneHart.{IsOfOneHart}
-use Rattle.tm_course.specs.Claims.{SoundSoFar, OneHartIsSound}
 use Rattle.tm_course.proofs.Ground.{exit_at, start_at, end_at, halt_at}
 use Rattle.tm_course.proofs.Laying.{one-case, shaped, start-is, end-is, exit-is, halt-is, text-size, middle}
-use Rattle.tm_course.proofs.Course.{order, fresh, verdicts, all-verdicts, goes, spares, few-outside, stream-is}
+use Rattle.tm_course.proofs.Course.{order, fresh, goes, spares, few-outside, stream-is}
 use Rattle.tm_course.proofs.Grounded.{halt-word}
 use Rattle.tm_course.proofs.Way.{most_steps}
 
@@ -159,23 +153,3 @@ module _ (p : Program) (case : Case) (stream : Stream) (mask : CaseMask) (is : I
         omega (arith, e, f, work-is);
     next = goes p case stream mask is;
   }
-
-  only : (P : ℕ → Type 0) → P 0 → (h : ℕ) → h < harts p → P h
-  only P x zero l = x
-  only P x (suc h) l = absurd (omega (arith, is.harts))
-
-  pub sound : SoundSoFar p
-  sound = record {
-    program = is.program;
-    masks = is.checked;
-    tables = is.tables;
-    laid = laid;
-    order = only (λ h. OnHalf p h (KeepsOrder p h)) (order p case stream mask is);
-    fresh = only (λ h. OnHalf p h (EntersFresh p h)) (fresh p case stream mask is);
-    verdicts = only (λ h. OnHalf p h (KeepsVerdicts p h)) (verdicts p case stream mask is);
-    all_verdicts = only (λ h. OnHalf p h (HasAllVerdicts p h)) (all-verdicts p case stream mask is);
-    bound = only (Bound p) bound;
-  }
-
-pub one-hart : (p : Program) → OneHartIsSound p
-one-hart p case stream mask is = sound p case stream mask is

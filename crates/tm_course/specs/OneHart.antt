@@ -19,8 +19,8 @@ abbrev pub HasNoAccess : Stream → Type 0
 HasNoAccess stream = (n w : ℕ) (i : Instr) → slice_get stream.words n ≡ Some w → instr_of w ≡ Some i → (load_width i.op ≡ 0) × (store_width i.op ≡ 0)
 
 -- A program of one hart, with one case of one stream, two passes, and one line of 64 bytes of window 0: its text is the hart's words
--- around the stream, its marks are theirs, and its tables are those of its cases and masks; the masks are the checked ones, and the
--- stream neither loads nor stores.
+-- around the stream, its marks are theirs, and its tables are those of its cases and masks; the masks are the checked ones, all
+-- first bytes are 0, and the stream neither loads nor stores.
 pub record IsOfOneHart (p : Program) (case : Case) (stream : Stream) (mask : CaseMask) : Type 0 where
   pub program : IsProgram p
   pub sizes : Sizes p
@@ -32,7 +32,9 @@ pub record IsOfOneHart (p : Program) (case : Case) (stream : Stream) (mask : Cas
   pub streams : case.streams ≡ stream ∷ []
   pub regs : length stream.regs ≡ 32
   pub fits : (r : ℕ) → slice_index stream.regs r < 2 ^ 64
+  pub first : (k : ℕ) → slice_index case.first k ≡ 0
   pub masks : p.masks.cases ≡ mask ∷ []
+  pub small : slice_index mask.regs 0 < 2 ^ 32
   pub starts : p.marks.starts ≡ (text_base + 4 * start_place) ∷ []
   pub ends : p.marks.ends ≡ (text_base + 4 * (start_place + length stream.words)) ∷ []
   pub exits : p.marks.exits ≡ (text_base + 4 * exit_place) ∷ []

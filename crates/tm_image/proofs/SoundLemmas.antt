@@ -1,6 +1,6 @@
 -- The program of a stream is one of one hart, and sound.
-use Rattle.std.proofs.Common.{◌≡◌, ℕ, ◌≤◌, List, [], length, map, refl, ap, ◌∙◌, arith, subst, sym}
-use Rattle.std.specs.Prelude.{All}
+use Rattle.std.proofs.Common.{◌≡◌, ℕ, zero, suc, ◌≤◌, List, [], length, map, refl, ap, ◌∙◌, arith, subst, sym}
+use Rattle.std.specs.Prelude.{All, replicate, slice_index}
 use Rattle.std.proofs.lemmas.List.{length-map}
 use Rattle.std.proofs.lemmas.List.Elements.{All-cons, All-nil}
 use Rattle.tm_table.specs.declared.instr.Instr.{Instr}
@@ -10,13 +10,18 @@ use Rattle.tm_plan.specs.Slots.{load_width, store_width}
 use Rattle.tm_plan.specs.Shaped.{IsShapedMask, MasksFit, IsProgram}
 use Rattle.tm_course.specs.OneHart.{HasNoAccess, IsOfOneHart}
 use Rattle.tm_course.specs.Claims.{SoundSoFar}
-use Rattle.tm_course.proofs.Whole.{one-hart}
+use Rattle.tm_course.proofs.Together.{one-hart}
 use Rattle.tm_image.specs.Lines.{IsEmitted}
-use Rattle.tm_image.specs.Program.{case_of, cases_of, all_checked, marks_around, program_of}
+use Rattle.tm_image.specs.Program.{case_of, cases_of, zero_dwords, all_checked, marks_around, program_of}
 use Rattle.tm_image.proofs.MaskLemmas.{the-mask, are-checked, mask-ends}
 use Rattle.tm_image.proofs.TableLemmas.{tables_short}
 use Rattle.tm_image.proofs.ShapedLemmas.{found, plain, its-stream, shaped-cases, registers-length, mask-length}
 use Rattle.tm_image.proofs.SizeLemmas.{text-length, registers-fit, sizes}
+
+all-zero : (n k : ℕ) → slice_index (replicate n 0) k ≡ 0
+all-zero zero k = refl
+all-zero (suc n) zero = refl
+all-zero (suc n) (suc k) = all-zero n k
 
 module _ (stream : List Instr) (some : 1 ≤ length stream) (few : length stream ≤ 256) (each : All IsEmitted stream) where
   abbrev words : List ℕ
@@ -50,7 +55,7 @@ module _ (stream : List Instr) (some : 1 ≤ length stream) (few : length stream
       (ap (λ (j : Instr). load_width j.op) (sym same) ∙ calm.loads, ap (λ (j : Instr). store_width j.op) (sym same) ∙ calm.stores)
 
   of-one-hart : IsOfOneHart (program_of stream) (case_of words) (its-stream words) the-mask
-  unfolding program_of cases_of case_of all_checked marks_around
+  unfolding program_of cases_of case_of all_checked marks_around zero_dwords
   of-one-hart = record {
     program = is-program;
     sizes = sizes stream few each;
@@ -62,7 +67,9 @@ module _ (stream : List Instr) (some : 1 ≤ length stream) (few : length stream
     streams = refl;
     regs = registers-length;
     fits = registers-fit;
+    first = λ k. all-zero 768 k;
     masks = refl;
+    small = omega arith;
     starts = refl;
     ends = refl;
     exits = refl;

@@ -19,11 +19,11 @@ use Rattle.tm_legal.proofs.Half.{written-none}
 use Rattle.tm_legal.proofs.Phases.{phase-exit, phase-other, in_phase-here, in_phase-there, in_phase-above, or-assoc, or-last}
 
 -- Each write covers bytes that hart 0 may write in its phase.
-abbrev Keeps : Program → List Step → Type 0
+abbrev pub Keeps : Program → List Step → Type 0
 Keeps p = Always (λ past s. Writes (λ b. IsTrue (may_write p (phase (exit_of p 0) past) 0 b)) (access_of s))
 
 -- what settles where there is hart 0 alone
-abbrev alone : Program → List Step → ℕ → ℕ → Option ℕ
+abbrev pub alone : Program → List Step → ℕ → ℕ → Option ℕ
 alone p past zero b = Some (image_byte p b)
 alone p past (suc q) b = if may_write p q 0 b then or_else (last_write b (in_phase (exit_of p 0) q past)) (alone p past q b) else alone p past q b
 
@@ -54,7 +54,7 @@ alone-kept p s past (suc q) b h =
 abbrev held : Program → List Step → ℕ → Option ℕ
 held p past b = Some (unwrap_or (last_write b past) (image_byte p b))
 
-alone-held : (p : Program) (past : List Step) (b : ℕ) → Keeps p past → or_else (last_write b (in_phase (exit_of p 0) (phase (exit_of p 0) past) past)) (alone p past (phase (exit_of p 0) past) b) ≡ held p past b
+pub alone-held : (p : Program) (past : List Step) (b : ℕ) → Keeps p past → or_else (last_write b (in_phase (exit_of p 0) (phase (exit_of p 0) past) past)) (alone p past (phase (exit_of p 0) past) b) ≡ held p past b
 alone-held p [] b k = refl
 alone-held p (s ∷ past) b k =
     let x = exit_of p 0 in
@@ -83,14 +83,14 @@ alone-held p (s ∷ past) b k =
 -- ---- one hart
 
 module _ (p : Program) (one : harts p ≡ 1) where
-  all-own : (steps : List Step) → Always (λ past s. hart_of s < harts p) steps → own 0 steps ≡ steps
+  pub all-own : (steps : List Step) → Always (λ past s. hart_of s < harts p) steps → own 0 steps ≡ steps
   all-own [] h = refl
   all-own (s ∷ past) h = own-here 0 s past (omega (arith, h.0)) ∙ ap (λ (l : List Step). s ∷ l) (all-own past h.1)
 
-  one-writer : (q b : ℕ) → writers p q b ≡ (if may_write p q 0 b then 0 ∷ [] else [])
+  pub one-writer : (q b : ℕ) → writers p q b ≡ (if may_write p q 0 b then 0 ∷ [] else [])
   one-writer q b = ap (λ (n : ℕ). those (λ h. may_write p q h b) (count_from 0 n)) one
 
-  settled-alone : (past : List Step) (q b : ℕ) → own 0 past ≡ past → settled p past q b ≡ alone p past q b
+  pub settled-alone : (past : List Step) (q b : ℕ) → own 0 past ≡ past → settled p past q b ≡ alone p past q b
   settled-alone past zero b o = refl
   settled-alone past (suc q) b o =
       ap (settle (wrote p past q b) (settled p past q b)) (one-writer q b)
@@ -115,7 +115,7 @@ module _ (p : Program) (one : harts p ≡ 1) where
       ∙ (ap₂ or_else (ap (λ (l : List Step). last_write b (in_phase x q l)) o) (settled-alone past q b o)
       ∙ alone-held p past b k))
 
-  keeps : (steps : List Step) → Always (λ past s. hart_of s < harts p) steps → Always (λ past s. Writes (λ b. IsTrue (may_write p (phase_of p past (hart_of s)) (hart_of s) b)) (access_of s)) steps → Keeps p steps
+  pub keeps : (steps : List Step) → Always (λ past s. hart_of s < harts p) steps → Always (λ past s. Writes (λ b. IsTrue (may_write p (phase_of p past (hart_of s)) (hart_of s) b)) (access_of s)) steps → Keeps p steps
   keeps [] h w = tt
   keeps (s ∷ past) h w =
       let zero' : hart_of s ≡ 0 = omega (arith, h.0) in

@@ -1,5 +1,5 @@
 -- A legal step inside a stream writes bytes of the windows alone, leaves x0 and x28 to x31, and goes forward, at most to the end.
-use Rattle.std.proofs.Common.{refl, ◌≡◌, ℕ, ◌+◌, ◌-◌, ◌*◌, ◌<◌, length, Bool, true, false, Some, sym, ap, ◌∙◌, subst, arith}
+use Rattle.std.proofs.Common.{◌≡◌, ℕ, ◌+◌, ◌-◌, ◌*◌, ◌<◌, length, Bool, true, false, Some, refl, sym, ap, ◌∙◌, subst, arith}
 use Rattle.std.specs.Prelude.{IsTrue, slice_index, if◌then◌else◌}
 use Rattle.std.proofs.lemmas.List.Elements.{All-contains}
 use Rattle.tm_table.specs.declared.instr.Instr.{Instr}
@@ -9,6 +9,7 @@ use Rattle.tm_table.specs.State.{Hart}
 use Rattle.tm_table.specs.Words.{low}
 use Rattle.tm_table.proofs.Signs.{low-lt}
 use Rattle.tm_table.specs.Row.{Effect, Gives, Loads, Stores, Branches, Jumps, effect, word64, row, after}
+use Rattle.tm_table.proofs.Signs.{low-lt}
 use Rattle.tm_plan.specs.declared.program.Program.{Program}
 use Rattle.tm_plan.specs.declared.cases.Stream.{Stream}
 use Rattle.tm_plan.specs.Map.{window_at, within}
@@ -28,6 +29,7 @@ use Rattle.tm_legal.proofs.Streams.{Slot, slot-at, IsBased, Onward, next, goes-o
 -- a row's step, with the effect by its op's kind
 pub record Rowed (hart : Hart) (s : Step) (i : Instr) : Type 0 where
   pub effects : Effect
+  pub is : effect i.op hart.pc (slice_index hart.x i.rs1) (slice_index hart.x i.rs2) (low 64 i.imm) ≡ effects
   pub kind : IsOfKind i.op hart.pc (slice_index hart.x i.rs1) (low 64 i.imm) effects
   pub result : after effects hart i.rd (low 64 i.imm) (read_value (access_of s)) ≡ (s.after, access_of s)
 
@@ -39,6 +41,7 @@ rowed p h hart s i m f is =
     let e = effect i.op hart.pc (slice_index hart.x i.rs1) (slice_index hart.x i.rs2) (low 64 i.imm) in
     record {
       effects = e;
+      is = refl;
       kind = of-kind i.op hart.pc (slice_index hart.x i.rs1) (slice_index hart.x i.rs2) (low 64 i.imm) (m.fits i.rs1) (m.fits i.rs2) (low-lt 64 i.imm);
       result = subst (λ (k : Instr). row hart k (read_value (access_of s)) ≡ (s.after, access_of s)) same eq;
     }
@@ -116,6 +119,14 @@ module _ (p : Program) (formed : Formed p) (h c : ℕ) (stream : Stream) (hart :
         declared = window-declared p.cases b v among (lines b both);
         window = declared-window p.cases.line b v (All-contains (IsShapedWindow p.cases.line) p.cases.windows v formed.cases.windows among) (lines b both);
       }
+
+  -- the bytes of a load are shared bytes
+  pub loads-shared : IsBased hart → (addr width : ℕ) (with_sign : Bool) → IsOfKind slot.instr.op hart.pc (slice_index hart.x slot.instr.rs1) (low 64 slot.instr.imm) (Loads addr width with_sign) → (j : ℕ) → j < width → IsTrue (is_declared p.cases (addr + j))
+  loads-shared based addr width with_sign k j l =
+      let placed = slot.shaped.place k.3 in
+      let (v, among, number, lines) = placed.declared in
+      let at : addr ≡ slot_addr slot.instr = k.0 ∙ address based k.3 in
+      window-declared p.cases (addr + j) v among (lines (addr + j) (within-true (slot_addr slot.instr) (load_width slot.instr.op + store_width slot.instr.op) (addr + j) (omega (arith, at)) (omega (arith, at, k.1))))
 
 -- what a legal step inside stream (h, c) is
 pub record Moves (p : Program) (h c : ℕ) (stream : Stream) (hart : Hart) (s : Step) : Type 0 where

@@ -31,7 +31,7 @@ sum-part g (suc n) a c p q = by (a == c) refl (λ l. sum-part g n (suc a) c l (o
 
 -- ---- the stream that holds an address
 
-none-holds : (test : ℕ → Bool) (n a c : ℕ) → first_of test (count_from a n) ≡ None → a ≤ c → c < a + n → test c ≡ false
+pub none-holds : (test : ℕ → Bool) (n a c : ℕ) → first_of test (count_from a n) ≡ None → a ≤ c → c < a + n → test c ≡ false
 none-holds test zero a c e p q = absurd (omega arith)
 none-holds test (suc n) a c e p q = by (test a) refl e (λ r l. none-holds test n (suc a) c r l (omega arith)) (cases_eq a c)
   where
@@ -40,7 +40,7 @@ none-holds test (suc n) a c e p q = by (test a) refl e (λ r l. none-holds test 
     by false t f later (inl same) = ap test (sym same) ∙ t
     by false t f later (inr ne) = later f (omega arith)
 
-one-holds : (test : ℕ → Bool) (n a c : ℕ) → first_of test (count_from a n) ≡ Some c → (test c ≡ true) × (c < a + n)
+pub one-holds : (test : ℕ → Bool) (n a c : ℕ) → first_of test (count_from a n) ≡ Some c → (test c ≡ true) × (c < a + n)
 one-holds test zero a c e = cc
 one-holds test (suc n) a c e = by (test a) refl e (λ r. one-holds test n (suc a) c r)
   where

@@ -26,7 +26,7 @@ use Rattle.tm_legal.specs.Tame.{Formed}
 pub all-at : {A : Type 0} (P : A → Type 0) (xs : List A) (k : ℕ) (x : A) → All P xs → slice_get xs k ≡ Some x → P x
 all-at P xs k x a e = subst P (get_or_from_slice_get xs k x x e) (a k x (slice_get_within xs k x e))
 
-none-past : {A : Type 0} (xs : List A) (k : ℕ) → k < length xs → slice_get xs k ≡ None → ⊥
+pub none-past : {A : Type 0} (xs : List A) (k : ℕ) → k < length xs → slice_get xs k ≡ None → ⊥
 none-past {A = A} xs k l e = by (slice_get_cases xs k)
   where
     by : (slice_get xs k ≡ slice_get xs k) × (((x : A) × (k < length xs) × (slice_get xs k ≡ Some x) × (get_or xs k x ≡ x)) ⊎ ((length xs ≤ k) × (slice_get xs k ≡ None))) → ⊥
@@ -138,7 +138,7 @@ declared-window line b w s e =
     let q = within-parts (window_at w.number) (w.lines * line) b e in
     within-true windows_base windows_size b (omega (arith, s.number, s.few, q)) (omega (arith, s.number, s.few, q))
 
-any-one : (test : Window → Bool) (ws : List Window) (w : Window) (k : ℕ) → k < length ws → get_or ws k w ≡ w → test w ≡ true → any test ws ≡ true
+pub any-one : (test : Window → Bool) (ws : List Window) (w : Window) (k : ℕ) → k < length ws → get_or ws k w ≡ w → test w ≡ true → any test ws ≡ true
 any-one test [] w k l e t = absurd (omega arith)
 any-one test (v ∷ ws) w zero l e t = or_left (test v) (any test ws) (ap test e ∙ t)
 any-one test (v ∷ ws) w (suc k) l e t = or_right (test v) (any test ws) (any-one test ws w k (omega arith) e t)

@@ -1,5 +1,5 @@
 -- How a log's story grows over a part of support code, over one step, and over a stream.
-use Rattle.std.proofs.Common.{◌≡◌, ℕ, suc, ◌+◌, ◌<◌, ◌≤◌, List, [], ◌∷◌, ◌++◌, length, Bool, true, false, Some, ◌⊎◌, inl, inr, refl, sym, ap, ap₂, ◌∙◌, subst, arith, append-nil, length-append}
+use Rattle.std.proofs.Common.{◌≡◌, ℕ, suc, ◌+◌, ◌<◌, ◌≤◌, List, [], ◌∷◌, ◌++◌, length, Bool, true, false, Some, ◌⊎◌, inl, inr, sym, ap, ap₂, ◌∙◌, subst, arith, append-nil, length-append}
 use Rattle.std.specs.Prelude.{if◌then◌else◌}
 use Rattle.std.proofs.lemmas.Bool.{cases_lt}
 use Rattle.tm_world.specs.Lists.{count}
@@ -8,7 +8,7 @@ use Rattle.tm_world.specs.Run.{Step, Always}
 use Rattle.tm_runs.specs.Machine.{World, State, Entry, Strays}
 use Rattle.tm_runs.specs.Runs.{Takes, Keeps, Newest, Each, Since}
 use Rattle.tm_runs.specs.Shadow.{entry_of, entries_of}
-use Rattle.tm_runs.specs.Course.{trail, Story, Sofar, Good, Calm}
+use Rattle.tm_runs.specs.Course.{Story, Sofar, Good, Calm}
 use Rattle.tm_runs.proofs.Compose.{takes_map, keeps_map, keeps_stream}
 use Rattle.tm_runs.proofs.Split.{takes_since, takes_count}
 

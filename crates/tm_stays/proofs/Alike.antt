@@ -11,6 +11,7 @@ use Rattle.tm_table.specs.State.{Hart}
 use Rattle.tm_table.specs.Words.{low}
 use Rattle.tm_table.proofs.Signs.{low-lt}
 use Rattle.tm_table.specs.Row.{Effect, Gives, Loads, Stores, Branches, Jumps, effect, row, row_word, after}
+use Rattle.tm_table.proofs.Signs.{low-lt}
 use Rattle.tm_plan.specs.declared.program.Program.{Program}
 use Rattle.tm_plan.specs.declared.cases.Stream.{Stream}
 use Rattle.tm_plan.specs.Collected.{count_from}
@@ -77,34 +78,37 @@ index-map f zero a r l = absurd (omega arith)
 index-map f (suc n) a zero l = ap f (let e : a ≡ a + 0 = omega arith in e)
 index-map f (suc n) a (suc r) l = index-map f n (suc a) r (omega arith) ∙ ap f (let e : suc a + r ≡ a + suc r = omega arith in e)
 
+-- a hart that has just come in
+abbrev pub entry : Program → ℕ → ℕ → Stream → Hart
+entry p h c stream = record { pc = start_of p h c; x = fresh_list stream }
+
+-- Whoever comes in from outside is in that state.
+pub comes-in : (p : Program) → Formed p → (h c : ℕ) (stream : Stream) → stream_in p.cases c h ≡ Some stream → (x : List ℕ) → IsOpening h x → (s : Step) (past : List Step) → Known p h (first_state x) (s ∷ past) → inside p h c (now (first_state x) past).pc ≡ false → inside p h c s.after.pc ≡ true → s.after ≡ entry p h c stream
+comes-in p formed h c stream is x o s past k out in' =
+    let q = case-of p.cases c h stream is in
+    let few : c < case_count p = slice_get_within p.cases.cases c q.0 q.1 in
+    let came = entered p h (first_state x) s past c k.strays few out in' in
+    let at : s.after.pc ≡ start_of p h c = eqb-true s.after.pc (start_of p h c) (and_parts (s.after.pc == start_of p h c) (not (inside p h c (now (first_state x) past).pc)) came).0 in
+    let fresh = k.fresh.0 c stream is came in
+    let m = path-machine p h x o (s ∷ past) k.path in
+    let shaped = shaped-stream p.cases c h stream formed.cases is in
+    let each : (r : ℕ) → r < 32 → slice_index s.after.x r ≡ slice_index stream.regs r = λ r l. elim (cases_eq r 0) [
+      | inl e ↦ ap (λ (q : ℕ). slice_index s.after.x q) e ∙ (m.zero ∙ (sym shaped.zero ∙ ap (λ (q : ℕ). slice_index stream.regs q) (sym e)))
+      | inr n ↦ fresh r (omega arith) l
+    ] in
+    let regs : s.after.x ≡ fresh_list stream = ext_get_or 0 s.after.x (fresh_list stream) m.count (λ r l. let b : r < 32 = omega (arith, m.count) in each r b ∙ (ap (λ (q : ℕ). slice_index stream.regs q) (let z : r ≡ 0 + r = omega arith in z) ∙ sym (index-map (λ q. slice_index stream.regs q) 32 0 r b))) in
+    λ i. record { pc = at i; x = regs i }
+
 -- ---- stays
 
 module _ (p : Program) (formed : Formed p) (h : ℕ) (number : h < harts p) (c : ℕ) (stream : Stream) (is : stream_in p.cases c h ≡ Some stream) (calm : HasNoLoad stream) (x : List ℕ) (o : IsOpening h x) where
-  -- a hart that has just come in
-  abbrev entry : Hart
-  entry = record { pc = start_of p h c; x = fresh_list stream }
-
   -- the hart came in n steps ago, and was inside since
   pub record Came (n : ℕ) (hart : Hart) : Type 0 where
-    pub state : hart ≡ far p entry n
-    pub within : (j : ℕ) → j < n → inside p h c (far p entry j).pc ≡ true
+    pub state : hart ≡ far p (entry p h c stream) n
+    pub within : (j : ℕ) → j < n → inside p h c (far p (entry p h c stream) j).pc ≡ true
 
   few : c < case_count p
   few = let q = case-of p.cases c h stream is in slice_get_within p.cases.cases c q.0 q.1
-
-  comes-in : (s : Step) (past : List Step) → Known p h (first_state x) (s ∷ past) → inside p h c (now (first_state x) past).pc ≡ false → inside p h c s.after.pc ≡ true → Came 0 s.after
-  comes-in s past k out in' =
-      let came = entered p h (first_state x) s past c k.strays few out in' in
-      let at : s.after.pc ≡ start_of p h c = eqb-true s.after.pc (start_of p h c) (and_parts (s.after.pc == start_of p h c) (not (inside p h c (now (first_state x) past).pc)) came).0 in
-      let fresh = k.fresh.0 c stream is came in
-      let m = path-machine p h x o (s ∷ past) k.path in
-      let shaped = shaped-stream p.cases c h stream formed.cases is in
-      let each : (r : ℕ) → r < 32 → slice_index s.after.x r ≡ slice_index stream.regs r = λ r l. elim (cases_eq r 0) [
-        | inl e ↦ ap (λ (q : ℕ). slice_index s.after.x q) e ∙ (m.zero ∙ (sym shaped.zero ∙ ap (λ (q : ℕ). slice_index stream.regs q) (sym e)))
-        | inr n ↦ fresh r (omega arith) l
-      ] in
-      let regs : s.after.x ≡ fresh_list stream = ext_get_or 0 s.after.x (fresh_list stream) m.count (λ r l. let b : r < 32 = omega (arith, m.count) in each r b ∙ (ap (λ (q : ℕ). slice_index stream.regs q) (let z : r ≡ 0 + r = omega arith in z) ∙ sym (index-map (λ q. slice_index stream.regs q) 32 0 r b))) in
-      record { state = λ i. record { pc = at i; x = regs i }; within = λ j l. absurd (omega arith) }
 
   goes-on : (s : Step) (past : List Step) → Known p h (first_state x) (s ∷ past) → inside p h c (now (first_state x) past).pc ≡ true → s.after ≡ onward p (now (first_state x) past)
   goes-on s past k i =
@@ -127,7 +131,7 @@ module _ (p : Program) (formed : Formed p) (h : ℕ) (number : h < harts p) (c :
         record {
           state = goes-on s past k i ∙ ap (onward p) b.state;
           within = λ j l. elim (cases_eq j n) [
-            | inl e ↦ ap (λ (q : ℕ). inside p h c (far p entry q).pc) e ∙ (ap (λ (y : Hart). inside p h c y.pc) (sym b.state) ∙ i)
+            | inl e ↦ ap (λ (q : ℕ). inside p h c (far p (entry p h c stream) q).pc) e ∙ (ap (λ (y : Hart). inside p h c y.pc) (sym b.state) ∙ i)
             | inr d ↦ b.within j (omega arith)
           ];
         },
@@ -140,7 +144,7 @@ module _ (p : Program) (formed : Formed p) (h : ℕ) (number : h < harts p) (c :
     where
       by : (b : Bool) → inside p h c (now (first_state x) past).pc ≡ b → (inside p h c (now (first_state x) past).pc ≡ true → (n : ℕ) × Came n (now (first_state x) past)) → (n : ℕ) × Came n s.after
       by true t before = step-came s past k t (before t)
-      by false t before = (0, comes-in s past k t i)
+      by false t before = (0, record { state = comes-in p formed h c stream is x o s past k t i; within = λ j l. absurd (omega arith) })
 
   -- ---- leaving
 
@@ -155,7 +159,7 @@ module _ (p : Program) (formed : Formed p) (h : ℕ) (number : h < harts p) (c :
 
   pub same-left : (a b : Hart) → Left a → Left b → a ≡ b
   same-left a b l m = elim (cases_order l.steps m.steps) [
-    | inl e ↦ l.came.state ∙ (ap (far p entry) e ∙ sym m.came.state)
+    | inl e ↦ l.came.state ∙ (ap (far p (entry p h c stream)) e ∙ sym m.came.state)
     | inr (inl less) ↦ absurd (not-later a b l m less)
     | inr (inr more) ↦ absurd (not-later b a m l more)
   ]

@@ -24,6 +24,14 @@ exits (Enter c) = 0
 exits (End c) = 0
 exits (Stray c) = 0
 
+-- entering a stream
+abbrev pub enters : Mark → ℕ
+enters Exit = 0
+enters Halt = 0
+enters (Enter c) = 1
+enters (End c) = 0
+enters (Stray c) = 0
+
 -- entering the streams of case d
 abbrev pub entering : ℕ → Mark → ℕ
 entering d Exit = 0
@@ -52,9 +60,20 @@ pub record Turns (k m j : ℕ) (ms : List Mark) : Type 0 where
   pub least : (d : ℕ) → weight (ending d) ms ≤ weight (entering d) ms
   pub most : (d : ℕ) → weight (entering d) ms ≤ weight (ending d) ms + 1
   pub during : (d : ℕ) → weight (entering d) ms ≡ weight (ending d) ms + 1 → (i : ℕ) × (weight exits ms ≡ 2 * i + 1) × (i < j) × ((m + i) / k ≡ d)
+  -- two exits for each stream that was entered, or one more or less, and one less inside a stream
+  pub upper : weight exits ms ≤ 2 * weight enters ms + 1
+  pub lower : 2 * weight enters ms ≤ weight exits ms + 1
+  pub entered : (d : ℕ) → weight (entering d) ms ≡ weight (ending d) ms + 1 → weight exits ms + 1 ≡ 2 * weight enters ms
 
-calm : (k m j : ℕ) (ms : List Mark) → ((d : ℕ) → weight (entering d) ms ≡ weight (ending d) ms) → Turns k m j ms
-calm k m j ms e = record { least = λ d. let q = e d in omega arith; most = λ d. let q = e d in omega arith; during = λ d f. let q = e d in absurd (omega arith) }
+calm : (k m j : ℕ) (ms : List Mark) → weight exits ms ≤ 2 * weight enters ms + 1 → 2 * weight enters ms ≤ weight exits ms + 1 → ((d : ℕ) → weight (entering d) ms ≡ weight (ending d) ms) → Turns k m j ms
+calm k m j ms u l e = record {
+  least = λ d. let q = e d in omega arith;
+  most = λ d. let q = e d in omega arith;
+  during = λ d f. let q = e d in absurd (omega arith);
+  upper = u;
+  lower = l;
+  entered = λ d f. let q = e d in absurd (omega arith);
+}
 
 -- inside the first of the passes
 inside-first : (k m j : ℕ) → Turns k m (suc j) (Exit ∷ Enter (m / k) ∷ [])
@@ -62,6 +81,9 @@ inside-first k m j = record {
   least = λ d. omega arith;
   most = λ d. by d (m / k == d);
   during = λ d e. (0, refl, omega arith, at d (cases_eq (m / k) d) e);
+  upper = omega arith;
+  lower = omega arith;
+  entered = λ d e. refl;
 }
   where
     by : (d : ℕ) (b : Bool) → 0 + ((if b then 1 else 0) + 0) ≤ 0 + (0 + 0) + 1
@@ -81,14 +103,19 @@ later k m j ms t = record {
       let f : weight (entering d) ms ≡ weight (ending d) ms + 1 = omega arith in
       let (i, x, l, c) = t.during d f in
       (suc i, omega (arith, x), omega (arith, l), ap (λ (n : ℕ). n / k) (let z : m + suc i ≡ suc m + i = omega arith in z) ∙ c);
+  upper = omega (arith, t.upper);
+  lower = omega (arith, t.lower);
+  entered = λ d e.
+      let f : weight (entering d) ms ≡ weight (ending d) ms + 1 = omega arith in
+      omega (arith, t.entered d f);
 }
 
 pub turns : (k m j : ℕ) (ms : List Mark) → IsFront ms (way_from k m j ++ (Halt ∷ [])) → Turns k m j ms
-turns k m zero [] h = calm k m zero [] (λ d. refl)
-turns k m zero (a ∷ []) h = let e : a ≡ Halt = cc (h.1) in subst (λ (x : Mark). Turns k m zero (x ∷ [])) (sym e) (calm k m zero (Halt ∷ []) (λ d. refl))
+turns k m zero [] h = calm k m zero [] (omega arith) (omega arith) (λ d. refl)
+turns k m zero (a ∷ []) h = let e : a ≡ Halt = cc (h.1) in subst (λ (x : Mark). Turns k m zero (x ∷ [])) (sym e) (calm k m zero (Halt ∷ []) (omega arith) (omega arith) (λ d. refl))
 turns k m zero (a ∷ b ∷ ms) h = let e = h.1 in cc
-turns k m (suc j) [] h = calm k m (suc j) [] (λ d. refl)
-turns k m (suc j) (a ∷ []) h = let e : a ≡ Exit = cc (h.1) in subst (λ (x : Mark). Turns k m (suc j) (x ∷ [])) (sym e) (calm k m (suc j) (Exit ∷ []) (λ d. refl))
+turns k m (suc j) [] h = calm k m (suc j) [] (omega arith) (omega arith) (λ d. refl)
+turns k m (suc j) (a ∷ []) h = let e : a ≡ Exit = cc (h.1) in subst (λ (x : Mark). Turns k m (suc j) (x ∷ [])) (sym e) (calm k m (suc j) (Exit ∷ []) (omega arith) (omega arith) (λ d. refl))
 turns k m (suc j) (a ∷ b ∷ []) h =
     let q = h.1 in
     let e : a ≡ Exit = cc in
@@ -97,7 +124,7 @@ turns k m (suc j) (a ∷ b ∷ []) h =
 turns k m (suc j) (a ∷ b ∷ c ∷ []) h =
     let q = h.1 in
     let e : a ∷ b ∷ c ∷ [] ≡ Exit ∷ Enter (m / k) ∷ End (m / k) ∷ [] = cc in
-    subst (Turns k m (suc j)) (sym e) (calm k m (suc j) (Exit ∷ Enter (m / k) ∷ End (m / k) ∷ []) (λ d. omega arith))
+    subst (Turns k m (suc j)) (sym e) (calm k m (suc j) (Exit ∷ Enter (m / k) ∷ End (m / k) ∷ []) (omega arith) (omega arith) (λ d. omega arith))
 turns k m (suc j) (a ∷ b ∷ c ∷ d ∷ ms) h =
     let q = h.1 in
     let e : a ∷ b ∷ c ∷ d ∷ ms ≡ Exit ∷ Enter (m / k) ∷ End (m / k) ∷ Exit ∷ ms = cc in

@@ -31,11 +31,11 @@ any-get test (v ∷ ws) (suc n) w e t = or_right (test v) (any test ws) (any-get
 store-word : (b w : ℕ) (i : Instr) → instr_of w ≡ Some i → stores_to b i ≡ true → is_store_to b w ≡ true
 store-word b w i e t = rw e t
 
-slot-stores : (p : Program) (c h b n w : ℕ) (stream : Stream) (i : Instr) → stream_in p.cases c h ≡ Some stream → slice_get stream.words n ≡ Some w → instr_of w ≡ Some i → stores_to b i ≡ true → may_store p.cases c h b ≡ true
+pub slot-stores : (p : Program) (c h b n w : ℕ) (stream : Stream) (i : Instr) → stream_in p.cases c h ≡ Some stream → slice_get stream.words n ≡ Some w → instr_of w ≡ Some i → stores_to b i ≡ true → may_store p.cases c h b ≡ true
 slot-stores p c h b n w stream i e f g t = ap (some_store_to b) e ∙ any-get (is_store_to b) stream.words n w f (store-word b w i g t)
 
 -- a run phase is odd
-run-odd : (p : Program) (q c : ℕ) → case_of_phase p q ≡ Some c → (q % 2 == 0) ≡ false
+pub run-odd : (p : Program) (q c : ℕ) → case_of_phase p q ≡ Some c → (q % 2 == 0) ≡ false
 run-odd p q c e = by ((q % 2 == 1) && nat_lt (q / 2) (case_count p * passes p)) refl e
   where
     by : (b : Bool) → ((q % 2 == 1) && nat_lt (q / 2) (case_count p * passes p)) ≡ b → (if b then Some (q / 2 / passes p) else None) ≡ Some c → (q % 2 == 0) ≡ false

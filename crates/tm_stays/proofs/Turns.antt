@@ -83,7 +83,7 @@ module _ (p : Program) (h from to : ℕ) where
       by (End d) q = at d (cases_eq d c) q
       by (Stray d) q = refl
 
-either : (b : Bool) → ◌≡◌ {A = ℕ} (if b then 0 else 0) 0
+pub either : (b : Bool) → ◌≡◌ {A = ℕ} (if b then 0 else 0) 0
 either true = refl
 either false = refl
 
@@ -98,7 +98,7 @@ exits-none met (c ∷ cs) =
     omega arith
 
 -- the exits that arrive
-exit-arrives : (p : Program) (h from to : ℕ) → weight exits (arrivals p h from to) ≡ (if to == exit_of p h then 1 else 0)
+pub exit-arrives : (p : Program) (h from to : ℕ) → weight exits (arrivals p h from to) ≡ (if to == exit_of p h then 1 else 0)
 exit-arrives p h from to =
     let met = λ (m : Mark). comes_to p h m from to in
     let ms = flat_map (λ c. Enter c ∷ End c ∷ Stray c ∷ []) (count_from 0 (case_count p)) in
@@ -115,13 +115,13 @@ order-before p h first s past k =
     let ms = arrivals p h (now first past).pc s.after.pc in
     (ms ++ k.0, k.1 ∙ append_assoc (visited p h first past) ms k.0)
 
-abbrev entries : Program → ℕ → Hart → List Step → ℕ → ℕ
+abbrev pub entries : Program → ℕ → Hart → List Step → ℕ → ℕ
 entries p h first own d = weight (entering d) (visited p h first own)
 
-abbrev ends : Program → ℕ → Hart → List Step → ℕ → ℕ
+abbrev pub ends : Program → ℕ → Hart → List Step → ℕ → ℕ
 ends p h first own d = weight (ending d) (visited p h first own)
 
-abbrev Turned : Program → ℕ → Hart → List Step → Type 0
+abbrev pub Turned : Program → ℕ → Hart → List Step → Type 0
 Turned p h first own = Turns (passes p) 0 (case_count p * passes p) (visited p h first own)
 
 -- Inside a stream the hart has entered it once more than it has come to its end, and outside as often.
@@ -138,7 +138,7 @@ alone p h first own t c d e f =
     sym a ∙ (ap (λ (n : ℕ). (0 + n) / passes p) same ∙ b)
 
 module _ (p : Program) (formed : Formed p) (h : ℕ) (number : h < harts p) (x : List ℕ) where
-  turned : (own : List Step) → KeepsOrder p h (first_state x) own → Turned p h (first_state x) own
+  pub turned : (own : List Step) → KeepsOrder p h (first_state x) own → Turned p h (first_state x) own
   turned own k = way-turns p (visited p h (first_state x) own) k
 
   module _ (s : Step) (past : List Step) (k : KeepsOrder p h (first_state x) (s ∷ past)) (step : HalfStep p h (stream_at p h (now (first_state x) past).pc) (now (first_state x) past) past s) (d : ℕ) (few : d < case_count p) (before : (c : ℕ) → c < case_count p → Balance p h (first_state x) past c) where
@@ -276,11 +276,11 @@ Distinct-flat f (suc n) a c l m h = elim (cases_eq a c) [
 ]
 
 -- the exit mark is neither the text's first word nor the start of a stream
-exit-entry : (p : Program) → Formed p → (h : ℕ) → h < harts p → text_base ≢ exit_of p h
+pub exit-entry : (p : Program) → Formed p → (h : ℕ) → h < harts p → text_base ≢ exit_of p h
 exit-entry p formed h l e =
     (Each-flat (λ a. a ≢ text_base) (marks_of p) (harts p) 0 h (omega arith) (omega arith) (recursion_from_All (λ a. a ≢ text_base) (mark_addresses p) formed.laid.entry)).0 (sym e)
 
-exit-start : (p : Program) → Formed p → (h c : ℕ) → h < harts p → c < case_count p → exit_of p h ≢ start_of p h c
+pub exit-start : (p : Program) → Formed p → (h c : ℕ) → h < harts p → c < case_count p → exit_of p h ≢ start_of p h c
 exit-start p formed h c l few =
     let marks = Distinct-flat (marks_of p) (harts p) 0 h (omega arith) (omega arith) (distinct (mark_addresses p) formed.laid.apart) in
     (Each-flat (λ y. exit_of p h ≢ y) (λ d. start_of p h d ∷ end_of p h d ∷ []) (case_count p) 0 c (omega arith) (omega arith) marks.0.1).0
@@ -288,7 +288,7 @@ exit-start p formed h c l few =
 -- ---- phases
 
 -- one where the test holds
-abbrev at_exit : Bool → ℕ
+abbrev pub at_exit : Bool → ℕ
 at_exit b = if b then 1 else 0
 
 stands : (p : Program) (h : ℕ) (o : Option ℕ) (before : Hart) (past : List Step) (s : Step) → HalfStep p h o before past s → pc_of s ≡ before.pc
@@ -303,7 +303,7 @@ phase-more exit s past = by (pc_of s == exit)
     by false = omega arith
 
 -- each step at the exit mark was come to
-exits-phase : (p : Program) → Formed p → (h : ℕ) → h < harts p → (x : List ℕ) → (own : List Step) → HalfPath p h (first_state x) own → weight exits (visited p h (first_state x) own) ≡ phase (exit_of p h) own + at_exit ((now (first_state x) own).pc == exit_of p h)
+pub exits-phase : (p : Program) → Formed p → (h : ℕ) → h < harts p → (x : List ℕ) → (own : List Step) → HalfPath p h (first_state x) own → weight exits (visited p h (first_state x) own) ≡ phase (exit_of p h) own + at_exit ((now (first_state x) own).pc == exit_of p h)
 exits-phase p formed h number x [] path = let e = ap at_exit (ne_eqb text_base (exit_of p h) (exit-entry p formed h number)) in omega arith
 exits-phase p formed h number x (s ∷ past) path =
     let from = (now (first_state x) past).pc in
@@ -317,11 +317,11 @@ exits-phase p formed h number x (s ∷ past) path =
 
 module _ (p : Program) (formed : Formed p) (h : ℕ) (number : h < harts p) (x : List ℕ) where
   -- how many exits the hart has come to inside a stream
-  exits-inside : (own : List Step) → HalfPath p h (first_state x) own → KeepsOrder p h (first_state x) own → (c : ℕ) → c < case_count p → inside p h c (now (first_state x) own).pc ≡ true → (i : ℕ) × (weight exits (visited p h (first_state x) own) ≡ 2 * i + 1) × (i < case_count p * passes p) × ((0 + i) / passes p ≡ c)
+  pub exits-inside : (own : List Step) → HalfPath p h (first_state x) own → KeepsOrder p h (first_state x) own → (c : ℕ) → c < case_count p → inside p h c (now (first_state x) own).pc ≡ true → (i : ℕ) × (weight exits (visited p h (first_state x) own) ≡ 2 * i + 1) × (i < case_count p * passes p) × ((0 + i) / passes p ≡ c)
   exits-inside own path k c few i = (turned p formed h number x own k).during c ((balance p formed h number x own path k c few).within i)
 
   -- it isn't at the exit mark there
-  not-at-exit : (s : Step) (past : List Step) → HalfPath p h (first_state x) (s ∷ past) → KeepsOrder p h (first_state x) (s ∷ past) → (c : ℕ) → c < case_count p → inside p h c s.after.pc ≡ true → s.after.pc ≢ exit_of p h
+  pub not-at-exit : (s : Step) (past : List Step) → HalfPath p h (first_state x) (s ∷ past) → KeepsOrder p h (first_state x) (s ∷ past) → (c : ℕ) → c < case_count p → inside p h c s.after.pc ≡ true → s.after.pc ≢ exit_of p h
   not-at-exit s past path k c few i e = elim (cases_Bool (inside p h c (now (first_state x) past).pc)) [
     | inl t ↦
         let (n, a, _, _) = exits-inside (s ∷ past) path k c few i in

@@ -1,4 +1,4 @@
-//! The instruction table of RV64I: the words of instructions and back, and the state that they change.
+//! The instruction table of RV64I: the words of instructions and back, and their steps.
 #![tactic(auto)]
 
 mod coding;

@@ -66,6 +66,7 @@ pub fn exec(cpu: &mut Cpu, i: Instr, read: Option<u64>) -> Access
     apply(cpu, action, i, read.unwrap_or(0))
 }
 
+/// What the instruction does at this hart.
 fn action_at(cpu: &Cpu, i: Instr) -> Action
     requires { Fits i }
     ensures { effect_by result ≡ effect_at (hart_of cpu.now) i }
@@ -164,8 +165,10 @@ fn store(addr: u64, width: u8, value: u64) -> Action
 fn apply(cpu: &mut Cpu, action: Action, i: Instr, read: u64) -> Access
     requires rd { i.rd < 32 }
     requires width { HasWidth (effect_by action) }
-    ensures state { hart_of cpu.new ≡ (after (effect_by action) (hart_of cpu.old) i.rd (low 64 i.imm) read).0 }
-    ensures access { result ≡ (after (effect_by action) (hart_of cpu.old) i.rd (low 64 i.imm) read).1 }
+    ensures state { hart_of cpu.new
+        ≡ (after (effect_by action) (hart_of cpu.old) i.rd (low 64 i.imm) read).0 }
+    ensures access { result
+        ≡ (after (effect_by action) (hart_of cpu.old) i.rd (low 64 i.imm) read).1 }
 {
     let next = cpu.pc.wrapping_add(4);
     let near = cpu.pc.wrapping_add(i.imm.cast_unsigned());

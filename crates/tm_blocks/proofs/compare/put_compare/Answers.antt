@@ -5,6 +5,7 @@ use Rattle.tm_blocks.specs.Instrs.{ld, sd}
 use Rattle.tm_blocks.specs.Blocks.{constant}
 use Rattle.tm_blocks.specs.Compare.{checks, verdict, compare}
 use Rattle.tm_blocks.proofs.Lists.{and_then}
+use Rattle.tm_blocks.proofs.Masks.{verdict_agrees}
 use Rattle.tm_blocks.proofs.Whole.{compare_runs, compare_but_last_runs, last_store_runs}
 use Rattle.tm_blocks.proofs.compare.put_compare.Goals as goal
 
@@ -31,4 +32,5 @@ returns c =
       runs = on_ok_weaker c.sd.result (λ h. compare_runs c.args.c.first c.args.c.other c.args.c.masks c.args.c.bytes c.args.c.cell c.args.c.pass c.args.c.dwords c.requires.pass) c.sd.ensures;
       runs_but_last = on_ok_weaker c.sd.result (λ h. compare_but_last_runs c.args.c.first c.args.c.other c.args.c.masks c.args.c.bytes c.args.c.cell c.args.c.pass c.args.c.dwords c.requires.pass (omega arith)) c.sd.ensures;
       runs_last = on_ok_weaker c.sd.result (λ h. last_store_runs c.args.c.cell) c.sd.ensures;
+      least = on_ok_weaker c.sd.result (λ h. verdict_agrees c.args.c.pass c.args.c.dwords) c.sd.ensures;
     }

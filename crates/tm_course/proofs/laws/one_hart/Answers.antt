@@ -1,4 +1,4 @@
-use Rattle.tm_course.proofs.Whole.{one-hart}
+use Rattle.tm_course.proofs.Together.{one-hart}
 use Rattle.tm_course.proofs.laws.one_hart.Goals as goal
 
 pub returns : goal.returns

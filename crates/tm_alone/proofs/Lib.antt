@@ -1,0 +1,9 @@
+pub mod Entries
+pub mod Ways
+pub mod Settles
+pub mod Dwords
+pub mod Passes
+pub mod Reading
+pub mod Agree
+pub mod Silent
+pub mod Sound

@@ -1,0 +1,6 @@
+pub mod FaultLemmas
+pub mod OrderLemmas
+pub mod Rows
+pub mod TilingLemmas
+pub mod WordLemmas
+pub mod LineLemmas

@@ -1,0 +1,14 @@
+use Rattle.std.proofs.Common.{◌≡◌, ◌∙◌, ◌∷◌, [], refl, sym, get_or, arith, codes, append-nil}
+use Rattle.tm_tmpl.specs.Printed.{line_of, words_of, printed}
+use Rattle.tm_tmpl.specs.Steps.{window_at, windows_at, slot_at, slots_at, body_at, bodies_at, case_at, cases_at}
+use Rattle.tm_tmpl.proofs.StepLemmas.{windows-more, slots-more, bodies-more, cases-more}
+use Rattle.tm_tmpl.proofs.PrintLemmas.{lines-none, lines-one, lines-after, printed-more, lines-called, four-parts}
+use Rattle.tm_tmpl.proofs.BareLemmas.{reads-back}
+use Rattle.tm_tmpl.proofs.print.print_template.Goals as goal
+
+pub returns : goal.returns
+unfolding printed
+returns c =
+  let whole : c.put_cases.new.out ≡ printed c.args.t.now = four-parts _ _ _ _ c.put_template_name.new.out c.put_passes.new.out c.put_windows.new.out c.put_cases.new.out
+    (rw c.new-out.ensures at c.in_ok-put_template_name.ensures) c.in_ok-put_passes.ensures (rw c.as_slice.ensures at c.in_ok-put_windows.ensures) (rw c.as_slice-2.ensures at c.in_ok-put_cases.ensures) in
+  record { text = whole; reads_back = λ writable. rw whole (reads-back c.args.t.now writable) }

@@ -1,0 +1,4 @@
+pub mod Readings
+pub mod Grammar
+pub mod Steps
+pub mod Printed
