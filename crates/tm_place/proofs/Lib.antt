@@ -1,0 +1,5 @@
+pub mod PartLemmas
+pub mod SpotLemmas
+pub mod AccessLemmas
+pub mod ApartLemmas
+mod Rows
