@@ -1,5 +1,5 @@
 -- Which accesses are allowed, by where their first and last bytes stand.
-use Rattle.std.proofs.Common.{◌≡◌, ◌≤◌, ◌<◌, ℕ, ◌+◌, ◌-◌, ◌*◌, ◌/◌, ◌%◌, inl, inr, ◌⊎◌, sym, ◌∙◌, subst, arith, refl, ◌≢◌, ◌↔◌, IsTrue, nat_eq}
+use Rattle.std.proofs.Common.{◌≡◌, ◌≤◌, ◌<◌, ℕ, ◌+◌, ◌-◌, ◌*◌, ◌/◌, ◌%◌, inl, inr, ◌⊎◌, sym, ◌∙◌, subst, arith, refl, ◌≢◌, ◌↔◌, IsTrue, Bool, nat_eq}
 use Rattle.std.proofs.lemmas.Bool.Decides.{nat_tests}
 use Rattle.tm_plan.specs.declared.cases.Window.{Window}
 use Rattle.tm_plan.specs.declared.cases.Kind2.{Kind2}
@@ -133,12 +133,12 @@ may_store-true {s} h b width {v} {j} {r} at_it is =
     (subst (λ (k : Kind2). StoresAt k s h j (r + (width - 1))) (sym is) tt)
 
 pub may_store-own : {s : Sharing} (h b width : ℕ) {v : Window} {j r : ℕ} → Begins s b width v j r → v.kind ≡ Own
-    → IsTrue (nat_eq (j % s.harts) h) ↔ MayStore s h b width
-may_store-own {s} h b width {v} {j} {r} at_it is = (
+    → {t : Bool} → IsTrue t ↔ (j % s.harts ≡ h) → IsTrue t ↔ MayStore s h b width
+may_store-own {s} h b width {v} {j} {r} at_it is own = (
   λ t. may_store-from s h b width v j r at_it.sound at_it.wide at_it.aligned at_it.stands
-      (subst (λ (k : Kind2). StoresAt k s h j r) (sym is) (same-test (j % s.harts) h t))
-      (subst (λ (k : Kind2). StoresAt k s h j (r + (width - 1))) (sym is) (same-test (j % s.harts) h t)),
-  λ m. test-same (j % s.harts) h (subst (λ (k : Kind2). StoresAt k s h j r) is (may_store-first s h b width v j r at_it.sound at_it.wide at_it.stands m)),
+      (subst (λ (k : Kind2). StoresAt k s h j r) (sym is) (own.0 t))
+      (subst (λ (k : Kind2). StoresAt k s h j (r + (width - 1))) (sym is) (own.0 t)),
+  λ m. own.1 (subst (λ (k : Kind2). StoresAt k s h j r) is (may_store-first s h b width v j r at_it.sound at_it.wide at_it.stands m)),
 )
 
 -- an access to a false window that begins in the hart's part
@@ -165,9 +165,9 @@ may_load-free {s} h b width {v} {j} {r} at_it not =
     may_load-from s h b width v j r at_it.sound at_it.wide at_it.aligned at_it.stands (loads-free v.kind s h j r not)
 
 pub may_load-own : {s : Sharing} (h b width : ℕ) {v : Window} {j r : ℕ} → Begins s b width v j r → v.kind ≡ Own
-    → IsTrue (nat_eq (j % s.harts) h) ↔ MayLoad s h b width
-may_load-own {s} h b width {v} {j} {r} at_it is = (
+    → {t : Bool} → IsTrue t ↔ (j % s.harts ≡ h) → IsTrue t ↔ MayLoad s h b width
+may_load-own {s} h b width {v} {j} {r} at_it is own = (
   λ t. may_load-from s h b width v j r at_it.sound at_it.wide at_it.aligned at_it.stands
-      (subst (λ (k : Kind2). LoadsAt k s h j r) (sym is) (same-test (j % s.harts) h t)),
-  λ m. test-same (j % s.harts) h (subst (λ (k : Kind2). LoadsAt k s h j r) is (may_load-first s h b width v j r at_it.sound at_it.wide at_it.stands m)),
+      (subst (λ (k : Kind2). LoadsAt k s h j r) (sym is) (own.0 t)),
+  λ m. own.1 (subst (λ (k : Kind2). LoadsAt k s h j r) is (may_load-first s h b width v j r at_it.sound at_it.wide at_it.stands m)),
 )

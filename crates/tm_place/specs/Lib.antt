@@ -3,3 +3,4 @@ pub mod Limits
 pub mod Sharing
 pub mod Placed
 pub mod Laws
+pub mod Ruled

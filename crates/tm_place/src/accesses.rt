@@ -1,4 +1,4 @@
-ghost use Rattle.std.specs.Prelude.{◌<◌, ◌↔◌, IsTrue};
+ghost use Rattle.std.specs.Prelude.{◌<◌, ◌↔◌, ◌≡◌, ◌%◌, IsTrue};
 ghost use Rattle.tm_place.specs.Sharing.{IsWidth, MayStore, MayLoad};
 ghost use Rattle.tm_place.specs.Placed.{sharing_of};
 
@@ -24,7 +24,7 @@ pub fn may_store(p: &Placement, h: u32, addr: u64, width: u8) -> bool
                 let last = spot.byte + (u64::from(width) - 1);
                 spot.byte / part == u64::from(h) && last / part == u64::from(h)
             }
-            Kind2::Own => spot.line % u64::from(p.harts) == u64::from(h),
+            Kind2::Own => is_own_line(p, h, spot.line),
         },
     }
 }
@@ -42,7 +42,14 @@ pub fn may_load(p: &Placement, h: u32, addr: u64, width: u8) -> bool
         None => false,
         Some(spot) => match spot.window.kind {
             Kind2::True | Kind2::False => true,
-            Kind2::Own => spot.line % u64::from(p.harts) == u64::from(h),
+            Kind2::Own => is_own_line(p, h, spot.line),
         },
     }
+}
+
+// Whether a line of an own window is hart h's.
+fn is_own_line(p: &Placement, h: u32, line: u64) -> bool
+    ensures { IsTrue result ↔ (line % p.now.harts ≡ h) }
+{
+    line % u64::from(p.harts) == u64::from(h)
 }

@@ -20,4 +20,4 @@ pub returns-in-True : goal.returns-in-True
 returns-in-True c = (λ t. may_load-free c.args.h c.args.addr c.args.width (begins-at c.args.p.now c.args.addr c.args.width c.from.result c.requires.width c.from.ensures c.if-addr-from-ne0.false c.in-Some.ensures) (not-own c.in-True.is), λ m. refl)
 
 pub returns-in-Own : goal.returns-in-Own
-returns-in-Own c = rw (c.from-in-Own.ensures, c.from-in-Own-2.ensures) (may_load-own c.args.h c.args.addr c.args.width (begins-at c.args.p.now c.args.addr c.args.width c.from.result c.requires.width c.from.ensures c.if-addr-from-ne0.false c.in-Some.ensures) c.in-Own.is)
+returns-in-Own c = may_load-own c.args.h c.args.addr c.args.width (begins-at c.args.p.now c.args.addr c.args.width c.from.result c.requires.width c.from.ensures c.if-addr-from-ne0.false c.in-Some.ensures) c.in-Own.is c.is_own_line.ensures

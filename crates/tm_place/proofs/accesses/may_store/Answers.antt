@@ -31,4 +31,4 @@ returns-else-spot-part c =
     (λ t. absurd (c.if-spot-part.false (same-test _ _ t)), λ m. absurd (none m))
 
 pub returns-in-Own : goal.returns-in-Own
-returns-in-Own c = rw (c.from-in-Own.ensures, c.from-in-Own-2.ensures) (may_store-own c.args.h c.args.addr c.args.width (begins-at c.args.p.now c.args.addr c.args.width c.from.result c.requires.width c.from.ensures c.if-addr-from-ne0.false c.in-Some.ensures) c.in-Own.is)
+returns-in-Own c = may_store-own c.args.h c.args.addr c.args.width (begins-at c.args.p.now c.args.addr c.args.width c.from.result c.requires.width c.from.ensures c.if-addr-from-ne0.false c.in-Some.ensures) c.in-Own.is c.is_own_line.ensures
