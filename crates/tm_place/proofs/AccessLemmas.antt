@@ -1,5 +1,5 @@
 -- Which accesses are allowed, by where their first and last bytes stand.
-use Rattle.std.proofs.Common.{◌≡◌, ◌≤◌, ◌<◌, ℕ, ◌+◌, ◌-◌, ◌*◌, ◌/◌, ◌%◌, inl, inr, ◌⊎◌, sym, ◌∙◌, subst, arith, refl, ◌≢◌, ◌↔◌, IsTrue, Bool, nat_eq}
+use Rattle.std.proofs.Common.{◌≡◌, ◌≤◌, ◌<◌, ℕ, ◌+◌, ◌-◌, ◌/◌, ◌%◌, inl, inr, sym, subst, arith, refl, ◌≢◌, ◌↔◌, IsTrue, Bool, nat_eq}
 use Rattle.std.proofs.lemmas.Bool.Decides.{nat_tests}
 use Rattle.tm_plan.specs.declared.cases.Window.{Window}
 use Rattle.tm_plan.specs.declared.cases.Kind2.{Kind2}
@@ -8,7 +8,7 @@ use Rattle.tm_place.specs.declared.placement.Placement.{Placement}
 use Rattle.tm_place.specs.Placed.{sharing_of}
 use Rattle.tm_place.specs.Sharing.{Sharing, StandsAt, StoresAt, LoadsAt, MayStoreByte, MayLoadByte, MayStore, MayLoad, IsWidth}
 use Rattle.tm_place.proofs.PartLemmas.{part-at, part-from}
-use Rattle.tm_place.proofs.SpotLemmas.{Sound, sound-of, Same, stands-one, stands-next}
+use Rattle.tm_place.proofs.SpotLemmas.{Sound, sound-of, stands-one, stands-next}
 
 width-some : (width : ℕ) → IsWidth width → 1 ≤ width
 width-some width (inl h) = omega arith

@@ -1,10 +1,9 @@
 -- What keeps the harts apart.
-use Rattle.std.proofs.Common.{◌≡◌, ◌≢◌, ◌≤◌, ◌<◌, ℕ, ◌+◌, ◌*◌, ◌/◌, ◌%◌, refl, sym, ◌∙◌, arith}
-use Rattle.tm_plan.specs.declared.cases.Window.{Window}
+use Rattle.std.proofs.Common.{◌≡◌, ◌≢◌, ◌≤◌, ℕ, refl, sym, ◌∙◌}
 use Rattle.tm_plan.specs.declared.cases.Kind2.{Kind2}
 use Rattle.tm_plan.specs.declared.cases.Kind2.TheVariants.{True, False, Own}
 use Rattle.tm_place.specs.declared.placement.Placement.{Placement}
-use Rattle.tm_place.specs.Sharing.{Sharing, StandsAt, StoresAt, LoadsAt, MayStoreByte, MayLoadByte}
+use Rattle.tm_place.specs.Sharing.{Sharing, StoresAt, LoadsAt}
 use Rattle.tm_place.specs.Placed.{sharing_of}
 use Rattle.tm_place.specs.Laws.{OneStores, StoresAreLoads, PartsFit}
 use Rattle.tm_place.proofs.PartLemmas.{part_size-fits, part-at}

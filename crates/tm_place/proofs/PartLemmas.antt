@@ -1,5 +1,5 @@
 -- The part of a line that is a hart's own.
-use Rattle.std.proofs.Common.{le_trans, ◌≡◌, ◌≤◌, ◌<◌, ℕ, zero, suc, ◌+◌, ◌*◌, ◌/◌, ◌%◌, ◌^◌, nat_le, refl, inl, inr, ◌⊎◌, arith, rules, if◌then◌else◌, IsTrue}
+use Rattle.std.proofs.Common.{le_trans, ◌≡◌, ◌≤◌, ◌<◌, ℕ, zero, suc, ◌+◌, ◌*◌, ◌/◌, ◌%◌, ◌^◌, refl, inl, inr, ◌⊎◌, arith, rules, IsTrue}
 use Rattle.std.proofs.lemmas.Bool.Decides.{leb_tells, nat_tests}
 use Rattle.std.proofs.lemmas.Bool.{cases_eq}
 use Rattle.std.proofs.Math.Pow.{pow_mono}

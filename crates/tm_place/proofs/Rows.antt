@@ -4,7 +4,7 @@ use Rattle.tm_plan.specs.declared.cases.Window.{Window}
 use Rattle.tm_plan.specs.declared.cases.Kind2.TheVariants.{False}
 use Rattle.tm_plan.specs.declared.cases.Kind2.{Kind2}
 use Rattle.tm_plan.specs.Map.{window_at, windows_base}
-use Rattle.tm_place.specs.Sharing.{Sharing, StandsAt, StoresAt, MayStoreByte, MayLoadByte}
+use Rattle.tm_place.specs.Sharing.{Sharing, StoresAt, MayStoreByte, MayLoadByte}
 use Rattle.tm_place.specs.Numbers.{choice, part_size}
 
 chosen_26 : choice 0xFFFFFFFF 27 ≡ 26

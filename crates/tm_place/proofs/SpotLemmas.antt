@@ -1,11 +1,11 @@
 -- Where a byte stands in the windows.
-use Rattle.std.proofs.Common.{◌≡◌, ◌≤◌, ◌<◌, ℕ, zero, suc, ◌+◌, ◌-◌, ◌*◌, ◌/◌, ◌%◌, refl, inl, inr, ◌⊎◌, sym, ◌∙◌, ap, subst, arith, rules, Option, Some, None, List, [], ◌∷◌, slice_get, get_or}
+use Rattle.std.proofs.Common.{◌≡◌, ◌≤◌, ◌<◌, ℕ, zero, suc, ◌+◌, ◌-◌, ◌*◌, ◌/◌, ◌%◌, refl, inl, inr, sym, ◌∙◌, ap, subst, arith, Option, Some, None, List, [], ◌∷◌, slice_get, get_or}
 use Rattle.std.proofs.Math.Nat.{mod-lt}
 use Rattle.std.proofs.lemmas.Nat.{div-add-mod'}
 use Rattle.tm_plan.specs.declared.cases.Window.{Window}
 use Rattle.tm_plan.specs.Map.{window_at, windows_base}
 use Rattle.tm_place.specs.declared.placement.Placement.{Placement}
-use Rattle.tm_place.specs.Limits.{IsWindow, IsPlacement}
+use Rattle.tm_place.specs.Limits.{IsWindow}
 use Rattle.tm_place.specs.Sharing.{Sharing, StandsAt, IsWidth}
 use Rattle.tm_place.specs.Placed.{standing, sharing_of}
 use Rattle.tm_place.proofs.PartLemmas.{IsSize, line_size-cases, part_size-some, size-some}

@@ -1,5 +1,5 @@
 -- What a placement shares (this project's own).
-use Rattle.std.specs.Prelude.{ℕ, List, Option, Some, None, slice_get}
+use Rattle.std.specs.Prelude.{Option, Some, None, slice_get}
 use Rattle.tm_plan.specs.declared.cases.Window.{Window}
 use Rattle.tm_place.specs.declared.placement.Placement.{Placement}
 use Rattle.tm_place.specs.Sharing.{Sharing}

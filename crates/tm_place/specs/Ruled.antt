@@ -1,5 +1,5 @@
 -- Which tests the rules take (this project's own).
-use Rattle.std.specs.Prelude.{ℕ, ◌+◌, ◌-◌, ◌*◌, ◌/◌, ◌%◌, ◌<◌, ◌≤◌, ◌≡◌, ◌≢◌, ◌==◌, if◌then◌else◌, List, [], ◌∷◌, length, All, AllPairs, IsTrue, IsFalse, Option, Some, None, slice_get}
+use Rattle.std.specs.Prelude.{ℕ, ◌+◌, ◌-◌, ◌%◌, ◌<◌, ◌≤◌, ◌≡◌, ◌≢◌, ◌==◌, if◌then◌else◌, List, [], ◌∷◌, length, All, AllPairs, IsTrue, IsFalse, Option, Some, None, slice_get}
 use Rattle.tm_table.specs.declared.instr.Instr.{Instr}
 use Rattle.tm_table.specs.Words.{Fits, low}
 use Rattle.tm_plan.specs.declared.admitted.Admitted.{Admitted}

@@ -1,10 +1,7 @@
-use Rattle.std.proofs.Common.{rules, ◌<◌, ◌↔◌, IsTrue, ◌≡◌, ◌≢◌, ℕ, ◌+◌, ◌-◌, ◌*◌, ◌≤◌, ◌/◌, ◌%◌, Bool, true, false, nat_eq, nat_lt, arith, ◌∙◌, sym, refl, inl, inr, ◌⊎◌}
-use Rattle.std.proofs.lemmas.Bool.Decides.{nat_tests}
+use Rattle.std.proofs.Common.{◌≡◌, ◌≢◌, ◌∙◌, sym, refl, inl, inr, ◌⊎◌}
 use Rattle.tm_plan.specs.declared.cases.Kind2.{Kind2}
 use Rattle.tm_plan.specs.declared.cases.Kind2.TheVariants.{True, False, Own}
-use Rattle.tm_place.specs.Sharing.{IsWidth, StandsAt, MayLoad}
 use Rattle.tm_place.specs.Placed.{sharing_of}
-use Rattle.tm_place.proofs.SpotLemmas.{sound-of}
 use Rattle.tm_place.proofs.AccessLemmas.{begins-at, may_load-nowhere, may_load-free, may_load-own}
 use Rattle.tm_place.proofs.accesses.may_load.Goals as goal
 

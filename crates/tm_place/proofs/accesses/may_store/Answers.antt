@@ -1,6 +1,4 @@
-use Rattle.std.proofs.Common.{rules, ◌<◌, ◌↔◌, IsTrue, ◌≡◌, ◌≢◌, ℕ, ◌+◌, ◌-◌, ◌*◌, ◌≤◌, ◌/◌, ◌%◌, Bool, true, false, nat_eq, nat_lt, arith, ◌∙◌, sym, refl, inl, inr, ◌⊎◌}
-use Rattle.std.proofs.lemmas.Bool.Decides.{nat_tests}
-use Rattle.tm_place.specs.Sharing.{IsWidth, StandsAt, MayStore}
+use Rattle.std.proofs.Common.{arith, refl}
 use Rattle.tm_place.specs.Placed.{sharing_of}
 use Rattle.tm_place.proofs.SpotLemmas.{sound-of}
 use Rattle.tm_place.proofs.AccessLemmas.{begins-at, same-test, may_store-nowhere, may_store-true, may_store-own, may_store-within, may_store-outside}

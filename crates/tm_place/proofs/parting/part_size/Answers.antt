@@ -1,4 +1,4 @@
-use Rattle.std.proofs.Common.{◌≡◌, ◌≤◌, ◌^◌, ◌/◌, arith, sym, ◌∙◌}
+use Rattle.std.proofs.Common.{◌≤◌, ◌^◌, arith, sym, ◌∙◌}
 use Rattle.std.proofs.Math.Nat.{div-le_self}
 use Rattle.tm_place.proofs.PartLemmas.{line_size-le, shifted, part_size-is, part_size-part}
 use Rattle.tm_place.proofs.parting.part_size.Goals as goal

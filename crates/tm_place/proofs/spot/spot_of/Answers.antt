@@ -1,5 +1,4 @@
-use Rattle.std.proofs.Common.{rules, ◌≡◌, ℕ, ◌+◌, ◌-◌, ◌*◌, ◌<◌, ◌≤◌, length, ◌/◌, ◌%◌, arith, ◌∙◌}
-use Rattle.tm_place.specs.Sharing.{StandsAt}
+use Rattle.std.proofs.Common.{◌∙◌}
 use Rattle.tm_place.specs.Placed.{sharing_of}
 use Rattle.tm_place.proofs.SpotLemmas.{sound-of, first_is, nowhere-below, nowhere-unless, nowhere-above, nowhere-line, stands-found}
 use Rattle.tm_place.proofs.spot.spot_of.Goals as goal

@@ -1,7 +1,6 @@
-use Rattle.std.proofs.Common.{◌≡◌, refl, arith, Some}
+use Rattle.std.proofs.Common.{refl, arith}
 use Rattle.tm_plan.specs.declared.cases.Kind2.TheVariants.{True, False, Own}
 use Rattle.tm_place.specs.Numbers.{part_size}
-use Rattle.tm_place.specs.Limits.{IsWindow}
 use Rattle.tm_place.proofs.PlacementLemmas.{placement-three, standing-one}
 use Rattle.tm_place.proofs.tests.four_harts.Goals as goal
 
