@@ -1,0 +1,5 @@
+pub mod Numbers
+pub mod Limits
+pub mod Sharing
+pub mod Placed
+pub mod Laws

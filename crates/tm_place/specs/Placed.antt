@@ -1,0 +1,15 @@
+-- What a placement shares (this project's own).
+use Rattle.std.specs.Prelude.{Option, Some, None, slice_get}
+use Rattle.tm_plan.specs.declared.cases.Window.{Window}
+use Rattle.tm_place.specs.declared.placement.Placement.{Placement}
+use Rattle.tm_place.specs.Sharing.{Sharing}
+
+-- the window that stands at a place, if one does
+abbrev pub standing : Option (Option Window) → Option Window
+standing None = None
+standing (Some None) = None
+standing (Some (Some v)) = Some v
+
+-- the sharing of a placement
+abbrev pub sharing_of : Placement → Sharing
+sharing_of p = record { harts = p.harts; line = p.line; part = p.part; window = λ w. standing (slice_get p.shape w) }
