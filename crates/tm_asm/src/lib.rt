@@ -1,0 +1,12 @@
+//! The text of one instruction, read and printed; and labelled code.
+#![tactic(auto)]
+
+mod fault;
+mod line;
+mod print;
+mod read;
+mod shape;
+
+pub use fault::AsmFault;
+pub use print::print_line;
+pub use read::parse_line;
