@@ -20,20 +20,20 @@ use Rattle.tm_elf.specs.Stands.{StandsAt, ReadsAs, places_in}
 use Rattle.tm_elf.specs.Symbols.{string_bytes, symbol_bytes}
 use Rattle.tm_elf.proofs.Lengths.{length_plan, length_symbols, length_text}
 use Rattle.tm_elf.proofs.Standing.{reads_as}
-use Rattle.tm_elf_read.specs.declared.fault.ElfFault.{ElfFault}
-use Rattle.tm_elf_read.specs.declared.fault.ElfFault.TheVariants.{Short, BadMagic, NotRiscv, NotExec, BadHeader, BadSegment, NoPlan, BadSymbol, Differs, NoMemory}
-use Rattle.tm_elf_read.specs.declared.spans.Span.{Span}
-use Rattle.tm_elf_read.specs.Differences.{difference_from, differ}
-use Rattle.tm_elf_read.specs.HeaderFaults.{header_fault}
-use Rattle.tm_elf_read.specs.Numbers.{word_at, long_at}
-use Rattle.tm_elf_read.specs.PartFaults.{is_text, is_tables, bad_segment, is_plan, plan_of, has_plan, has_symbols}
+use Rattle.tm_elf_head.specs.declared.fault.ElfFault.{ElfFault}
+use Rattle.tm_elf_head.specs.declared.fault.ElfFault.TheVariants.{Short, BadMagic, NotRiscv, NotExec, BadHeader, BadSegment, NoPlan, BadSymbol, Differs, NoMemory}
+use Rattle.tm_elf_head.specs.declared.spans.Span.{Span}
+use Rattle.tm_elf_head.specs.Differences.{difference_from, differ}
+use Rattle.tm_elf_head.specs.HeaderFaults.{header_fault}
+use Rattle.tm_elf_head.specs.Numbers.{word_at, long_at}
+use Rattle.tm_elf_head.specs.PartFaults.{is_text, is_tables, bad_segment, is_plan, plan_of, has_plan, has_symbols}
 use Rattle.tm_elf_read.specs.Read.{InRange, compared, elf_of, parts_in, symbols_in, unless_differs, with_symbols, words_from}
-use Rattle.tm_elf_read.specs.Spans.{ends_by, segment, section, bytes_in, headers_at}
+use Rattle.tm_elf_head.specs.Spans.{ends_by, segment, section, bytes_in, headers_at}
 use Rattle.tm_elf_read.specs.SymbolTable.{symbols_from}
-use Rattle.tm_elf_read.proofs.DifferenceLemmas.{no_difference}
-use Rattle.tm_elf_read.proofs.HeaderLemmas.{alike, header_back}
+use Rattle.tm_elf_head.proofs.DifferenceLemmas.{no_difference}
+use Rattle.tm_elf_head.proofs.HeaderLemmas.{alike, header_back}
 use Rattle.tm_elf_read.proofs.NameLemmas.{strings_short, symbols_back}
-use Rattle.tm_elf_read.proofs.StandLemmas.{fronts, long_back, word_back}
+use Rattle.tm_elf_head.proofs.StandLemmas.{fronts, long_back, word_back}
 use Rattle.tm_elf_read.proofs.WordLemmas.{text_back}
 
 -- the places of parts are in order, and not far

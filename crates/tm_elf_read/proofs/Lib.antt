@@ -1,8 +1,5 @@
-pub mod DifferenceLemmas
 pub mod WordLemmas
 pub mod SymbolLemmas
-pub mod FitLemmas
-pub mod HeaderLemmas
-pub mod StandLemmas
+pub mod NamedLemmas
 pub mod NameLemmas
 pub mod BackLemmas

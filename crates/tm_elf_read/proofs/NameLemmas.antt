@@ -9,10 +9,10 @@ use Rattle.std.proofs.lemmas.Nat.{from_le_bytes-to_le_bytes_4, from_le_bytes-to_
 use Rattle.tm_elf.specs.declared.parts.Symbol.{Symbol}
 use Rattle.tm_elf.specs.Fields.{field_bytes, bytes_of}
 use Rattle.tm_elf.specs.Symbols.{IsName, entry, entries, string_bytes, symbol_bytes}
-use Rattle.tm_elf_read.specs.declared.fault.ElfFault.{ElfFault}
-use Rattle.tm_elf_read.specs.Numbers.{word_at, long_at, part_at}
+use Rattle.tm_elf_head.specs.declared.fault.ElfFault.{ElfFault}
+use Rattle.tm_elf_head.specs.Numbers.{word_at, long_at, part_at}
 use Rattle.tm_elf_read.specs.SymbolTable.{is_name, name_len, symbol_at, symbols_from, then_symbols}
-use Rattle.tm_elf_read.proofs.FitLemmas.{both}
+use Rattle.tm_elf_head.proofs.FitLemmas.{both}
 
 some_byte : (b : ℕ) → nat_lt 0 b ≡ true → (b == 0) ≡ false
 some_byte b h = grind (arith, nat_tests)

@@ -6,7 +6,7 @@ use Rattle.std.proofs.lemmas.List.Elements.{All-head, All-tail}
 use Rattle.std.proofs.lemmas.Nat.{from_le_bytes-to_le_bytes_4}
 use Rattle.tm_elf.specs.Elf.{text_bytes}
 use Rattle.tm_elf.specs.Fields.{field_bytes}
-use Rattle.tm_elf_read.specs.Numbers.{word_at}
+use Rattle.tm_elf_head.specs.Numbers.{word_at}
 use Rattle.tm_elf_read.specs.Read.{words_from}
 
 pub words_start : (bytes r : List ℕ) (n : ℕ) → words_from bytes n 0 ≡ r → [] ++ words_from bytes (n - 0) (4 * 0) ≡ r

@@ -1,7 +1,2 @@
-pub mod Numbers
-pub mod Differences
-pub mod Spans
-pub mod HeaderFaults
-pub mod PartFaults
 pub mod SymbolTable
 pub mod Read

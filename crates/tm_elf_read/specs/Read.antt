@@ -3,13 +3,13 @@ use Rattle.std.specs.Prelude.{ℕ, zero, suc, List, [], ◌∷◌, ◌≡◌, �
 use Rattle.tm_elf.specs.declared.parts.Parts.{Parts}
 use Rattle.tm_elf.specs.declared.parts.Symbol.{Symbol}
 use Rattle.tm_elf.specs.Elf.{elf_file}
-use Rattle.tm_elf_read.specs.declared.fault.ElfFault.{ElfFault}
-use Rattle.tm_elf_read.specs.declared.fault.ElfFault.TheVariants.{BadSegment, NoPlan, BadSymbol, Differs}
-use Rattle.tm_elf_read.specs.Differences.{first_difference}
-use Rattle.tm_elf_read.specs.HeaderFaults.{header_fault}
-use Rattle.tm_elf_read.specs.Numbers.{word_at}
-use Rattle.tm_elf_read.specs.PartFaults.{bad_segment, has_plan, has_symbols, plan_of}
-use Rattle.tm_elf_read.specs.Spans.{segment, section, bytes_in}
+use Rattle.tm_elf_head.specs.declared.fault.ElfFault.{ElfFault}
+use Rattle.tm_elf_head.specs.declared.fault.ElfFault.TheVariants.{BadSegment, NoPlan, BadSymbol, Differs}
+use Rattle.tm_elf_head.specs.Differences.{first_difference}
+use Rattle.tm_elf_head.specs.HeaderFaults.{header_fault}
+use Rattle.tm_elf_head.specs.Numbers.{word_at}
+use Rattle.tm_elf_head.specs.PartFaults.{bad_segment, has_plan, has_symbols, plan_of}
+use Rattle.tm_elf_head.specs.Spans.{segment, section, bytes_in}
 use Rattle.tm_elf_read.specs.SymbolTable.{symbols_from}
 
 -- so many words from a place on (RISC-V Volume I 1.5)

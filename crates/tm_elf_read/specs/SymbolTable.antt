@@ -2,9 +2,9 @@
 use Rattle.std.specs.Prelude.{ℕ, zero, suc, List, [], ◌∷◌, ◌+◌, ◌*◌, ◌/◌, ◌==◌, ◌&&◌, Bool, Option, Some, None, option_map, Result, Ok, Err, not, nat_lt, nat_le, if◌then◌else◌, length, take}
 use Rattle.std.specs.List.{prefix_len, list_all}
 use Rattle.tm_elf.specs.declared.parts.Symbol.{Symbol}
-use Rattle.tm_elf_read.specs.declared.fault.ElfFault.{ElfFault}
-use Rattle.tm_elf_read.specs.declared.fault.ElfFault.TheVariants.{BadSymbol}
-use Rattle.tm_elf_read.specs.Numbers.{word_at, long_at, part_at}
+use Rattle.tm_elf_head.specs.declared.fault.ElfFault.{ElfFault}
+use Rattle.tm_elf_head.specs.declared.fault.ElfFault.TheVariants.{BadSymbol}
+use Rattle.tm_elf_head.specs.Numbers.{word_at, long_at, part_at}
 
 -- whether bytes are 1 to 32 of ASCII, none of them zero (this project)
 unfoldable pub is_name : List ℕ → Bool

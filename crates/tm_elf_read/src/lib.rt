@@ -1,18 +1,11 @@
 //! Reads the file of an image back, or says what is at fault in it.
 #![tactic(auto)]
 
-mod difference;
-mod fault;
-mod header;
 mod names;
-mod numbers;
-mod plan;
 mod read;
-mod segments;
-mod spans;
 mod symbols;
+#[cfg(test)]
+mod tests;
 
-pub use difference::first_difference;
-pub use fault::ElfFault;
 pub use read::read_elf;
-
+pub use tm_elf_head::{ElfFault, first_difference};

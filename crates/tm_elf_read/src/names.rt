@@ -3,7 +3,7 @@ ghost use Rattle.std.specs.Prelude.{◌≡◌, ◌≤◌, ◌==◌, ◌&&◌, le
 ghost use Rattle.std.specs.List.{list_all, prefix_len};
 ghost use Rattle.tm_elf_read.specs.SymbolTable.{is_name as is_symbol_name, name_len as len_of_name};
 
-use crate::numbers::part_at;
+use tm_elf_head::part_at;
 
 /// The most bytes of a name.
 pub const MAX_NAME: usize = 32;

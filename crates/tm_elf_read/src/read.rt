@@ -3,20 +3,16 @@ ghost use Rattle.std.specs.Prelude.{◌≡◌, ◌≢◌, ◌≤◌, ◌+◌, �
 ghost use Rattle.tm_elf.specs.Elf.{IsWritable, elf_file};
 ghost use Rattle.tm_elf.specs.declared.parts.Parts.{Parts};
 ghost use Rattle.tm_elf_read.specs.Read.{InRange, compared, elf_of, parts_in, symbols_in, words_from};
-ghost use Rattle.tm_elf_read.specs.HeaderFaults.{header_fault as head_fault};
-ghost use Rattle.tm_elf_read.specs.PartFaults.{bad_segment as segment_at_fault, has_plan as with_plan, has_symbols as with_symbols};
+ghost use Rattle.tm_elf_head.specs.HeaderFaults.{header_fault as head_fault};
+ghost use Rattle.tm_elf_head.specs.PartFaults.{bad_segment as segment_at_fault, has_plan as with_plan, has_symbols as with_symbols};
 
-use crate::difference::first_difference;
-use crate::fault::ElfFault;
-use crate::header::header_fault;
-use crate::numbers::word_at;
-use crate::plan::{has_plan, read_plan};
-use crate::segments::bad_segment;
-use crate::spans::{section, segment};
-use crate::symbols::{has_symbols, read_symbols};
+use crate::symbols::read_symbols;
 use std::alloc::Global;
 use tm_base::{Bytes, List, NoMemory, Words};
 use tm_elf::{Parts, Symbol, write_elf};
+use tm_elf_head::{
+    ElfFault, bad_segment, first_difference, has_plan, has_symbols, header_fault, read_plan, section, segment, word_at,
+};
 
 // The words that bytes hold.
 #[tactic(auto, using(crate::proofs::WordLemmas::words_start, crate::proofs::WordLemmas::words_more, crate::proofs::WordLemmas::words_end))]
@@ -31,7 +27,7 @@ fn read_words(alloc: Global, bytes: &[u8]) -> Result<Words, NoMemory>
 }
 
 // The parts to which the headers point, with these symbols.
-#[tactic(auto, using(crate::proofs::FitLemmas::text_fits, crate::proofs::FitLemmas::plan_fits), unfolding(crate::specs::Read::parts_in))]
+#[tactic(auto, using(tm_elf_head::proofs::FitLemmas::text_fits, tm_elf_head::proofs::FitLemmas::plan_fits), unfolding(crate::specs::Read::parts_in))]
 fn parts_of(alloc: Global, bytes: &[u8], symbols: List<Symbol>) -> Result<Parts, NoMemory>
     requires long { 744 ≤ length bytes.now }
     requires segments { segment_at_fault bytes.now ≡ None }
@@ -51,7 +47,7 @@ fn parts_of(alloc: Global, bytes: &[u8], symbols: List<Symbol>) -> Result<Parts,
 }
 
 // The parts, if their file is these bytes.
-#[tactic(auto, using(crate::proofs::DifferenceLemmas::same_lists), unfolding(crate::specs::Read::compared))]
+#[tactic(auto, using(tm_elf_head::proofs::DifferenceLemmas::same_lists), unfolding(crate::specs::Read::compared))]
 fn compare(alloc: Global, parts: Parts, bytes: &[u8]) -> Result<Parts, ElfFault>
     requires { IsWritable parts }
     ensures ok { IfOk result (λ p. compared parts bytes.now ≡ Ok p) }
@@ -70,7 +66,7 @@ fn compare(alloc: Global, parts: Parts, bytes: &[u8]) -> Result<Parts, ElfFault>
 }
 
 // What the file is read as.
-#[tactic(auto, using(crate::proofs::FitLemmas::writable), unfolding(crate::specs::Read::elf_of, crate::specs::Read::with_symbols))]
+#[tactic(auto, using(crate::proofs::NamedLemmas::writable), unfolding(crate::specs::Read::elf_of, crate::specs::Read::with_symbols))]
 fn read(alloc: Global, bytes: &[u8]) -> Result<Parts, ElfFault>
     ensures ok { IfOk result (λ parts. elf_of bytes.now ≡ Ok parts) }
     ensures err { IfErr result (λ e. e ≢ ElfFault.NoMemory → elf_of bytes.now ≡ Err e) }

@@ -1,42 +1,17 @@
 // The symbols.
 ghost use Rattle.std.specs.Prelude.{◌≡◌, ◌≢◌, ◌≤◌, ◌+◌, ◌-◌, ◌*◌, ◌/◌, ◌%◌, ◌<◌, length, Ok, Err, Some, None, IfOk, IfErr, IsTrue};
-ghost use Rattle.tm_elf_read.specs.PartFaults.{has_symbols as with_symbols};
+ghost use Rattle.tm_elf_head.specs.PartFaults.{has_symbols as with_symbols};
 ghost use Rattle.tm_elf_read.specs.SymbolTable.{symbol_at as symbol_of_entry, symbols_from, then_symbols};
 ghost use Rattle.tm_elf_read.specs.Read.{symbols_in};
 
-use crate::fault::ElfFault;
 use crate::names::{MAX_NAME, name_len};
-use crate::numbers::{long_at, part_at, word_at};
-use crate::spans::{headers_at, section};
 use std::alloc::Global;
 use tm_base::{Bytes, List, NoMemory};
 use tm_elf::Symbol;
-
-/// Whether sections 5 and 6 are the ranges of a symbol table and of its strings.
-#[tactic(auto, unfolding(crate::specs::PartFaults::has_symbols))]
-pub fn has_symbols(bytes: &[u8]) -> bool
-    requires { 744 ≤ length bytes.now }
-    ensures { result ≡ with_symbols bytes.now }
-{
-    let headers = headers_at(bytes) as u64;
-    let span = section(bytes, 5);
-    if !span.ends_by(headers) {
-        return false;
-    }
-    if !section(bytes, 6).ends_by(headers) {
-        return false;
-    }
-    if span.len == 0 {
-        return false;
-    }
-    if span.len > 0x18_0000 {
-        return false;
-    }
-    span.len % 24 == 0
-}
+use tm_elf_head::{ElfFault, long_at, part_at, section, word_at};
 
 /// The symbols of a file.
-#[tactic(auto, using(crate::proofs::FitLemmas::symbols_fit), unfolding(crate::specs::Read::symbols_in))]
+#[tactic(auto, using(tm_elf_head::proofs::FitLemmas::symbols_fit), unfolding(crate::specs::Read::symbols_in))]
 pub fn read_symbols(alloc: Global, bytes: &[u8]) -> Result<List<Symbol>, ElfFault>
     requires long { 744 ≤ length bytes.now }
     requires symbols { IsTrue (with_symbols bytes.now) }

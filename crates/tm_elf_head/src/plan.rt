@@ -1,6 +1,6 @@
 // The plan.
 ghost use Rattle.std.specs.Prelude.{◌≡◌, ◌≤◌, length, IfOk, IsTrue};
-ghost use Rattle.tm_elf_read.specs.PartFaults.{has_plan as with_plan, is_plan as plan_bytes, plan_of};
+ghost use Rattle.tm_elf_head.specs.PartFaults.{has_plan as with_plan, is_plan as plan_bytes, plan_of};
 
 use crate::difference::differ;
 use crate::numbers::{long_at, part_at, word_at};

@@ -1,10 +1,10 @@
 -- What is at fault in a file header.
 use Rattle.std.specs.Prelude.{ℕ, List, [], ◌∷◌, ◌-◌, ◌==◌, Option, Some, None, option_map, not, nat_lt, if◌then◌else◌, length, take}
 use Rattle.tm_elf.specs.Fields.{zeros}
-use Rattle.tm_elf_read.specs.declared.fault.ElfFault.{ElfFault}
-use Rattle.tm_elf_read.specs.declared.fault.ElfFault.TheVariants.{Short, BadMagic, NotRiscv, NotExec, BadHeader}
-use Rattle.tm_elf_read.specs.Differences.{differ}
-use Rattle.tm_elf_read.specs.Numbers.{half_at, word_at, long_at, part_at}
+use Rattle.tm_elf_head.specs.declared.fault.ElfFault.{ElfFault}
+use Rattle.tm_elf_head.specs.declared.fault.ElfFault.TheVariants.{Short, BadMagic, NotRiscv, NotExec, BadHeader}
+use Rattle.tm_elf_head.specs.Differences.{differ}
+use Rattle.tm_elf_head.specs.Numbers.{half_at, word_at, long_at, part_at}
 
 -- e_ident 0 to 6: 0x7F and "ELF", ELFCLASS64, ELFDATA2LSB, EV_CURRENT (ELF gABI)
 unfoldable pub magic : List ℕ

@@ -1,6 +1,6 @@
 // The program headers whose bytes are read.
 ghost use Rattle.std.specs.Prelude.{◌≡◌, ◌≤◌, length};
-ghost use Rattle.tm_elf_read.specs.PartFaults.{bad_segment as fault, is_text as text, is_tables as tables};
+ghost use Rattle.tm_elf_head.specs.PartFaults.{bad_segment as fault, is_text as text, is_tables as tables};
 
 use crate::spans::{headers_at, segment};
 

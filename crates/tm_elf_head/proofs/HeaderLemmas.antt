@@ -4,10 +4,10 @@ use Rattle.std.proofs.lemmas.Bool.Decides.{nat_tests}
 use Rattle.std.proofs.lemmas.Nat.{from_le_bytes-to_le_bytes_8}
 use Rattle.tm_elf.specs.Fields.{field_bytes, bytes_of, zeros}
 use Rattle.tm_elf.specs.Header.{header}
-use Rattle.tm_elf_read.specs.Differences.{difference_from, differ}
-use Rattle.tm_elf_read.specs.HeaderFaults.{magic, bad_field, header_fault}
-use Rattle.tm_elf_read.specs.Numbers.{half_at, word_at, long_at}
-use Rattle.tm_elf_read.proofs.DifferenceLemmas.{no_difference}
+use Rattle.tm_elf_head.specs.Differences.{difference_from, differ}
+use Rattle.tm_elf_head.specs.HeaderFaults.{magic, bad_field, header_fault}
+use Rattle.tm_elf_head.specs.Numbers.{half_at, word_at, long_at}
+use Rattle.tm_elf_head.proofs.DifferenceLemmas.{no_difference}
 
 pub alike : (xs ys : List ℕ) → xs ≡ ys → differ xs ys ≡ false
 alike xs ys e = ap (λ zs. is_some (difference_from 0 zs ys)) e ∙ ap is_some (no_difference 0 ys)

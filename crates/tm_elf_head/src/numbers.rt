@@ -1,6 +1,6 @@
 // Numbers at places of a file, the lowest byte first.
 ghost use Rattle.std.specs.Prelude.{◌≡◌, ◌+◌, ◌≤◌, length, take, drop};
-ghost use Rattle.tm_elf_read.specs.Numbers.{half_at as half, word_at as word, long_at as long};
+ghost use Rattle.tm_elf_head.specs.Numbers.{half_at as half, word_at as word, long_at as long};
 
 /// So many bytes from a place on, as far as there are.
 pub fn part_at(bytes: &[u8], at: usize, len: usize) -> &[u8]

@@ -1,9 +1,9 @@
 -- What is at fault in the ranges of a file, and in its plan.
 use Rattle.std.specs.Prelude.{ℕ, List, Bool, false, Option, Some, None, ◌+◌, ◌*◌, ◌%◌, ◌==◌, ◌&&◌, not, nat_lt, nat_le, if◌then◌else◌, length, take, drop, codes}
 use Rattle.tm_elf.specs.declared.parts.Plan.{Plan}
-use Rattle.tm_elf_read.specs.Differences.{differ}
-use Rattle.tm_elf_read.specs.Numbers.{word_at, long_at}
-use Rattle.tm_elf_read.specs.Spans.{headers_at, segment, section, ends_by, bytes_in}
+use Rattle.tm_elf_head.specs.Differences.{differ}
+use Rattle.tm_elf_head.specs.Numbers.{word_at, long_at}
+use Rattle.tm_elf_head.specs.Spans.{headers_at, segment, section, ends_by, bytes_in}
 
 -- whether the first program header gives a text: before the section headers, and of 1 to 2,097,152 words (this project)
 unfoldable pub is_text : List ℕ → Bool

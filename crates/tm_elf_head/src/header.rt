@@ -1,6 +1,6 @@
 // The file header.
 ghost use Rattle.std.specs.Prelude.{◌≡◌, ◌≤◌, length, IfNone};
-ghost use Rattle.tm_elf_read.specs.HeaderFaults.{bad_field as field_at_fault, header_fault as fault};
+ghost use Rattle.tm_elf_head.specs.HeaderFaults.{bad_field as field_at_fault, header_fault as fault};
 
 use crate::difference::differ;
 use crate::fault::ElfFault;

@@ -1,7 +1,7 @@
 -- The ranges to which a file's headers point.
 use Rattle.std.specs.Prelude.{ℕ, List, Bool, ◌+◌, ◌-◌, ◌*◌, length, nat_le}
-use Rattle.tm_elf_read.specs.declared.spans.Span.{Span}
-use Rattle.tm_elf_read.specs.Numbers.{long_at, part_at}
+use Rattle.tm_elf_head.specs.declared.spans.Span.{Span}
+use Rattle.tm_elf_head.specs.Numbers.{long_at, part_at}
 
 -- where the section headers stand: the last 512 bytes of the file (this project)
 abbrev pub headers_at : List ℕ → ℕ

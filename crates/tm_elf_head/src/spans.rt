@@ -1,6 +1,6 @@
 // The ranges to which the headers point.
 ghost use Rattle.std.specs.Prelude.{◌≡◌, ◌≤◌, ◌+◌, length, take, drop};
-ghost use Rattle.tm_elf_read.specs.Spans.{segment, section, ends_by};
+ghost use Rattle.tm_elf_head.specs.Spans.{segment, section, ends_by};
 
 use crate::numbers::{long_at, part_at};
 

@@ -3,7 +3,7 @@ use Rattle.std.proofs.Common.{◌≡◌, ◌≢◌, ℕ, ◌+◌, ◌<◌, ◌�
 use Rattle.std.proofs.lemmas.List.{drop_more, drop_all}
 use Rattle.std.proofs.lemmas.Bool.{cases_eq}
 use Rattle.std.proofs.lemmas.Bool.Decides.{nat_tests}
-use Rattle.tm_elf_read.specs.Differences.{difference_from}
+use Rattle.tm_elf_head.specs.Differences.{difference_from}
 
 pub ends_here : (i : ℕ) (a b : List ℕ) (r : Option ℕ) → i < length a → length b ≤ i → difference_from i (drop i a) (drop i b) ≡ r → Some i ≡ r
 unfolding difference_from

@@ -1,6 +1,6 @@
 use Rattle.std.proofs.Common.{◌≡◌, ◌≤◌, ◌-◌, length, drop}
-use Rattle.tm_elf_read.specs.Differences.{difference_from}
-use Rattle.tm_elf_read.proofs.difference.first_difference.Given as goal
+use Rattle.tm_elf_head.specs.Differences.{difference_from}
+use Rattle.tm_elf_head.proofs.difference.first_difference.Given as goal
 
 abbrev pub invariant-loop-at : goal.invariant-loop-at
 invariant-loop-at l = record {
