@@ -103,4 +103,3 @@ plan_lengths bytes h =
       topo = omega (arith, length-take (word_at bytes 16) (drop 24 bytes));
       template = omega (arith, length-drop (24 + word_at bytes 16) bytes);
     }
-

@@ -18,7 +18,11 @@ fn rest(bytes: &[u8], at: usize) -> &[u8]
 fn front(bytes: &[u8], len: usize) -> &[u8]
     ensures { result.now ≡ take len bytes.now }
 {
-    if len <= bytes.len() { &bytes[..len] } else { bytes }
+    if len <= bytes.len() {
+        &bytes[..len]
+    } else {
+        bytes
+    }
 }
 
 /// The 16-bit number at a place.

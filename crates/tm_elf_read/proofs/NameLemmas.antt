@@ -71,7 +71,7 @@ unfolding symbol_at word_at long_at
 symbol_back table strings rest more index name s is addr fits e f =
     let w : from_le_bytes w32 (take 4 (drop (24 * index) table)) ≡ name = ap (λ b. from_le_bytes w32 (take 4 b)) e ∙ ap (from_le_bytes w32) (entry_word name s.addr rest) ∙ from_le_bytes-to_le_bytes_4 name fits in
     let a : from_le_bytes w64 (take 8 (drop (24 * index + 8) table)) ≡ s.addr =
-        ap (λ b. from_le_bytes w64 (take 8 b)) (sym (drop-drop 8 (24 * index) table) ∙ ap (drop 8) e) ∙ ap (from_le_bytes w64) (entry_addr name s.addr rest) ∙ from_le_bytes-to_le_bytes_8 s.addr addr in
+    ap (λ b. from_le_bytes w64 (take 8 b)) (sym (drop-drop 8 (24 * index) table) ∙ ap (drop 8) e) ∙ ap (from_le_bytes w64) (entry_addr name s.addr rest) ∙ from_le_bytes-to_le_bytes_8 s.addr addr in
     rw (w, f, name_back s.name more is) (rw (a, front_is s.name more is.short) refl)
 
 then_back : (index : ℕ) (o : Option Symbol) (r : Result (List Symbol) ElfFault) (s : Symbol) (ss : List Symbol) → o ≡ Some s → r ≡ Ok ss → then_symbols index o r ≡ Ok (s ∷ ss)
@@ -88,9 +88,9 @@ entries_back (s ∷ ss) table strings index name names addrs fits e f =
     let here = symbol_back table strings (entries (name + length s.name + 1) ss) (name_bytes ss) index name s is (All-head (λ (s : Symbol). s.addr < 2 ^ 64) s ss addrs) (omega (arith, fits)) e named in
     let step : 24 * (index + 1) ≡ 24 * index + 24 = omega arith in
     let next : drop (24 * (index + 1)) table ≡ entries (name + length s.name + 1) ss =
-        ap (λ n. drop n table) step ∙ sym (drop-drop 24 (24 * index) table) ∙ ap (drop 24) e ∙ entry_end name s.addr (entries (name + length s.name + 1) ss) in
+    ap (λ n. drop n table) step ∙ sym (drop-drop 24 (24 * index) table) ∙ ap (drop 24) e ∙ entry_end name s.addr (entries (name + length s.name + 1) ss) in
     let behind : drop (name + length s.name + 1) strings ≡ name_bytes ss =
-        sym (drop-drop 1 (name + length s.name) strings) ∙ ap (drop 1) (sym (drop-drop (length s.name) name strings) ∙ ap (drop (length s.name)) named ∙ drop_at s.name (0 ∷ name_bytes ss) (length s.name) refl) in
+    sym (drop-drop 1 (name + length s.name) strings) ∙ ap (drop 1) (sym (drop-drop (length s.name) name strings) ∙ ap (drop (length s.name)) named ∙ drop_at s.name (0 ∷ name_bytes ss) (length s.name) refl) in
     let rest = entries_back ss table strings (index + 1) (name + length s.name + 1) (All-tail (λ (s : Symbol). IsName s.name) s ss names) (All-tail (λ (s : Symbol). s.addr < 2 ^ 64) s ss addrs) (omega (arith, fits, short)) next behind in
     then_back index _ _ s ss here rest
 

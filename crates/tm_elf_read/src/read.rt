@@ -11,7 +11,8 @@ use std::alloc::Global;
 use tm_base::{Bytes, List, NoMemory, Words};
 use tm_elf::{Parts, Symbol, write_elf};
 use tm_elf_head::{
-    ElfFault, bad_segment, first_difference, has_plan, has_symbols, header_fault, read_plan, section, segment, word_at,
+    ElfFault, bad_segment, first_difference, has_plan, has_symbols, header_fault, read_plan,
+    section, segment, word_at,
 };
 
 // The words that bytes hold.

@@ -25,12 +25,7 @@ pub fn read_symbols(alloc: Global, bytes: &[u8]) -> Result<List<Symbol>, ElfFaul
 
 // The symbol of an entry.
 #[tactic(auto, unfolding(crate::specs::SymbolTable::symbol_at))]
-fn symbol_at(
-    alloc: Global,
-    table: &[u8],
-    strings: &[u8],
-    index: usize,
-) -> Result<Symbol, ElfFault>
+fn symbol_at(alloc: Global, table: &[u8], strings: &[u8], index: usize) -> Result<Symbol, ElfFault>
     requires few { length table.now ≤ 1572864 }
     requires within { 24 * index + 24 ≤ length table.now }
     ensures ok { IfOk result (λ s. symbol_of_entry table.now strings.now index ≡ Some s) }

@@ -39,7 +39,12 @@ fn file_of(alloc: Global) -> Result<Bytes, NoMemory> {
 }
 
 // The file cut to a length, with some bytes replaced.
-fn changed(alloc: Global, file: &[u8], len: usize, edits: &[(usize, u8)]) -> Result<Bytes, NoMemory> {
+fn changed(
+    alloc: Global,
+    file: &[u8],
+    len: usize,
+    edits: &[(usize, u8)],
+) -> Result<Bytes, NoMemory> {
     let mut out = Bytes::new(alloc);
     for (at, byte) in file.iter().enumerate() {
         if at < len {
@@ -69,7 +74,7 @@ fn a_file_is_read_back(rt: HostRuntime) -> Result<(), Fail> {
     match read_elf(alloc, file.as_slice()) {
         Ok(parts) => {
             assert_eq!(rt; parts.plan.seed, 7);
-            assert_eq!(rt; parts.plan.topo.as_slice(), b"ab");
+            assert_eq!(rt; parts.plan.topo.as_slice(), b"ab".as_slice());
             assert_eq!(rt; parts.symbols.as_slice().len(), 1);
         }
         Err(fault) => {
@@ -85,14 +90,23 @@ fn a_file_that_is_cut_has_the_stated_fault(rt: HostRuntime) -> Result<(), Fail> 
     let mut file = file_of(alloc)?;
     for len in 0..64 {
         let cut = changed(alloc, file.as_slice(), len, &[])?;
-        assert_eq!(rt; fault_of(alloc, cut.as_slice()), Some(ElfFault::Short { have: len as u64 }));
+        assert_eq!(rt;
+            fault_of(alloc, cut.as_slice()),
+            Some(ElfFault::Short { have: len as u64 })
+        );
     }
     for len in [64, 743, 8855] {
         let cut = changed(alloc, file.as_slice(), len, &[])?;
-        assert_eq!(rt; fault_of(alloc, cut.as_slice()), Some(ElfFault::BadHeader { field: 40 }));
+        assert_eq!(rt;
+            fault_of(alloc, cut.as_slice()),
+            Some(ElfFault::BadHeader { field: 40 })
+        );
     }
     file.push(0)?;
-    assert_eq!(rt; fault_of(alloc, file.as_slice()), Some(ElfFault::BadHeader { field: 40 }));
+    assert_eq!(rt;
+        fault_of(alloc, file.as_slice()),
+        Some(ElfFault::BadHeader { field: 40 })
+    );
     Ok(())
 }
 
@@ -138,7 +152,10 @@ const FAULTS: [(&[(usize, u8)], ElfFault); 46] = [
     (&[(79, 0xFF)], ElfFault::BadSegment { index: 0 }),
     (&[(103, 0xFF)], ElfFault::BadSegment { index: 0 }),
     (&[(152, 153)], ElfFault::BadSegment { index: 1 }),
-    (&[(159, 0xFF), (135, 0xFF)], ElfFault::BadSegment { index: 1 }),
+    (
+        &[(159, 0xFF), (135, 0xFF)],
+        ElfFault::BadSegment { index: 1 },
+    ),
     // the plan's section and its bytes
     (&[(8604, 3)], ElfFault::NoPlan),
     (&[(8632, 28)], ElfFault::NoPlan),

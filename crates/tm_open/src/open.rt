@@ -48,7 +48,12 @@ fn rebuild(alloc: Global, parts: &Parts, bytes: &[u8]) -> Result<Image, ImageFau
     ensures form { IfErr result (λ e. e ≢ ImageFault.Elf elf_fault.NoMemory) }
 {
     let plan = &parts.plan;
-    let image = match build(alloc, plan.topo.as_slice(), plan.template.as_slice(), plan.seed) {
+    let image = match build(
+        alloc,
+        plan.topo.as_slice(),
+        plan.template.as_slice(),
+        plan.seed,
+    ) {
         Ok(image) => image,
         Err(BuildFault::Input(fault)) => return Err(ImageFault::Inputs(fault)),
         Err(BuildFault::NoMemory) => return Err(ImageFault::NoMemory),
