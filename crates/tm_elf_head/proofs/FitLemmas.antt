@@ -1,9 +1,9 @@
 -- What the tests say of the ranges that are read.
-use Rattle.std.proofs.Common.{◌≡◌, ℕ, zero, suc, ◌+◌, ◌-◌, ◌*◌, ◌/◌, ◌%◌, ◌<◌, ◌≤◌, ◌==◌, ◌&&◌, Bool, true, false, cond, nat_lt, nat_le, IsTrue, Option, Some, None, option_map, Result, Ok, Err, List, [], ◌∷◌, All, length, get_or, take, drop, refl, ap, ◌∙◌, sym, subst, arith, length-drop}
+use Rattle.std.proofs.Common.{◌≡◌, ℕ, ◌+◌, ◌-◌, ◌%◌, ◌<◌, ◌≤◌, ◌==◌, ◌&&◌, Bool, true, false, cond, nat_lt, nat_le, Option, Some, None, List, length, drop, refl, arith, length-drop}
 use Rattle.std.proofs.lemmas.List.{length-take}
 use Rattle.std.proofs.lemmas.Bool.Decides.{nat_tests}
 use Rattle.tm_elf_head.specs.declared.spans.Span.{Span}
-use Rattle.tm_elf_head.specs.Numbers.{word_at, long_at, part_at}
+use Rattle.tm_elf_head.specs.Numbers.{word_at}
 use Rattle.tm_elf_head.specs.PartFaults.{is_text, is_tables, bad_segment, is_plan, plan_of, has_plan, has_symbols}
 use Rattle.tm_elf_head.specs.Spans.{ends_by, segment, section, bytes_in, headers_at}
 
