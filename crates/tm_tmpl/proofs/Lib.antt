@@ -6,4 +6,5 @@ pub mod ReadBackLemmas
 pub mod BareLemmas
 pub mod SayableLemmas
 pub mod RawLemmas
+pub mod EarlyLemmas
 pub mod Rows

@@ -71,11 +71,11 @@ line-read _ _ ok good n from e end = absurd (true≢false (sym ok))
 
 -- ---- a statement's line has its tokens
 
-lexemes-join : (text : List ℕ) (ts us : List Token) → lexemes text (ts ++ us) ≡ lexemes text ts ++ lexemes text us
+pub lexemes-join : (text : List ℕ) (ts us : List Token) → lexemes text (ts ++ us) ≡ lexemes text ts ++ lexemes text us
 lexemes-join text [] us = refl
 lexemes-join text (t ∷ ts) us = ap (λ xs. (t, take (t.to - t.from) (drop t.from text)) ∷ xs) (lexemes-join text ts us)
 
-tokens-join : (n from : ℕ) (ps qs : List (TokenKind × Span)) → map (token_at n from) (ps ++ qs) ≡ map (token_at n from) ps ++ map (token_at n from) qs
+pub tokens-join : (n from : ℕ) (ps qs : List (TokenKind × Span)) → map (token_at n from) (ps ++ qs) ≡ map (token_at n from) ps ++ map (token_at n from) qs
 tokens-join n from [] qs = refl
 tokens-join n from (p ∷ ps) qs = ap (λ ts. token_at n from p ∷ ts) (tokens-join n from ps qs)
 
@@ -167,7 +167,7 @@ statement-lexed (slot (Mix k a l s b)) good text pre post n from same place =
 -- ---- lines behind one another
 
 -- lexemes without a line end, and a line end, are a line
-cut_line : (ls : List Lexeme) (e : Lexeme) (more : List Lexeme) → list_all (λ x. not (is_line_end x.0.kind)) ls ≡ true → is_line_end e.0.kind ≡ true
+pub cut_line : (ls : List Lexeme) (e : Lexeme) (more : List Lexeme) → list_all (λ x. not (is_line_end x.0.kind)) ls ≡ true → is_line_end e.0.kind ≡ true
     → token_lines (ls ++ e ∷ more) ≡ (ls ++ e ∷ []) ∷ token_lines more
 unfolding token_lines
 cut_line [] e more apart end = rw end

@@ -1,5 +1,5 @@
 -- Which statement may follow which, and the template that statements make. All of this is this project's own.
-use Rattle.std.specs.Prelude.{ℕ, ◌+◌, ◌==◌, not, if◌then◌else◌, List, [], ◌∷◌, count_by, Option, Some, None, Result, Ok, Err, codes}
+use Rattle.std.specs.Prelude.{ℕ, ◌≡◌, ◌⊎◌, ◌+◌, ◌==◌, not, if◌then◌else◌, List, [], ◌∷◌, count_by, Option, Some, None, Result, Ok, Err, codes}
 use Rattle.std.specs.List.{suffix_len}
 use Rattle.std.specs.Str.{bytes_eq}
 use Rattle.tm_base.specs.declared.Pos.{Pos}
@@ -133,3 +133,8 @@ of_tokens text (Err e) = Err (Lex e)
 
 unfoldable pub template_of : List ℕ → Result Template TmplFault
 template_of text = of_tokens text (tokens_of text)
+
+-- a text ends early only before its first two statements
+abbrev pub IsStatedFault : TmplFault → Type 0
+IsStatedFault (Early w) = (w ≡ want.Template) ⊎ (w ≡ want.Passes)
+IsStatedFault _ = Unit {0}

@@ -18,6 +18,7 @@ pub fn parse_template(alloc: Global, text: &[u8]) -> Result<Template, TmplFault>
     ensures ok { IfOk result (λ t. grammar.template_of text.now ≡ Ok t) }
     ensures err { IfErr result (λ e. e ≢ TmplFault.NoMemory → grammar.template_of text.now ≡ Err e) }
     ensures writable { IfOk result printed.IsWritable }
+    ensures stated { IfErr result grammar.IsStatedFault }
 {
     match tokens(alloc, text) {
         Ok(list) => read_tokens(alloc, text, list.as_slice()),
@@ -27,7 +28,8 @@ pub fn parse_template(alloc: Global, text: &[u8]) -> Result<Template, TmplFault>
 
 // A fault of the tokens, as one of the template.
 fn of_tokens(fault: LexFault) -> TmplFault
-    ensures { result ≢ TmplFault.NoMemory → (fault ≢ LexFault.NoMemory) × (result ≡ TmplFault.Lex fault) }
+    ensures cause { result ≢ TmplFault.NoMemory → (fault ≢ LexFault.NoMemory) × (result ≡ TmplFault.Lex fault) }
+    ensures stated { grammar.IsStatedFault result }
 {
     match fault {
         LexFault::BadByte { pos, byte } => TmplFault::Lex(LexFault::BadByte { pos, byte }),

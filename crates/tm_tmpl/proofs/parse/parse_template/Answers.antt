@@ -2,6 +2,7 @@ use Rattle.tm_tmpl.specs.Grammar.{template_of}
 use Rattle.tm_tmpl.specs.Steps.{follows}
 use Rattle.tm_tmpl.proofs.MadeLemmas.{within}
 use Rattle.tm_tmpl.proofs.RawLemmas.{tokens-asm}
+use Rattle.tm_tmpl.proofs.EarlyLemmas.{stated-result}
 use Rattle.tm_tmpl.proofs.parse.parse_template.Goals as goal
 
 pub read_tokens-requires-clause-spans : goal.read_tokens-requires-clause-spans
@@ -18,8 +19,11 @@ returns-in-Ok-clause-err c = rw c.in-Ok.ensures.ok (rw c.as_slice.ensures at c.r
 pub returns-in-Err-clause-err : goal.returns-in-Err-clause-err
 unfolding template_of
 returns-in-Err-clause-err c = λ other.
-    let fault = c.of_tokens.ensures other in
+    let fault = c.of_tokens.ensures.cause other in
     rw (fault.1, c.in-Err.ensures.err fault.0)
 
 pub read_tokens-requires-clause-asm : goal.read_tokens-requires-clause-asm
 read_tokens-requires-clause-asm c = rw c.as_slice.ensures (tokens-asm c.args.text.now _ c.in-Ok.ensures.tiled)
+
+pub returns-in-Ok-clause-stated : goal.returns-in-Ok-clause-stated
+returns-in-Ok-clause-stated c = stated-result c.args.text.now _ c.read_tokens.result c.in-Ok.ensures.tiled (rw c.as_slice.ensures at c.read_tokens.ensures.err)
