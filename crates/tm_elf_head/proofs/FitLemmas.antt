@@ -1,0 +1,105 @@
+-- What the tests say of the ranges that are read.
+use Rattle.std.proofs.Common.{◌≡◌, ℕ, ◌+◌, ◌-◌, ◌%◌, ◌<◌, ◌≤◌, ◌==◌, ◌&&◌, Bool, true, false, cond, nat_lt, nat_le, Option, Some, None, List, length, drop, refl, arith, length-drop}
+use Rattle.std.proofs.lemmas.List.{length-take}
+use Rattle.std.proofs.lemmas.Bool.Decides.{nat_tests}
+use Rattle.tm_elf_head.specs.declared.spans.Span.{Span}
+use Rattle.tm_elf_head.specs.Numbers.{word_at}
+use Rattle.tm_elf_head.specs.PartFaults.{is_text, is_tables, bad_segment, is_plan, plan_of, has_plan, has_symbols}
+use Rattle.tm_elf_head.specs.Spans.{ends_by, segment, section, bytes_in, headers_at}
+
+pub both : (a b : Bool) → (a && b) ≡ true → (a ≡ true) × (b ≡ true)
+both true b h = (refl, h)
+both false b h = cc
+
+pub at_most : (a b : ℕ) → nat_le a b ≡ true → a ≤ b
+at_most a b h = grind (arith, nat_tests)
+
+pub below : (a b : ℕ) → nat_lt a b ≡ true → a < b
+below a b h = grind (arith, nat_tests)
+
+pub is_equal : (a b : ℕ) → (a == b) ≡ true → a ≡ b
+is_equal a b h = grind (arith, nat_tests)
+
+ends : (limit : ℕ) (span : Span) → ends_by limit span ≡ true → span.at + span.len ≤ limit
+unfolding ends_by
+ends limit span h = at_most (span.at + span.len) limit h
+
+-- a range within a file has its length
+pub length_in : (span : Span) (bytes : List ℕ) → span.at + span.len ≤ length bytes → length (bytes_in span bytes) ≡ span.len
+length_in span bytes h = omega (arith, length-take span.len (drop span.at bytes), length-drop span.at bytes)
+
+pub record TextFits (bytes : List ℕ) : Type 0 where
+  pub some : 0 < (segment bytes 0).len
+  pub most : (segment bytes 0).len ≤ 8388608
+  pub words : (segment bytes 0).len % 4 ≡ 0
+  pub long : length (bytes_in (segment bytes 0) bytes) ≡ (segment bytes 0).len
+  pub tables : (segment bytes 1).len ≤ 4194304
+
+segments_hold : (a b : Bool) → cond {A = Option ℕ} a (cond b None (Some 1)) (Some 0) ≡ None → (a ≡ true) × (b ≡ true)
+segments_hold true true h = (refl, refl)
+segments_hold true false h = cc
+segments_hold false b h = cc
+
+text_holds : (bytes : List ℕ) → is_text bytes ≡ true → is_tables bytes ≡ true → TextFits bytes
+unfolding is_text is_tables
+text_holds bytes t u =
+    let a = both _ _ t in
+    let b = both _ _ a.1 in
+    let c = both _ _ b.1 in
+    let e = both (ends_by (headers_at bytes) (segment bytes 1)) (nat_le (segment bytes 1).len 4194304) u in
+    let end : (segment bytes 0).at + (segment bytes 0).len ≤ length bytes - 512 = ends (headers_at bytes) (segment bytes 0) a.0 in
+    record {
+      some = below _ _ c.0;
+      most = at_most _ _ b.0;
+      words = is_equal _ _ c.1;
+      long = length_in (segment bytes 0) bytes (omega arith);
+      tables = at_most _ _ e.1;
+    }
+
+pub text_fits : (bytes : List ℕ) → bad_segment bytes ≡ None → TextFits bytes
+unfolding bad_segment
+text_fits bytes h = let s = segments_hold (is_text bytes) (is_tables bytes) h in text_holds bytes s.0 s.1
+
+pub plan_fits : (bytes : List ℕ) → has_plan bytes ≡ true → is_plan (bytes_in (section bytes 4) bytes) ≡ true
+unfolding has_plan
+plan_fits bytes h = let a = both _ _ h in let b = both _ _ a.1 in b.1
+
+pub record SymbolsFit (bytes : List ℕ) : Type 0 where
+  pub some : 0 < (section bytes 5).len
+  pub few : (section bytes 5).len ≤ 1572864
+  pub entries : (section bytes 5).len % 24 ≡ 0
+  pub long : length (bytes_in (section bytes 5) bytes) ≡ (section bytes 5).len
+
+pub symbols_fit : (bytes : List ℕ) → has_symbols bytes ≡ true → SymbolsFit bytes
+unfolding has_symbols
+symbols_fit bytes h =
+    let a = both _ _ h in
+    let b = both _ _ a.1 in
+    let c = both _ _ b.1 in
+    let d = both _ _ c.1 in
+    let end : (section bytes 5).at + (section bytes 5).len ≤ length bytes - 512 = ends (headers_at bytes) (section bytes 5) a.0 in
+    record {
+      some = below _ _ c.0;
+      few = at_most _ _ d.0;
+      entries = is_equal _ _ d.1;
+      long = length_in (section bytes 5) bytes (omega arith);
+    }
+
+pub record PlanFits (bytes : List ℕ) : Type 0 where
+  pub topo : length (plan_of bytes).topo ≤ 65536
+  pub template : length (plan_of bytes).template ≤ 1048576
+
+pub plan_lengths : (bytes : List ℕ) → is_plan bytes ≡ true → PlanFits bytes
+unfolding is_plan plan_of
+plan_lengths bytes h =
+    let a = both _ _ h in
+    let b = both _ _ a.1 in
+    let c = both _ _ b.1 in
+    let d = both _ _ c.1 in
+    let topo : word_at bytes 16 ≤ 65536 = at_most _ _ c.0 in
+    let template : word_at bytes 20 ≤ 1048576 = at_most _ _ d.0 in
+    let whole : 24 + word_at bytes 16 + word_at bytes 20 ≡ length bytes = is_equal _ _ d.1 in
+    record {
+      topo = omega (arith, length-take (word_at bytes 16) (drop 24 bytes));
+      template = omega (arith, length-drop (24 + word_at bytes 16) bytes);
+    }

@@ -1,0 +1,4 @@
+pub mod DifferenceLemmas
+pub mod FitLemmas
+pub mod HeaderLemmas
+pub mod StandLemmas

@@ -1,0 +1,5 @@
+pub mod WordLemmas
+pub mod SymbolLemmas
+pub mod NamedLemmas
+pub mod NameLemmas
+pub mod BackLemmas

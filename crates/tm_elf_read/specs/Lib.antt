@@ -1,0 +1,2 @@
+pub mod SymbolTable
+pub mod Read
