@@ -1,0 +1,14 @@
+use tm_elf_head::ElfFault;
+use tm_image::InputFault;
+
+/// Why a file isn't opened as an image.
+#[derive(Clone, Copy, Debug, PartialEq, Eq)]
+pub enum ImageFault {
+    /// The file hasn't the form of an image; want of memory doesn't stand here.
+    Elf(ElfFault),
+    /// A text of the file's plan is refused.
+    Inputs(InputFault),
+    /// What is built of the plan is another file: the first place at which the two differ, or the shorter length.
+    Differs { offset: u64 },
+    NoMemory,
+}
