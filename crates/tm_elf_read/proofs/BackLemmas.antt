@@ -1,5 +1,5 @@
 -- The file of parts is read as those parts.
-use Rattle.std.proofs.Common.{◌≡◌, ◌≢◌, ℕ, zero, suc, ◌+◌, ◌-◌, ◌*◌, ◌/◌, ◌%◌, ◌^◌, ◌<◌, ◌≤◌, ◌==◌, ◌&&◌, Bool, true, false, not, nat_lt, nat_le, Option, Some, None, Result, Ok, Err, IfOk, IfErr, MatchResult, List, [], ◌∷◌, ◌++◌, length, take, drop, refl, ap, ◌∙◌, sym, subst, arith, inl, inr, ◌⊎◌, ⊎_elim, length-append}
+use Rattle.std.proofs.Common.{◌≡◌, ◌≢◌, ℕ, ◌+◌, ◌-◌, ◌*◌, ◌/◌, ◌%◌, ◌^◌, ◌<◌, ◌≤◌, ◌==◌, true, false, nat_lt, nat_le, None, Result, Ok, Err, IfOk, IfErr, MatchResult, List, ◌++◌, length, take, drop, refl, ap, ◌∙◌, sym, arith, inl, inr, ◌⊎◌, ⊎_elim}
 use Rattle.std.specs.Int.{from_le_bytes, to_le_bytes, w32, w64}
 use Rattle.std.specs.Prelude.{codes}
 use Rattle.std.proofs.lemmas.Bool.Decides.{nat_tests}
@@ -7,29 +7,26 @@ use Rattle.std.proofs.lemmas.List.{take_at, drop_at, drop-drop}
 use Rattle.std.proofs.lemmas.Nat.{from_le_bytes-to_le_bytes_4, from_le_bytes-to_le_bytes_8}
 use Rattle.tm_elf.specs.declared.parts.Parts.{Parts}
 use Rattle.tm_elf.specs.declared.parts.Plan.{Plan}
-use Rattle.tm_elf.specs.declared.parts.Symbol.{Symbol}
 use Rattle.tm_elf.specs.declared.places.Places.{Places}
 use Rattle.tm_elf.specs.Elf.{IsWritable, elf_file, text_bytes}
-use Rattle.tm_elf.specs.Fields.{field_bytes, bytes_of}
-use Rattle.tm_elf.specs.Header.{header}
+use Rattle.tm_elf.specs.Fields.{field_bytes}
 use Rattle.tm_elf.specs.Places.{places}
 use Rattle.tm_elf.specs.Plan.{plan_bytes}
 use Rattle.tm_elf.specs.Sections.{section_fields, sections, sections_bytes}
 use Rattle.tm_elf.specs.Segments.{segment_fields, segments, segments_bytes}
-use Rattle.tm_elf.specs.Stands.{StandsAt, ReadsAs, places_in}
+use Rattle.tm_elf.specs.Stands.{ReadsAs, places_in}
 use Rattle.tm_elf.specs.Symbols.{string_bytes, symbol_bytes}
 use Rattle.tm_elf.proofs.Lengths.{length_plan, length_symbols, length_text}
 use Rattle.tm_elf.proofs.Standing.{reads_as}
 use Rattle.tm_elf_head.specs.declared.fault.ElfFault.{ElfFault}
 use Rattle.tm_elf_head.specs.declared.fault.ElfFault.TheVariants.{Short, BadMagic, NotRiscv, NotExec, BadHeader, BadSegment, NoPlan, BadSymbol, Differs, NoMemory}
 use Rattle.tm_elf_head.specs.declared.spans.Span.{Span}
-use Rattle.tm_elf_head.specs.Differences.{difference_from, differ}
+use Rattle.tm_elf_head.specs.Differences.{differ}
 use Rattle.tm_elf_head.specs.HeaderFaults.{header_fault}
 use Rattle.tm_elf_head.specs.Numbers.{word_at, long_at}
 use Rattle.tm_elf_head.specs.PartFaults.{is_text, is_tables, bad_segment, is_plan, plan_of, has_plan, has_symbols}
-use Rattle.tm_elf_read.specs.Read.{InRange, compared, elf_of, parts_in, symbols_in, unless_differs, with_symbols, words_from}
+use Rattle.tm_elf_read.specs.Read.{InRange, compared, elf_of, parts_in, symbols_in, unless_differs, with_symbols}
 use Rattle.tm_elf_head.specs.Spans.{ends_by, segment, section, bytes_in, headers_at}
-use Rattle.tm_elf_read.specs.SymbolTable.{symbols_from}
 use Rattle.tm_elf_head.proofs.DifferenceLemmas.{no_difference}
 use Rattle.tm_elf_head.proofs.HeaderLemmas.{alike, header_back}
 use Rattle.tm_elf_read.proofs.NameLemmas.{strings_short, symbols_back}

@@ -1,5 +1,5 @@
 -- Symbols, read back.
-use Rattle.std.proofs.Common.{◌≡◌, ℕ, zero, suc, ◌+◌, ◌-◌, ◌*◌, ◌^◌, ◌<◌, ◌≤◌, ◌==◌, ◌&&◌, Bool, true, false, cond, not, nat_lt, nat_le, Option, Some, None, option_map, Result, Ok, Err, List, [], ◌∷◌, ◌++◌, All, length, take, drop, refl, ap, ◌∙◌, sym, subst, arith, length-append}
+use Rattle.std.proofs.Common.{◌≡◌, ℕ, zero, suc, ◌+◌, ◌*◌, ◌^◌, ◌<◌, ◌≤◌, ◌==◌, ◌&&◌, true, false, not, nat_lt, nat_le, Option, Some, Result, Ok, List, [], ◌∷◌, ◌++◌, All, length, take, drop, refl, ap, ◌∙◌, sym, arith, length-append}
 use Rattle.std.specs.Int.{from_le_bytes, to_le_bytes, w32, w64}
 use Rattle.std.specs.List.{flat_map, list_all, prefix_len}
 use Rattle.std.proofs.lemmas.Bool.Decides.{nat_tests}
@@ -10,7 +10,7 @@ use Rattle.tm_elf.specs.declared.parts.Symbol.{Symbol}
 use Rattle.tm_elf.specs.Fields.{field_bytes, bytes_of}
 use Rattle.tm_elf.specs.Symbols.{IsName, entry, entries, string_bytes, symbol_bytes}
 use Rattle.tm_elf_head.specs.declared.fault.ElfFault.{ElfFault}
-use Rattle.tm_elf_head.specs.Numbers.{word_at, long_at, part_at}
+use Rattle.tm_elf_head.specs.Numbers.{word_at, long_at}
 use Rattle.tm_elf_read.specs.SymbolTable.{is_name, name_len, symbol_at, symbols_from, then_symbols}
 use Rattle.tm_elf_head.proofs.FitLemmas.{both}
 

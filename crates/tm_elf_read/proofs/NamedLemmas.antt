@@ -1,21 +1,18 @@
 -- What is read has names, and is writable.
-use Rattle.std.proofs.Common.{◌≡◌, ℕ, zero, suc, ◌+◌, ◌-◌, ◌*◌, ◌/◌, ◌%◌, ◌<◌, ◌≤◌, ◌==◌, ◌&&◌, Bool, true, false, cond, nat_lt, nat_le, IsTrue, Option, Some, None, option_map, Result, Ok, Err, List, [], ◌∷◌, All, length, get_or, take, drop, refl, ap, ◌∙◌, sym, subst, arith, length-drop}
+use Rattle.std.proofs.Common.{◌≡◌, ℕ, zero, suc, ◌+◌, ◌-◌, ◌*◌, ◌/◌, Bool, true, false, cond, Option, Some, None, option_map, Result, Ok, Err, List, [], ◌∷◌, All, length, take, drop, refl, ap, ◌∙◌, sym, subst, arith}
 use Rattle.std.proofs.lemmas.List.{length-take}
 use Rattle.std.proofs.lemmas.List.Elements.{All-cons}
-use Rattle.std.proofs.lemmas.Bool.Decides.{nat_tests}
-use Rattle.tm_elf.specs.declared.parts.Parts.{Parts}
 use Rattle.tm_elf.specs.declared.parts.Symbol.{Symbol}
 use Rattle.tm_elf.specs.Elf.{IsWritable}
 use Rattle.tm_elf.specs.Symbols.{IsName}
 use Rattle.tm_elf_head.specs.declared.fault.ElfFault.{ElfFault}
-use Rattle.tm_elf_head.specs.declared.spans.Span.{Span}
 use Rattle.tm_elf_head.specs.Numbers.{word_at, long_at, part_at}
-use Rattle.tm_elf_head.specs.PartFaults.{is_text, is_tables, bad_segment, is_plan, plan_of, has_plan, has_symbols}
+use Rattle.tm_elf_head.specs.PartFaults.{bad_segment, has_plan, has_symbols}
 use Rattle.tm_elf_read.specs.Read.{parts_in, symbols_in, words_from}
-use Rattle.tm_elf_head.specs.Spans.{ends_by, segment, section, bytes_in, headers_at}
+use Rattle.tm_elf_head.specs.Spans.{segment, section, bytes_in}
 use Rattle.tm_elf_read.specs.SymbolTable.{is_name, name_len, symbol_at, symbols_from, then_symbols}
 use Rattle.tm_elf_read.proofs.WordLemmas.{length_words}
-use Rattle.tm_elf_head.proofs.FitLemmas.{both, at_most, below, is_equal, text_fits, plan_fits, plan_lengths, symbols_fit}
+use Rattle.tm_elf_head.proofs.FitLemmas.{both, at_most, below, text_fits, plan_fits, plan_lengths, symbols_fit}
 
 name_holds : (name : List ℕ) → is_name name ≡ true → IsName name
 unfolding is_name

@@ -1,5 +1,5 @@
 -- A file, read.
-use Rattle.std.specs.Prelude.{ℕ, zero, suc, List, [], ◌∷◌, ◌≡◌, ◌+◌, ◌-◌, ◌/◌, ◌^◌, ◌<◌, Option, Some, None, Result, Ok, Err, if◌then◌else◌, length, All}
+use Rattle.std.specs.Prelude.{ℕ, zero, suc, List, [], ◌∷◌, ◌+◌, ◌-◌, ◌/◌, ◌^◌, ◌<◌, Option, Some, None, Result, Ok, Err, if◌then◌else◌, All}
 use Rattle.tm_elf.specs.declared.parts.Parts.{Parts}
 use Rattle.tm_elf.specs.declared.parts.Symbol.{Symbol}
 use Rattle.tm_elf.specs.Elf.{elf_file}

@@ -1,5 +1,5 @@
 -- Symbols read from a symbol table and its strings.
-use Rattle.std.specs.Prelude.{ℕ, zero, suc, List, [], ◌∷◌, ◌+◌, ◌*◌, ◌/◌, ◌==◌, ◌&&◌, Bool, Option, Some, None, option_map, Result, Ok, Err, not, nat_lt, nat_le, if◌then◌else◌, length, take}
+use Rattle.std.specs.Prelude.{ℕ, zero, suc, List, [], ◌∷◌, ◌+◌, ◌*◌, ◌==◌, ◌&&◌, Bool, Option, Some, None, option_map, Result, Ok, Err, not, nat_lt, nat_le, if◌then◌else◌, length, take}
 use Rattle.std.specs.List.{prefix_len, list_all}
 use Rattle.tm_elf.specs.declared.parts.Symbol.{Symbol}
 use Rattle.tm_elf_head.specs.declared.fault.ElfFault.{ElfFault}

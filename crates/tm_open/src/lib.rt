@@ -3,6 +3,8 @@
 
 mod fault;
 mod open;
+#[cfg(test)]
+mod tests;
 
 pub use fault::ImageFault;
 pub use open::open_image;
