@@ -1,28 +1,17 @@
 -- What is printed is read back, piece by piece.
-use Rattle.std.proofs.Common.{◌≡◌, ◌≢◌, ◌≤◌, ◌<◌, ℕ, zero, suc, ◌+◌, ◌-◌, ◌*◌, ◌%◌, ◌^◌, Bool, true, false, not, ◌&&◌, ◌||◌, cond, eqb, nat_le, nat_lt, if◌then◌else◌, List, [], ◌∷◌, ◌++◌, length, drop, get_or, ℤ, pos, negsuc, Option, Some, None, Ok, refl, sym, ap, ◌∙◌, subst, inl, inr, arith, length-append, length-drop}
+use Rattle.std.proofs.Common.{◌≡◌, ◌≢◌, ◌≤◌, ◌<◌, ℕ, zero, suc, ◌+◌, ◌%◌, ◌^◌, Bool, true, false, not, ◌&&◌, eqb, nat_le, List, [], ◌∷◌, ◌++◌, length, ℤ, pos, negsuc, Option, Some, None, refl, ap, ◌∙◌, inl, inr, arith}
 use Rattle.std.specs.Prelude.{slice_index, option_map}
 use Rattle.std.specs.Fmt.{digits, decimal, signed_decimal}
-use Rattle.std.proofs.lemmas.Fmt.{decimal_by_steps, length-decimal-le, length_signed_le}
+use Rattle.std.proofs.lemmas.Fmt.{decimal_by_steps}
 use Rattle.std.proofs.lemmas.Bool.Decides.{leb_tells, nat_tests}
-use Rattle.std.proofs.lemmas.List.{get_or-drop}
 use Rattle.std.proofs.lemmas.Int.{ints}
 use Rattle.std.proofs.lemmas.Bool.{leb-true}
 use lib.Signed.{mag}
 use Rattle.tm_base.specs.Numbers.{number_of}
 use Rattle.tm_base.proofs.PrintLemmas.{decimal_reads_back}
-use Rattle.tm_table.specs.declared.instr.Instr.{Instr}
-use Rattle.tm_asm.specs.declared.shape.Slot.{Slot}
-use Rattle.tm_asm.specs.declared.shape.Side.{Side}
-use Rattle.tm_asm.specs.declared.shape.Side.TheVariants.{Before, After}
-use Rattle.tm_asm.specs.declared.shape.Operand.{Operand}
-use Rattle.tm_asm.specs.declared.shape.Operand.TheVariants.{Register, Number, Set}
-use Rattle.tm_asm.specs.declared.shape.Piece.{Piece}
-use Rattle.tm_asm.specs.declared.shape.Piece.TheVariants.{Take, Mark}
 use Rattle.tm_asm.specs.Shapes.{set_text}
-use Rattle.tm_asm.specs.Reading.{is_blank, is_delimiter, after_blanks, operand, register_of, signed_of, signed_by, value_of, negative, is_in, set_of, set_before, set_after, with_register, with_set, operand_reading, and_place, taken, piece_reading, pieces_reading}
-use Rattle.tm_asm.specs.Printing.{register_in, set_in, operand_text, mark_text, piece_text, pieces_text}
-use Rattle.tm_asm.proofs.Cutting.{taken-some}
-use Rattle.tm_asm.proofs.Cut.{and_parts, none, none-append, ends, no_blank, no_blank-none, blanks-none, blanks-one, drop_behind, operand-here}
+use Rattle.tm_asm.specs.Reading.{is_blank, is_delimiter, register_of, signed_of, signed_by, value_of, negative, set_of}
+use Rattle.tm_asm.proofs.Cut.{and_parts, none, none-append}
 
 -- ---- a test on all numbers below one
 

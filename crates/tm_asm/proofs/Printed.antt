@@ -1,9 +1,8 @@
 -- What is printed is read back, a whole line.
-use Rattle.std.proofs.Common.{◌≡◌, ◌≢◌, ◌≤◌, ◌<◌, ℕ, zero, suc, ◌+◌, ◌-◌, ◌*◌, ◌/◌, ◌%◌, ◌^◌, Bool, T, lit<, true, false, not, ◌&&◌, ◌||◌, cond, eqb, nat_le, nat_lt, if◌then◌else◌, ◌==◌, List, [], ◌∷◌, ◌++◌, length, drop, get_or, ℤ, pos, negsuc, ◌≤ℤ◌, Option, Some, None, Ok, refl, sym, ap, ◌∙◌, subst, inl, inr, arith, append_assoc, append-nil, length-append, length-drop}
+use Rattle.std.proofs.Common.{◌≡◌, ◌≢◌, ◌≤◌, ◌<◌, ℕ, suc, ◌+◌, ◌-◌, ◌*◌, ◌%◌, ◌^◌, Bool, T, lit<, true, false, ◌&&◌, eqb, nat_le, nat_lt, if◌then◌else◌, ◌==◌, List, [], ◌∷◌, ◌++◌, length, drop, get_or, ℤ, pos, negsuc, Some, Ok, refl, sym, ap, ◌∙◌, subst, inl, inr, arith, length-append, length-drop}
 use Rattle.std.specs.Prelude.{slice_index, int_le}
-use Rattle.std.specs.Fmt.{decimal, signed_decimal}
 use Rattle.std.proofs.lemmas.Fmt.{length-decimal-le, length_signed_le}
-use Rattle.std.proofs.lemmas.Bool.Decides.{leb_tells, eqb_tells, nat_tests}
+use Rattle.std.proofs.lemmas.Bool.Decides.{eqb_tells}
 use Rattle.std.proofs.lemmas.Bool.{eq-eqb, lt-ltb, le-leb, ltb-true, leb-true}
 use Rattle.std.proofs.lemmas.List.{get_or-drop, drop_more, drop_all}
 use Rattle.std.proofs.lemmas.Int.{ints}
@@ -15,21 +14,19 @@ use Rattle.tm_table.specs.declared.table.Layout.{Layout}
 use Rattle.tm_table.specs.declared.table.Layout.TheVariants.{R, I, S, B, U, J, Shift6, Shift5, Order, Whole}
 use Rattle.tm_table.specs.Table.{row_of}
 use Rattle.tm_table.specs.Words.{low, Fits, FitsAs, From}
-use Rattle.tm_asm.specs.declared.shape.Slot.{Slot}
 use Rattle.tm_asm.specs.declared.shape.Side.{Side}
 use Rattle.tm_asm.specs.declared.shape.Side.TheVariants.{Before, After}
-use Rattle.tm_asm.specs.declared.shape.Range.{Range}
 use Rattle.tm_asm.specs.declared.shape.Operand.{Operand}
 use Rattle.tm_asm.specs.declared.shape.Operand.TheVariants.{Register, Number, Set}
 use Rattle.tm_asm.specs.declared.shape.Piece.{Piece}
 use Rattle.tm_asm.specs.declared.shape.Piece.TheVariants.{Take, Mark}
 use Rattle.tm_asm.specs.declared.shape.Shape.{Shape}
 use Rattle.tm_asm.specs.declared.shape.Shape.TheVariants.{Upper, Jump, Memory, Branch, Store, Immediate, Shift64, Shift32, Registers, Fences, Bare}
-use Rattle.tm_asm.specs.Shapes.{name_of, shape_of, pieces_of, set_text}
-use Rattle.tm_asm.specs.Reading.{is_blank, is_delimiter, after_blanks, operand, is_in, set_before, set_after, with_register, with_set, operand_reading, and_place, taken, piece_reading, pieces_reading, bare, op_of, name_at, line_of}
+use Rattle.tm_asm.specs.Shapes.{name_of, shape_of, pieces_of}
+use Rattle.tm_asm.specs.Reading.{is_blank, is_delimiter, after_blanks, is_in, set_before, set_after, with_register, with_set, operand_reading, piece_reading, pieces_reading, bare, op_of, name_at, line_of}
 use Rattle.tm_asm.specs.Printing.{register_in, set_in, operand_text, mark_text, piece_text, pieces_text, gap, printed}
-use Rattle.tm_asm.proofs.Cutting.{taken-some, pieces-end}
-use Rattle.tm_asm.proofs.Cut.{and_parts, none, ends, no_blank, no_blank-none, blanks-none, blanks-one, drop_behind, drop-drop, operand-here, name-here}
+use Rattle.tm_asm.proofs.Cutting.{taken-some}
+use Rattle.tm_asm.proofs.Cut.{and_parts, none, ends, no_blank, no_blank-none, blanks-none, blanks-one, drop_behind, operand-here, name-here}
 use Rattle.tm_asm.proofs.Back.{IsOne, register_back, set_back, set_short, signed_back}
 
 -- ---- operands

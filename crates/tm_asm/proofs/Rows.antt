@@ -1,5 +1,5 @@
 -- Worked lines, read and printed by computing.
-use Rattle.std.proofs.Common.{◌≡◌, ℕ, List, [], ◌∷◌, ◌++◌, pos, negsuc, ℤ, Ok, Err, codes, refl}
+use Rattle.std.proofs.Common.{◌≡◌, ℕ, [], ◌∷◌, ◌++◌, pos, negsuc, ℤ, Ok, Err, codes, refl}
 use Rattle.std.specs.Fmt.{digits}
 use Rattle.tm_base.specs.Numbers.{number_of, digits_reading, reading_at, value_of, place_value}
 use Rattle.tm_table.specs.declared.instr.Op.{Op}

@@ -1,9 +1,9 @@
 -- The words of code, one by one.
-use Rattle.std.proofs.Common.{◌≡◌, ◌≢◌, ◌≤◌, ◌<◌, ℕ, zero, suc, ◌+◌, ◌-◌, ◌*◌, ◌%◌, ◌^◌, Bool, T, true, false, cond, ◌&&◌, nat_le, if◌then◌else◌, List, [], ◌∷◌, ◌++◌, length, take, drop, get_or, ℤ, pos, negsuc, ◌≤ℤ◌, Option, Some, None, Result, Ok, Err, OnOk, refl, sym, ap, ap₂, ◌∙◌, subst, inl, inr, arith, append-nil, length-take-le}
-use Rattle.std.specs.Prelude.{slice_get, int_le, is_err}
+use Rattle.std.proofs.Common.{◌≡◌, ◌≤◌, ◌<◌, ℕ, zero, suc, ◌+◌, ◌-◌, ◌*◌, ◌%◌, Bool, true, false, nat_le, if◌then◌else◌, List, [], ◌∷◌, ◌++◌, length, take, get_or, ℤ, pos, negsuc, Option, Some, Result, Ok, Err, OnOk, refl, sym, ap, ◌∙◌, subst, inl, inr, arith, length-take-le}
+use Rattle.std.specs.Prelude.{slice_get, is_err}
 use Rattle.std.proofs.lemmas.Int.{ints}
 use Rattle.std.proofs.lemmas.Bool.{leb-true}
-use Rattle.std.proofs.lemmas.Bool.Decides.{leb_tells, nat_tests}
+use Rattle.std.proofs.lemmas.Bool.Decides.{leb_tells}
 use Rattle.std.proofs.lemmas.List.{take_more}
 use Rattle.tm_table.specs.declared.instr.Op.{Op}
 use Rattle.tm_table.specs.declared.instr.Op.TheVariants.{Jal, Beq, Bne, Blt, Bge, Bltu, Bgeu}
@@ -137,3 +137,7 @@ far_first s k x (FarBranch from to) there before h =
     let P : ℕ → Type 0 = λ n. IsFirstFar s n to in
     subst P (sym h.0) (record { item = x; there = there; leads = h.1; far = h.2; first = before })
 far_first s k x NoMemory there before h = tt
+
+pub placed_more : (ps : List (Option ℕ)) (xs : List Item) (x : Item) → AllPlaced ps xs → HasPlace ps x → AllPlaced ps (xs ++ x ∷ [])
+placed_more ps [] x h g = (g, tt)
+placed_more ps (y ∷ xs) x h g = (h.0, placed_more ps xs x h.1 g)

@@ -1,5 +1,5 @@
 -- How one line of assembler text is read (this project).
-use Rattle.std.specs.Prelude.{ℕ, ◌+◌, ◌-◌, ◌*◌, ◌/◌, ◌%◌, ◌==◌, Bool, not, ◌&&◌, ◌||◌, nat_lt, if◌then◌else◌, ℤ, pos, negsuc, ◌-ℤ◌, int_le, unsigned_abs, List, [], ◌∷◌, length, take, drop, find, slice_index, bytes_eq, Option, Some, None, option_map, Result, Ok, Err}
+use Rattle.std.specs.Prelude.{ℕ, ◌+◌, ◌-◌, ◌*◌, ◌/◌, ◌%◌, ◌==◌, Bool, not, ◌&&◌, ◌||◌, nat_lt, if◌then◌else◌, ℤ, pos, negsuc, ◌-ℤ◌, int_le, unsigned_abs, List, [], ◌∷◌, length, drop, find, slice_index, bytes_eq, Option, Some, None, option_map, Result, Ok, Err}
 use Rattle.std.specs.List.{take_while, prefix_len, suffix_len}
 use Rattle.std.specs.Char.{is_digit, digit_value}
 use Rattle.tm_base.specs.declared.numbers.NumberFault.{NumberFault}

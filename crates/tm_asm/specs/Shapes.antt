@@ -1,13 +1,11 @@
 -- The names of the ops, and the table of their operands (this project; the names are those of RV64I 2.1 in lower case).
-use Rattle.std.specs.Prelude.{ℕ, ◌+◌, ◌==◌, ℤ, pos, negsuc, Bool, true, false, List, [], ◌∷◌, get_or, codes}
+use Rattle.std.specs.Prelude.{ℕ, ℤ, pos, negsuc, Bool, true, false, List, [], ◌∷◌, get_or, codes}
 use Rattle.tm_table.specs.declared.instr.Op.{Op}
 use Rattle.tm_table.specs.declared.instr.Op.TheVariants.{Lui, Auipc, Jal, Jalr, Beq, Bne, Blt, Bge, Bltu, Bgeu, Lb, Lh, Lw, Ld, Lbu, Lhu, Lwu, Sb, Sh, Sw, Sd, Addi, Slti, Sltiu, Xori, Ori, Andi, Slli, Srli, Srai, Add, Sll, Slt, Sltu, Xor, Srl, Or, And, Sub, Sra, Addiw, Slliw, Srliw, Sraiw, Addw, Sllw, Srlw, Subw, Sraw, Fence, Ecall, Ebreak}
 use Rattle.tm_asm.specs.declared.shape.Slot.{Slot}
 use Rattle.tm_asm.specs.declared.shape.Slot.TheVariants.{Rd, Rs1, Rs2}
-use Rattle.tm_asm.specs.declared.shape.Side.{Side}
 use Rattle.tm_asm.specs.declared.shape.Side.TheVariants.{Before, After}
 use Rattle.tm_asm.specs.declared.shape.Range.{Range}
-use Rattle.tm_asm.specs.declared.shape.Operand.{Operand}
 use Rattle.tm_asm.specs.declared.shape.Operand.TheVariants.{Register, Number, Set}
 use Rattle.tm_asm.specs.declared.shape.Piece.{Piece}
 use Rattle.tm_asm.specs.declared.shape.Piece.TheVariants.{Take, Mark}

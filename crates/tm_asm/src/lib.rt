@@ -13,3 +13,5 @@ pub use fault::{AsmFault, CodeFault};
 pub use print::print_line;
 pub use read::parse_line;
 
+#[cfg(test)]
+mod tests;

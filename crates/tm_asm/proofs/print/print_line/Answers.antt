@@ -1,4 +1,4 @@
-use Rattle.std.proofs.Common.{◌≡◌, ◌≤◌, ◌+◌, ◌++◌, length, drop, get_or, arith, sym, ap, ◌∙◌, append_assoc, append-nil, length-append, subst, List, ℕ, OnOk}
+use Rattle.std.proofs.Common.{◌+◌, length, drop, get_or, arith, sym, ap, ◌∙◌, append_assoc, append-nil, length-append}
 use Rattle.tm_asm.specs.Shapes.{name_of, shape_of, pieces_of}
 use Rattle.tm_asm.specs.Printing.{printed, gap, piece_text, pieces_text}
 use Rattle.tm_asm.specs.declared.shape.Slot.TheVariants.{Rd}

@@ -1,5 +1,4 @@
-use Rattle.std.proofs.Common.{◌≡◌, ◌+◌, length, Some, None, sym}
-use Rattle.tm_asm.specs.Reading.{line_of, after_blanks, name_at, op_of}
+use Rattle.tm_asm.specs.Reading.{line_of}
 use Rattle.tm_asm.proofs.Cutting.{name-is, name-size}
 use Rattle.tm_asm.proofs.read.parse_line.Goals as goal
 

@@ -1,5 +1,5 @@
-use Rattle.std.proofs.Common.{◌≡◌, ◌≢◌, ◌+◌, length, sym, ◌∙◌}
-use Rattle.tm_asm.specs.Reading.{operand, taken, and_place}
+use Rattle.std.proofs.Common.{◌≢◌, length, sym, ◌∙◌}
+use Rattle.tm_asm.specs.Reading.{operand}
 use Rattle.tm_asm.proofs.Cutting.{operand-is, operand-size, taken-none, taken-some}
 use Rattle.tm_asm.proofs.read.take_operand.Goals as goal
 

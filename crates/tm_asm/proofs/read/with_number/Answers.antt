@@ -1,4 +1,4 @@
-use Rattle.std.proofs.Common.{◌≡◌, arith, refl, to_z, of_z, w64, sym}
+use Rattle.std.proofs.Common.{◌≡◌, arith, refl, to_z, of_z, w64}
 use Rattle.std.proofs.lemmas.Int.{to_z-of_z, ints}
 use mir.Syntax.{w128}
 use Rattle.tm_asm.proofs.read.with_number.Goals as goal
