@@ -2,6 +2,4 @@ pub mod Cutting
 pub mod Cut
 pub mod Back
 pub mod Printed
-pub mod Words
-pub mod Append
 mod Rows

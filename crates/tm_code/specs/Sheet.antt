@@ -4,10 +4,10 @@ use Rattle.tm_table.specs.declared.instr.Op.{Op}
 use Rattle.tm_table.specs.declared.instr.Op.TheVariants.{Jal, Beq, Bne, Blt, Bge, Bltu, Bgeu}
 use Rattle.tm_table.specs.declared.instr.Instr.{Instr}
 use Rattle.tm_table.specs.Words.{Fits, word_of}
-use Rattle.tm_asm.specs.declared.code.Item.{Item}
-use Rattle.tm_asm.specs.declared.fault.CodeFault.{CodeFault}
-use Rattle.tm_asm.specs.declared.fault.CodeFault.TheVariants.{FarBranch, NoMemory}
-use Rattle.tm_asm.specs.declared.code.Item.TheVariants.{Plain, Branch, Jump}
+use Rattle.tm_code.specs.declared.code.Item.{Item}
+use Rattle.tm_code.specs.declared.fault.CodeFault.{CodeFault}
+use Rattle.tm_code.specs.declared.fault.CodeFault.TheVariants.{FarBranch, NoMemory}
+use Rattle.tm_code.specs.declared.code.Item.TheVariants.{Plain, Branch, Jump}
 
 -- the words put so far, and the places of the labels that have one, in words from the first
 pub record Sheet : Type 0 where

@@ -6,10 +6,10 @@ use Rattle.std.proofs.lemmas.Option.{slice_get_within}
 use Rattle.std.proofs.lemmas.Bool.Decides.{nat_tests}
 use Rattle.tm_table.specs.declared.instr.Op.{Op}
 use Rattle.tm_table.specs.declared.instr.Instr.{Instr}
-use Rattle.tm_asm.specs.declared.code.Item.{Item}
-use Rattle.tm_asm.specs.declared.code.Item.TheVariants.{Plain, Branch, Jump}
-use Rattle.tm_asm.specs.Sheet.{Sheet, Appends, AppendsFor, KeepsPlaces, KeepsOpen, instrs, resolved, branching, jumping, distance, placed, place_of}
-use Rattle.tm_asm.proofs.Words.{instrs-append}
+use Rattle.tm_code.specs.declared.code.Item.{Item}
+use Rattle.tm_code.specs.declared.code.Item.TheVariants.{Plain, Branch, Jump}
+use Rattle.tm_code.specs.Sheet.{Sheet, Appends, AppendsFor, KeepsPlaces, KeepsOpen, instrs, resolved, branching, jumping, distance, placed, place_of}
+use Rattle.tm_code.proofs.Words.{instrs-append}
 
 pub appends_nothing : (s : Sheet) → Appends s s []
 appends_nothing s = record { extra = []; items = sym (append-nil s.items); places = λ label p h. h; open' = λ label h. h; words = λ ps h. refl }

@@ -2,6 +2,7 @@
 use Rattle.std.proofs.Common.{◌≡◌, ◌≤◌, ◌<◌, ℕ, zero, suc, ◌+◌, ◌-◌, ◌*◌, ◌%◌, Bool, true, false, nat_le, if◌then◌else◌, List, [], ◌∷◌, ◌++◌, length, take, get_or, ℤ, pos, negsuc, Option, Some, Result, Ok, Err, OnOk, refl, sym, ap, ◌∙◌, subst, inl, inr, arith, length-take-le}
 use Rattle.std.specs.Prelude.{slice_get, is_err}
 use Rattle.std.proofs.lemmas.Int.{ints}
+use Rattle.std.proofs.Math.Bool.{and-true}
 use Rattle.std.proofs.lemmas.Bool.{leb-true}
 use Rattle.std.proofs.lemmas.Bool.Decides.{leb_tells}
 use Rattle.std.proofs.lemmas.List.{take_more}
@@ -9,12 +10,11 @@ use Rattle.tm_table.specs.declared.instr.Op.{Op}
 use Rattle.tm_table.specs.declared.instr.Op.TheVariants.{Jal, Beq, Bne, Blt, Bge, Bltu, Bgeu}
 use Rattle.tm_table.specs.declared.instr.Instr.{Instr}
 use Rattle.tm_table.specs.Words.{low, Fits, From, word_of}
-use Rattle.tm_asm.specs.declared.code.Item.{Item}
-use Rattle.tm_asm.specs.declared.code.Item.TheVariants.{Plain, Branch, Jump}
-use Rattle.tm_asm.specs.declared.fault.CodeFault.{CodeFault}
-use Rattle.tm_asm.specs.declared.fault.CodeFault.TheVariants.{FarBranch, NoMemory}
-use Rattle.tm_asm.specs.Sheet.{Sheet, IsFar, IsFarAt, IsFirstFar, IsGood, AllGood, HasPlace, AllPlaced, is_branch, instrs, words_of, resolved, reaches, branch_reaches, jump_reaches, distance, place_of}
-use Rattle.tm_asm.proofs.Cut.{and_parts}
+use Rattle.tm_code.specs.declared.code.Item.{Item}
+use Rattle.tm_code.specs.declared.code.Item.TheVariants.{Plain, Branch, Jump}
+use Rattle.tm_code.specs.declared.fault.CodeFault.{CodeFault}
+use Rattle.tm_code.specs.declared.fault.CodeFault.TheVariants.{FarBranch, NoMemory}
+use Rattle.tm_code.specs.Sheet.{Sheet, IsFar, IsFarAt, IsFirstFar, IsGood, AllGood, HasPlace, AllPlaced, is_branch, instrs, words_of, resolved, reaches, branch_reaches, jump_reaches, distance, place_of}
 
 good_more : (xs : List Item) (x : Item) → AllGood xs → IsGood x → AllGood (xs ++ x ∷ [])
 good_more [] x h g = (g, tt)
@@ -70,8 +70,7 @@ branch_fine from to h =
       | inr t ↦
           let e = t.0 in
           let n = 4 * (from - to) - 1 in
-          let p = and_parts (nat_le n 4095) true (rw e at h) in
-          let top : n ≤ 4095 = leb-true n 4095 p.0 in
+          let top : n ≤ 4095 = leb-true n 4095 (sym (and-true (nat_le n 4095)) ∙ rw e at h) in
           rw e ((omega (arith, ints), omega (arith, ints)), omega arith)
     ]
 
@@ -86,8 +85,7 @@ jump_fine from to h =
       | inr t ↦
           let e = t.0 in
           let n = 4 * (from - to) - 1 in
-          let p = and_parts (nat_le n 1048575) true (rw e at h) in
-          let top : n ≤ 1048575 = leb-true n 1048575 p.0 in
+          let top : n ≤ 1048575 = leb-true n 1048575 (sym (and-true (nat_le n 1048575)) ∙ rw e at h) in
           rw e ((omega (arith, ints), omega (arith, ints)), omega arith)
     ]
 

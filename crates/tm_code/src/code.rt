@@ -1,8 +1,8 @@
 // Labelled code.
 ghost use Rattle.std.specs.Prelude.{◌≡◌, ℕ, ◌<◌, ◌≤◌, ◌↔◌, List, [], ◌∷◌, ◌++◌, length, true, false, Option, Some, None, IfOk, IfErr, IfSome, IsSome, OnOk, OnErr, slice_get, slice_set};
 ghost use Rattle.tm_table.specs.Words.{Fits};
-ghost use Rattle.tm_asm.specs.Sheet.{Sheet, AllGood, AllPlaced, AllReach, IsFar, IsFarAt, HasPlace, IsWithin, is_branch, instrs, words_of, distance, reaches, resolved, place_of as own_place_of};
-ghost use Rattle.tm_asm.specs.declared.code.Item.TheVariants.{Plain, Branch, Jump};
+ghost use Rattle.tm_code.specs.Sheet.{Sheet, AllGood, AllPlaced, AllReach, IsFar, IsFarAt, HasPlace, IsWithin, is_branch, instrs, words_of, distance, reaches, resolved, place_of as own_place_of};
+ghost use Rattle.tm_code.specs.declared.code.Item.TheVariants.{Plain, Branch, Jump};
 
 use crate::fault::CodeFault;
 use std::alloc::Global;

@@ -3,11 +3,11 @@ use Rattle.std.proofs.lemmas.Result.{err_from_is_err_and}
 use Rattle.std.proofs.lemmas.Option.{slice_get_within}
 use Rattle.std.specs.Prelude.{is_err}
 use Rattle.tm_table.specs.declared.instr.Op.TheVariants.{Lui}
-use Rattle.tm_asm.specs.declared.code.Item.{Item}
-use Rattle.tm_asm.specs.declared.code.Item.TheVariants.{Plain}
-use Rattle.tm_asm.specs.Sheet.{Sheet}
-use Rattle.tm_asm.proofs.Words.{good_at, placed_at, get_at, words-more, fits_resolved, pushed, near_more, far_first}
-use Rattle.tm_asm.proofs.code.Code.finish.Goals as goal
+use Rattle.tm_code.specs.declared.code.Item.{Item}
+use Rattle.tm_code.specs.declared.code.Item.TheVariants.{Plain}
+use Rattle.tm_code.specs.Sheet.{Sheet}
+use Rattle.tm_code.proofs.Words.{good_at, placed_at, get_at, words-more, fits_resolved, pushed, near_more, far_first}
+use Rattle.tm_code.proofs.code.Code.finish.Goals as goal
 
 -- what stands in for an item where there is none
 abbrev nothing : Item

@@ -1,6 +1,6 @@
 use Rattle.std.proofs.Common.{◌≡◌, ℕ, [], ◌∷◌, Some, None}
-use Rattle.tm_asm.specs.Sheet.{AllPlaced}
-use Rattle.tm_asm.proofs.tests.branch_to.Given as goal
+use Rattle.tm_code.specs.Sheet.{AllPlaced}
+use Rattle.tm_code.proofs.tests.branch_to.Given as goal
 
 abbrev pub invariant-loop : goal.invariant-loop
 invariant-loop g l = record {
