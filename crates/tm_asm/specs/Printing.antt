@@ -34,10 +34,12 @@ operand_text (Set s) i = set_text (set_in s i)
 unfoldable pub mark_text : ℕ → List ℕ
 mark_text m = m ∷ (if m == 44 then 32 ∷ [] else [])
 
+-- a piece of an instruction, printed
 abbrev pub piece_text : Piece → Instr → List ℕ
 piece_text (Take o) i = operand_text o i
 piece_text (Mark m) i = mark_text m
 
+-- pieces of an instruction, printed one behind the other
 unfoldable pub pieces_text : List Piece → Instr → List ℕ
 pieces_text [] i = []
 pieces_text (p ∷ ps) i = piece_text p i ++ pieces_text ps i

@@ -59,6 +59,7 @@ abbrev pub value_of : Result ℕ NumberFault → Option ℕ
 value_of (Ok n) = Some n
 value_of (Err e) = None
 
+-- the number below zero
 abbrev pub negative : ℕ → ℤ
 negative n = pos 0 -ℤ pos n
 
@@ -92,6 +93,7 @@ abbrev pub set_before : ℤ → ℕ
 set_before (pos n) = n % 256 / 16
 set_before (negsuc n) = 0
 
+-- the set after, of the two that an immediate holds
 abbrev pub set_after : ℤ → ℕ
 set_after (pos n) = n % 16
 set_after (negsuc n) = 0
@@ -140,6 +142,7 @@ piece_reading text (Take o) at i = taken o text at i (operand text at)
 piece_reading text (Mark m) at i =
     if nat_lt at (length text) && slice_index text at == m then Ok (at + 1, i) else Err (BadShape (wanted text at))
 
+-- what comes after a piece that was read; the fault where it wasn't
 abbrev pub and_then : Result (ℕ × Instr) AsmFault → (ℕ → Instr → Result Instr AsmFault) → Result Instr AsmFault
 and_then (Ok p) next = next p.0 p.1
 and_then (Err e) next = Err e

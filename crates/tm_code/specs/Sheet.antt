@@ -32,6 +32,7 @@ distance from to = if nat_le from to then pos (4 * (to - from)) else negsuc (4 *
 abbrev pub branching : Op → ℕ → ℕ → ℤ → Instr
 branching op rs1 rs2 offset = record { op = op; rd = 0; rs1 = rs1; rs2 = rs2; imm = offset }
 
+-- a jump by an offset, with the register of its link (RV64I 2.1)
 abbrev pub jumping : ℕ → ℤ → Instr
 jumping rd offset = record { op = Jal; rd = rd; rs1 = 0; rs2 = 0; imm = offset }
 
