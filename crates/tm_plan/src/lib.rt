@@ -2,6 +2,7 @@
 #![tactic(auto)]
 
 mod addresses;
+mod admitted;
 mod bytes;
 mod cases;
 mod journal;
@@ -9,6 +10,7 @@ mod masks;
 mod program;
 
 pub use addresses::{flag_addr, private_base, save_addr, table_addr, verdict_addr, window_base};
+pub use admitted::{Admitted, AdmittedCase, Slot, SlotList};
 pub use bytes::tables;
 pub use cases::{Case, Cases, Kind2, Stream, Window};
 pub use journal::{Event, Journal};
