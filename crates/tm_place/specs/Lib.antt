@@ -2,4 +2,5 @@ pub mod Numbers
 pub mod Limits
 pub mod Sharing
 pub mod Placed
+pub mod Ruled
 pub mod Laws
