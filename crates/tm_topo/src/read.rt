@@ -2,6 +2,7 @@ ghost use Rattle.std.specs.Prelude.{◌≡◌, ◌≢◌, Ok, Err, Some, None, I
 ghost use Rattle.std.specs.BTreeMap.{keys, IsOrdered};
 ghost use Rattle.std.specs.String.{string_cmp};
 ghost use Rattle.toml.specs.View.{table_view};
+ghost use Rattle.tm_topo.specs.Limits.{IsInRange};
 ghost use Rattle.tm_topo.specs.Reading as reading;
 
 use crate::{TopoFault, TopoKey, Topology};
@@ -14,6 +15,7 @@ use toml::Table;
 pub fn parse_topology(alloc: Global, text: &[u8]) -> Result<Topology, TopoFault>
     ensures ok { IfOk result (λ t. reading.topology_of text.now ≡ Ok t) }
     ensures err { IfErr result (λ e. e ≢ TopoFault.NoMemory → reading.topology_of text.now ≡ Err e) }
+    ensures range { IfOk result IsInRange }
 {
     let table = match toml::table_from_slice(alloc, text) {
         Ok(table) => table,
