@@ -1,0 +1,9 @@
+//! The two input texts of an image: the test that they ask for, or their first fault.
+#![tactic(auto)]
+
+mod fault;
+mod late;
+mod role;
+
+pub use fault::{BuildFault, InputFault};
+pub use role::Role;
