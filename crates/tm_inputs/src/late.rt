@@ -65,7 +65,7 @@ fn late_slot(slots: &[SlotDecl]) -> Option<Pos>
     }
 }
 
-#[tactic(auto, unfolding(crate::specs::Late::body_marks, crate::specs::Late::first_late), using(crate::proofs::LateLemmas::first_of_both))]
+#[tactic(auto, unfolding(crate::specs::Late::body_marks, crate::specs::Late::first_late), using(crate::proofs::LateLemmas::none_then, crate::proofs::LateLemmas::some_stays))]
 fn late_body(bodies: &[BodyDecl]) -> Option<Pos>
     ensures { result ≡ late.first_late (late.body_marks bodies.now) }
 {
@@ -78,7 +78,7 @@ fn late_body(bodies: &[BodyDecl]) -> Option<Pos>
     }
 }
 
-#[tactic(auto, unfolding(crate::specs::Late::case_marks, crate::specs::Late::first_late), using(crate::proofs::LateLemmas::first_of_both))]
+#[tactic(auto, unfolding(crate::specs::Late::case_marks, crate::specs::Late::first_late), using(crate::proofs::LateLemmas::none_then, crate::proofs::LateLemmas::some_stays))]
 fn late_case(may: bool, cases: &[CaseDecl]) -> Option<Pos>
     ensures { result ≡ late.first_late (late.case_marks may cases.now) }
 {
@@ -95,7 +95,7 @@ fn late_case(may: bool, cases: &[CaseDecl]) -> Option<Pos>
 }
 
 /// Where the first statement of a template stands that isn't built yet.
-#[tactic(auto, unfolding(crate::specs::Late::late_in, crate::specs::Late::marks_of, crate::specs::Late::first_late), using(crate::proofs::LateLemmas::first_of_both))]
+#[tactic(auto, unfolding(crate::specs::Late::late_in, crate::specs::Late::marks_of, crate::specs::Late::first_late), using(crate::proofs::LateLemmas::none_then, crate::proofs::LateLemmas::some_stays))]
 pub fn late_in(t: &Template) -> Option<Pos>
     ensures { result ≡ late.late_in t.now }
 {
