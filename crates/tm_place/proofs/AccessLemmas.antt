@@ -112,7 +112,7 @@ may_load-nowhere s h b width wide none m =
 pub same-test : (a b : ℕ) → IsTrue (nat_eq a b) → a ≡ b
 same-test a b t = grind (arith, nat_tests)
 
-test-same : (a b : ℕ) → a ≡ b → IsTrue (nat_eq a b)
+pub test-same : (a b : ℕ) → a ≡ b → IsTrue (nat_eq a b)
 test-same a b e = grind (arith, nat_tests)
 
 -- Byte r of line j of window v, which stands at b, where an aligned access begins.

@@ -1,13 +1,14 @@
 -- Where a byte stands in the windows.
-use Rattle.std.proofs.Common.{◌≡◌, ◌≤◌, ◌<◌, ℕ, zero, suc, ◌+◌, ◌-◌, ◌*◌, ◌/◌, ◌%◌, refl, inl, inr, sym, ◌∙◌, ap, subst, arith, Option, Some, None, List, [], ◌∷◌, slice_get, get_or}
+use Rattle.std.proofs.Common.{◌≡◌, ◌≤◌, ◌<◌, ℕ, zero, suc, ◌+◌, ◌-◌, ◌*◌, ◌/◌, ◌%◌, refl, inl, inr, sym, ◌∙◌, ap, subst, arith, Option, Some, None, List, [], ◌∷◌, slice_get, get_or, IsTrue}
 use Rattle.std.proofs.Math.Nat.{mod-lt}
 use Rattle.std.proofs.lemmas.Nat.{div-add-mod'}
 use Rattle.tm_plan.specs.declared.cases.Window.{Window}
 use Rattle.tm_plan.specs.Map.{window_at, windows_base}
 use Rattle.tm_place.specs.declared.placement.Placement.{Placement}
+use Rattle.tm_place.specs.Numbers.{is_line_size, part_size}
 use Rattle.tm_place.specs.Limits.{IsWindow}
 use Rattle.tm_place.specs.Sharing.{Sharing, StandsAt, IsWidth}
-use Rattle.tm_place.specs.Placed.{standing, sharing_of}
+use Rattle.tm_place.specs.Placed.{standing, sharing_by, sharing_of}
 use Rattle.tm_place.proofs.PartLemmas.{IsSize, line_size-cases, part_size-some, size-some}
 
 -- What is used of the limits.
@@ -29,12 +30,17 @@ standing-read (None ∷ shape) zero = refl
 standing-read (Some v ∷ shape) zero = refl
 standing-read (o ∷ shape) (suc n) = standing-read shape n
 
-pub sound-of : (p : Placement) → Sound (sharing_of p)
-sound-of p = record {
-  size = line_size-cases p.line p.limits.size;
-  some = rw p.limits.share (part_size-some p.line p.harts);
-  windows = λ w v h. p.limits.windows w v (standing-some (slice_get p.shape w) v h);
+-- the sharing of a shape within the limits
+pub sound-by : (harts line part : ℕ) (shape : List (Option Window)) → IsTrue (is_line_size line) → part ≡ part_size line harts
+    → ((w : ℕ) (v : Window) → slice_get shape w ≡ Some (Some v) → IsWindow harts line w v) → Sound (sharing_by harts line part shape)
+sound-by harts line part shape size share windows = record {
+  size = line_size-cases line size;
+  some = rw share (part_size-some line harts);
+  windows = λ w v h. windows w v (standing-some (slice_get shape w) v h);
 }
+
+pub sound-of : (p : Placement) → Sound (sharing_of p)
+sound-of p = sound-by p.harts p.line p.part p.shape p.limits.size p.limits.share p.limits.windows
 
 -- number, line and byte of a place in a window, as they follow from its address
 abbrev Numbers : (line n j r b : ℕ) → Type 0
@@ -145,12 +151,14 @@ pub nowhere-below : (s : Sharing) (b : ℕ) → Sound s → b < 0x80E80000 → (
 nowhere-below s b sound low v j r stands = let at_it = stands-spotted s b v j r sound stands in omega arith
 
 -- an address in no window
+pub nowhere-none : (s : Sharing) (b : ℕ) → Sound s → s.window ((b - 0x80E80000) / 2048) ≡ None → (v : Window) (j r : ℕ) → ¬ StandsAt s b v j r
+nowhere-none s b sound none v j r stands =
+    let at_it = stands-spotted s b v j r sound stands in
+    let there : s.window ((b - 0x80E80000) / 2048) ≡ Some v = rw at_it.number stands.declared in
+    let wrong : None ≡ Some v = sym none ∙ there in cc
+
 pub nowhere-unless : (p : Placement) (b : ℕ) → get_or p.shape ((b - 0x80E80000) / 2048) None ≡ None → (v : Window) (j r : ℕ) → ¬ StandsAt (sharing_of p) b v j r
-nowhere-unless p b none v j r stands =
-    let at_it = stands-spotted (sharing_of p) b v j r (sound-of p) stands in
-    let there : standing (slice_get p.shape ((b - 0x80E80000) / 2048)) ≡ Some v = rw at_it.number stands.declared in
-    let absent = standing-read p.shape ((b - 0x80E80000) / 2048) ∙ none in
-    let wrong : None ≡ Some v = sym absent ∙ there in cc
+nowhere-unless p b none = nowhere-none (sharing_of p) b (sound-of p) (standing-read p.shape ((b - 0x80E80000) / 2048) ∙ none)
 
 -- an address above the windows
 pub nowhere-above : (s : Sharing) (b : ℕ) → Sound s → 3 ≤ (b - 0x80E80000) / 2048 → (v : Window) (j r : ℕ) → ¬ StandsAt s b v j r
@@ -159,17 +167,21 @@ nowhere-above s b sound high v j r stands =
     let low = (sound.windows v.number v stands.declared).below in omega arith
 
 -- a line that isn't declared
-pub nowhere-line : (p : Placement) (b : ℕ) (u : Window) → get_or p.shape ((b - 0x80E80000) / 2048) None ≡ Some u → u.lines ≤ (b - 0x80E80000) % 2048 / p.line
-    → (v : Window) (j r : ℕ) → ¬ StandsAt (sharing_of p) b v j r
-nowhere-line p b u read high v j r stands =
-    let at_it = stands-spotted (sharing_of p) b v j r (sound-of p) stands in
-    let there : standing (slice_get p.shape ((b - 0x80E80000) / 2048)) ≡ Some v = rw at_it.number stands.declared in
-    let same : Some u ≡ Some v = sym read ∙ (sym (standing-read p.shape ((b - 0x80E80000) / 2048)) ∙ there) in
+pub nowhere-past : (s : Sharing) (b : ℕ) (u : Window) → Sound s → s.window ((b - 0x80E80000) / 2048) ≡ Some u → u.lines ≤ (b - 0x80E80000) % 2048 / s.line
+    → (v : Window) (j r : ℕ) → ¬ StandsAt s b v j r
+nowhere-past s b u sound read high v j r stands =
+    let at_it = stands-spotted s b v j r sound stands in
+    let there : s.window ((b - 0x80E80000) / 2048) ≡ Some v = rw at_it.number stands.declared in
+    let same : Some u ≡ Some v = sym read ∙ there in
     let window : u ≡ v = cc in
     let lines : u.lines ≡ v.lines = ap (λ (x : Window). x.lines) window in
     let low = stands.line in
     let line = at_it.line in
     omega arith
+
+pub nowhere-line : (p : Placement) (b : ℕ) (u : Window) → get_or p.shape ((b - 0x80E80000) / 2048) None ≡ Some u → u.lines ≤ (b - 0x80E80000) % 2048 / p.line
+    → (v : Window) (j r : ℕ) → ¬ StandsAt (sharing_of p) b v j r
+nowhere-line p b u read = nowhere-past (sharing_of p) b u (sound-of p) (standing-read p.shape ((b - 0x80E80000) / 2048) ∙ read)
 
 -- a declared line
 pub stands-found : (p : Placement) (b : ℕ) (v : Window) → 0x80E80000 ≤ b → get_or p.shape ((b - 0x80E80000) / 2048) None ≡ Some v

@@ -1,5 +1,5 @@
 -- Tests that no rule refuses: all of their numbers, registers, accesses and targets are as streams need them. Source: this project.
-use Rattle.std.specs.Prelude.{ℕ, ◌+◌, ◌*◌, ◌%◌, ◌==◌, ◌<◌, ◌≤◌, ◌≡◌, ◌≢◌, IsTrue, IsFalse, List, length, find, slice_get, Some, All, AllPairs}
+use Rattle.std.specs.Prelude.{ℕ, ◌+◌, ◌-◌, ◌*◌, ◌%◌, ◌==◌, ◌<◌, ◌≤◌, ◌≡◌, ◌≢◌, IsTrue, IsFalse, List, length, find, slice_get, Some, All, AllPairs}
 use Rattle.tm_table.specs.declared.instr.Instr.{Instr}
 use Rattle.tm_table.specs.Words.{low, Fits}
 use Rattle.tm_plan.specs.Slots.{is_access, is_barred, is_jump, load_width, store_width, slot_addr, slot_target}
@@ -10,10 +10,18 @@ use Rattle.tm_plan.specs.declared.admitted.Slot.TheVariants.{Emit, Mix}
 use Rattle.tm_plan.specs.declared.admitted.AdmittedCase.{AdmittedCase}
 use Rattle.tm_plan.specs.declared.admitted.Admitted.{Admitted}
 use Rattle.tm_place.specs.Numbers.{is_line_size, part_size}
-use Rattle.tm_place.specs.Sharing.{Sharing, MayStore, MayLoad}
+use Rattle.tm_place.specs.Sharing.{Sharing, StandsAt, MayStore, MayLoad}
+
+-- The access of an instruction begins in a declared line of the window whose base its first register holds (this project).
+pub record IsBased (s : Sharing) (i : Instr) : Type 0 where
+  pub window : Window
+  pub line : ℕ
+  pub byte : ℕ
+  pub base : window.number ≡ i.rs1 - 28
+  pub stands : StandsAt s (slot_addr i) window line byte
 
 -- An instruction that hart h runs in slot n of len: it fits and may stand in a stream, its registers are x0 to x27 beside the base of an
--- access, its access is allowed to the hart, and it goes to a slot behind it, or to the end (this project).
+-- access, its access lies in the window of its base and is allowed to the hart, and it goes to a slot behind it, or to the end (this project).
 pub record IsRuledEmit (s : Sharing) (h len n : ℕ) (i : Instr) : Type 0 where
   pub fits : Fits i
   pub allowed : IsFalse (is_barred i.op)
@@ -21,6 +29,7 @@ pub record IsRuledEmit (s : Sharing) (h len n : ℕ) (i : Instr) : Type 0 where
   pub second : i.rs2 ≤ 27
   pub first : IsFalse (is_access i.op) → i.rs1 ≤ 27
   pub base : IsTrue (is_access i.op) → (28 ≤ i.rs1) × (i.rs1 ≤ 30)
+  pub place : IsTrue (is_access i.op) → IsBased s i
   pub loads : load_width i.op ≢ 0 → MayLoad s h (slot_addr i) (load_width i.op)
   pub stores : store_width i.op ≢ 0 → MayStore s h (slot_addr i) (store_width i.op)
   pub target : IsTrue (is_jump i.op) → (low 64 i.imm % 4 ≡ 0) × (n < slot_target n i) × (slot_target n i ≤ len)

@@ -1,6 +1,7 @@
 ghost use Rattle.std.specs.Prelude.{◌<◌, ◌↔◌, ◌≡◌, ◌%◌, IsTrue};
 ghost use Rattle.tm_place.specs.Sharing.{IsWidth, MayStore, MayLoad};
 ghost use Rattle.tm_place.specs.Placed.{sharing_of};
+ghost use Rattle.tm_place.specs.Allowed.{may_store_at, may_load_at};
 
 use crate::placement::Placement;
 use crate::spot::spot_of;
@@ -10,7 +11,8 @@ use tm_plan::Kind2;
 pub fn may_store(p: &Placement, h: u32, addr: u64, width: u8) -> bool
     requires hart { h < p.now.harts }
     requires width { IsWidth width }
-    ensures { IsTrue result ↔ MayStore (sharing_of p.now) h addr width }
+    ensures allowed { IsTrue result ↔ MayStore (sharing_of p.now) h addr width }
+    ensures computed { result ≡ may_store_at p.now.harts p.now.line p.now.part p.now.shape h addr width }
 {
     if addr % u64::from(width) != 0 {
         return false;
@@ -33,7 +35,8 @@ pub fn may_store(p: &Placement, h: u32, addr: u64, width: u8) -> bool
 pub fn may_load(p: &Placement, h: u32, addr: u64, width: u8) -> bool
     requires hart { h < p.now.harts }
     requires width { IsWidth width }
-    ensures { IsTrue result ↔ MayLoad (sharing_of p.now) h addr width }
+    ensures allowed { IsTrue result ↔ MayLoad (sharing_of p.now) h addr width }
+    ensures computed { result ≡ may_load_at p.now.harts p.now.line p.now.part p.now.shape h addr width }
 {
     if addr % u64::from(width) != 0 {
         return false;

@@ -1,0 +1,3 @@
+pub mod Teams
+pub mod Slots
+pub mod Laws
