@@ -1,10 +1,10 @@
 -- The test that a template asks for: for each case and hart the slots that the hart runs, written out. This project's own.
-use Rattle.std.specs.Prelude.{ℕ, pos, List, [], ◌∷◌, map, find, flat_map, replicate, Option, Some, None, Result, Ok, Err}
-use Rattle.std.specs.List.{range_with_len}
+use Rattle.std.specs.Prelude.{ℕ, ◌≡◌, pos, List, [], ◌∷◌, map, find, flat_map, replicate, Option, Some, None, Result, Ok, Err}
 use Rattle.tm_table.specs.declared.instr.Op.TheVariants.{Addi}
 use Rattle.tm_table.specs.declared.instr.Instr.{Instr}
 use Rattle.tm_asm.specs.declared.fault.AsmFault.{AsmFault}
 use Rattle.tm_asm.specs.Reading.{line_of}
+use Rattle.tm_plan.specs.Collected.{count_from}
 use Rattle.tm_plan.specs.declared.admitted.Slot.{Slot}
 use Rattle.tm_plan.specs.declared.admitted.Slot.TheVariants as slot
 use Rattle.tm_plan.specs.declared.admitted.AdmittedCase.{AdmittedCase}
@@ -19,6 +19,9 @@ use Rattle.tm_tmpl.specs.declared.template.Template.{Template}
 use Rattle.tm_topo.specs.declared.system.Topology.{Topology}
 use Rattle.tm_checks.specs.Teams.{harts_of, in_team}
 use Rattle.tm_rules.specs.Windows.{windows_of}
+use Rattle.tm_rules.specs.Rules.{broken_rule}
+use Rattle.tm_admit.specs.declared.form.AdmitFault.{AdmitFault}
+use Rattle.tm_admit.specs.declared.form.AdmitFault.TheVariants.{Rule, NoMemory}
 
 -- `addi x0, x0, 0`, which changes nothing (RV64I 2.1)
 unfoldable pub nothing : Instr
@@ -49,7 +52,7 @@ hart_slots topo bodies h = slots_in (find (λ b. in_team topo b.whom h) bodies)
 
 -- a case, with the slots of each hart in order (this project)
 abbrev pub admitted_case : Topology → CaseDecl → AdmittedCase
-admitted_case topo c = record { name = c.name; bodies = map (hart_slots topo c.bodies) (range_with_len 0 (harts_of topo)) }
+admitted_case topo c = record { name = c.name; bodies = map (hart_slots topo c.bodies) (count_from 0 (harts_of topo)) }
 
 -- The test that a template asks for on this topology (this project).
 unfoldable pub admitted_of : Topology → Template → Admitted
@@ -63,3 +66,8 @@ admitted_of topo t = record {
   windows = windows_of t.windows;
   cases = map (admitted_case topo) t.cases;
 }
+
+-- a template is refused for the first rule that it breaks; want of memory may come at any time (this project)
+abbrev pub IsCause : Topology → Template → AdmitFault → Type 0
+IsCause topo t (Rule broken) = broken_rule topo t ≡ Some broken
+IsCause topo t NoMemory = Unit {0}

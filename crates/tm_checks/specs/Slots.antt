@@ -1,5 +1,6 @@
 -- The rules of one slot of a body (this project's own). A rule of a statement is a check: the fault where it is broken.
 use Rattle.std.specs.Prelude.{ℕ, ◌+◌, ◌-◌, ◌*◌, ◌/◌, ◌%◌, ◌==◌, nat_le, nat_lt, Bool, true, false, ◌&&◌, not, if◌then◌else◌, ℤ, pos, negsuc, List, [], ◌∷◌, ◌++◌, find, get_or, Option, Some, None, option_map, is_some, Result, Ok, Err}
+use Rattle.std.specs.List.{list_any}
 use Rattle.tm_table.specs.declared.instr.Instr.{Instr}
 use Rattle.tm_asm.specs.declared.fault.AsmFault.{AsmFault}
 use Rattle.tm_asm.specs.Reading.{line_of}
@@ -8,7 +9,6 @@ use Rattle.tm_tmpl.specs.declared.template.Selector.{Selector}
 use Rattle.tm_plan.specs.declared.cases.Window.{Window}
 use Rattle.tm_plan.specs.Map.{window_at, within}
 use Rattle.tm_plan.specs.Slots.{is_access, is_barred, is_jump, load_width, store_width, slot_addr}
-use Rattle.tm_plan.specs.Collected.{any}
 use Rattle.tm_place.specs.Allowed.{may_store_at, may_load_at}
 use Rattle.tm_checks.specs.declared.fault.RuleFault.{RuleFault}
 use Rattle.tm_checks.specs.declared.fault.RuleFault.TheVariants.{NoWindow, Register, Asm, NotAllowed, BadPlace, NotOwner, Target, NoWeight}
@@ -120,7 +120,7 @@ weight_fault sum = broken (not (nat_le 1 sum && nat_le sum 1000000)) (NoWeight s
 
 -- a window is declared where loads or stores have a weight
 abbrev pub any_window_fault : List (Option Window) → ℕ → Option RuleFault
-any_window_fault shape accesses = broken (nat_lt 0 accesses && not (any is_some shape)) (NoWindow 0)
+any_window_fault shape accesses = broken (nat_lt 0 accesses && not (list_any is_some shape)) (NoWindow 0)
 
 -- The fault of four weights.
 unfoldable pub mix_fault : List (Option Window) → (alu load store branch : ℕ) → Option RuleFault

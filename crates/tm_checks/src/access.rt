@@ -6,7 +6,7 @@ ghost use Rattle.tm_checks.specs.Teams.{IsSystem, harts_of, team};
 ghost use Rattle.tm_checks.specs.Slots as rules;
 
 use crate::fault::RuleFault;
-use crate::ops::{load_width, store_width};
+use crate::ops::{is_access, load_width, store_width};
 use crate::teams::is_in_team;
 use tm_place::{Placement, may_load, may_store};
 use tm_plan::window_base;
@@ -14,14 +14,16 @@ use tm_table::Instr;
 use tm_tmpl::Selector;
 use tm_topo::Topology;
 
-/// The first rule that the access of a load or store breaks.
+/// The first rule that a load's or store's access breaks. Its base register holds the base of a window.
 pub fn access_fault(p: &Placement, topo: &Topology, whom: Selector, i: Instr) -> Option<RuleFault>
     requires system { IsSystem topo.now }
     requires harts { p.now.harts ≡ harts_of topo.now }
-    requires access { IsTrue (slots.is_access i.op) }
-    requires base { (28 ≤ i.rs1) × (i.rs1 ≤ 30) }
+    requires base { IsTrue (slots.is_access i.op) → (28 ≤ i.rs1) × (i.rs1 ≤ 30) }
     ensures { result ≡ rules.first (rules.access_checks p.now.line p.now.part p.now.shape topo.now whom i) }
 {
+    if !is_access(i.op) {
+        return None;
+    }
     let w = u32::from(i.rs1 - 28);
     let addr = slot_addr(i);
     match p.shape[w as usize] {

@@ -59,9 +59,7 @@ fn instr_fault(
     if let Some(fault) = register_fault(i) {
         return Some(fault);
     }
-    if is_access(i.op)
-        && let Some(fault) = access_fault(p, topo, whom, i)
-    {
+    if let Some(fault) = access_fault(p, topo, whom, i) {
         return Some(fault);
     }
     target_fault(slot, slots, i)

@@ -100,14 +100,15 @@ total_slots (d ∷ ds) = slots_in d.what + total_slots ds
 unfoldable pub slot_count : List SlotDecl → ℕ
 slot_count ds = min (total_slots ds) (2 ^ 64 - 1)
 
--- the fault of a statement of a body for a team, at slot n of len: that of the emit, or of the mix (this project)
-unfoldable pub slot_fault : Topology → List Window → Selector → (len n : ℕ) → SlotText → Option RuleFault
-slot_fault topo windows whom len n (Emit text) = emit_fault topo.line (part_size topo.line (harts_of topo)) (shape_of windows) topo whom n len text
-slot_fault topo windows whom len n (Mix count alu load store branch) = mix_fault (shape_of windows) alu load store branch
+-- the fault of a statement of a body for a team, at slot n of len, where window w stands at place w of a shape: that of the emit, or
+-- of the mix (this project)
+unfoldable pub slot_fault : Topology → (shape : List (Option Window)) → Selector → (len n : ℕ) → SlotText → Option RuleFault
+slot_fault topo shape whom len n (Emit text) = emit_fault topo.line (part_size topo.line (harts_of topo)) shape topo whom n len text
+slot_fault topo shape whom len n (Mix count alu load store branch) = mix_fault shape alu load store branch
 
 -- the check of a statement of a body behind those before it, which stand for the slots before it (this project)
-unfoldable pub slot_checks : Topology → List Window → Selector → (len : ℕ) → List SlotDecl → SlotDecl → List Check
-slot_checks topo windows whom len before d = (d.at, slot_fault topo windows whom len (total_slots before) d.what) ∷ []
+unfoldable pub slot_checks : Topology → (shape : List (Option Window)) → Selector → (len : ℕ) → List SlotDecl → SlotDecl → List Check
+slot_checks topo shape whom len before d = (d.at, slot_fault topo shape whom len (total_slots before) d.what) ∷ []
 
 -- ---- bodies
 
@@ -133,35 +134,31 @@ has_body topo bodies h = list_any (λ b. in_team topo b.whom h) bodies
 unfoldable pub twice_fault : Topology → List BodyDecl → Selector → Option RuleFault
 twice_fault topo before whom = option_map TwiceBody (find (has_body topo before) (team topo whom))
 
--- the fault of a body's slots, unless there are 1 to 256 (this project)
-abbrev pub count_fault : ℕ → Option RuleFault
-count_fault n = unless (nat_le 1 n && nat_le n 256) (Slots n)
-
--- the rules of a body behind those before it in its case: its selector names what is there, no hart of its team has an earlier
--- body, and it has 1 to 256 slots (this project)
-unfoldable pub body_rules : Topology → List BodyDecl → BodyDecl → List (Option RuleFault)
-body_rules topo before b =
-    unless (is_there topo b.whom) (NoHart (number_in b.whom))
-    ∷ twice_fault topo before b.whom
-    ∷ count_fault (slot_count b.slots)
+-- the rules of a body of len slots behind those before it in its case: its selector names what is there, no hart of its team has an
+-- earlier body, and it has 1 to 256 slots (this project)
+unfoldable pub body_rules : Topology → List BodyDecl → Selector → (len : ℕ) → List (Option RuleFault)
+body_rules topo before whom len =
+    unless (is_there topo whom) (NoHart (number_in whom))
+    ∷ twice_fault topo before whom
+    ∷ unless (nat_le 1 len && nat_le len 256) (Slots len)
     ∷ []
 
 -- the checks of a body behind those before it in its case, and of its statements (this project)
-unfoldable pub body_checks : Topology → List Window → List BodyDecl → BodyDecl → List Check
-body_checks topo windows before b = put_at b.at (body_rules topo before b) ++ in_turn (slot_checks topo windows b.whom (slot_count b.slots)) [] b.slots
+unfoldable pub body_checks : Topology → (shape : List (Option Window)) → List BodyDecl → BodyDecl → List Check
+body_checks topo shape before b = put_at b.at (body_rules topo before b.whom (slot_count b.slots)) ++ in_turn (slot_checks topo shape b.whom (slot_count b.slots)) [] b.slots
 
 -- ---- cases
 
--- the rules of a case, of so many in all, behind those before it: it isn't the 33rd, and its name is new (this project)
-unfoldable pub case_rules : (count : ℕ) → List CaseDecl → CaseDecl → List (Option RuleFault)
-case_rules count before c =
+-- the rules of a case of a name, of so many in all, behind those before it: it isn't the 33rd, and its name is new (this project)
+unfoldable pub case_rules : (count : ℕ) → List CaseDecl → (name : List ℕ) → List (Option RuleFault)
+case_rules count before name =
     unless (not (length before == 32)) (Cases count)
-    ∷ unless (not (list_any (λ d. bytes_eq d.name c.name) before)) TwiceName
+    ∷ unless (not (list_any (λ d. bytes_eq d.name name) before)) TwiceName
     ∷ []
 
 -- the checks of a case, of so many in all, behind those before it, and of its bodies (this project)
-unfoldable pub case_checks : Topology → List Window → (count : ℕ) → List CaseDecl → CaseDecl → List Check
-case_checks topo windows count before c = put_at c.at (case_rules count before c) ++ in_turn (body_checks topo windows) [] c.bodies
+unfoldable pub case_checks : Topology → (shape : List (Option Window)) → (count : ℕ) → List CaseDecl → CaseDecl → List Check
+case_checks topo shape count before c = put_at c.at (case_rules count before c.name) ++ in_turn (body_checks topo shape) [] c.bodies
 
 -- ---- a template
 
@@ -171,7 +168,7 @@ unfoldable pub checks_of : Topology → Template → List Check
 checks_of topo t =
     (t.passes_at, unless (are_passes t.passes) (Passes t.passes))
     ∷ (in_turn (window_checks topo) [] t.windows
-    ++ (in_turn (case_checks topo (windows_of t.windows) (length t.cases)) [] t.cases
+    ++ (in_turn (case_checks topo (shape_of (windows_of t.windows)) (length t.cases)) [] t.cases
     ++ (t.end, unless (not (length t.cases == 0)) (Cases 0)) ∷ []))
 
 -- The first rule that a template for this topology breaks, and where (this project).

@@ -1,0 +1,75 @@
+// The slots of each hart in each case.
+ghost use Rattle.std.specs.Prelude.{◌≡◌, IfOk, map};
+ghost use Rattle.tm_plan.specs.Collected.{count_from};
+ghost use Rattle.tm_checks.specs.Teams.{IsSystem, harts_of};
+ghost use Rattle.tm_admit.specs.Admitting as admitting;
+
+use crate::form::copy;
+use crate::slots::{one_slot, written_out};
+use std::alloc::Global;
+use tm_base::{List, NoMemory};
+use tm_checks::is_in_team;
+use tm_plan::{AdmittedCase, SlotList};
+use tm_tmpl::{BodyDecl, CaseDecl};
+use tm_topo::Topology;
+
+// The cases of a template.
+pub fn cases_of(
+    alloc: Global,
+    topo: &Topology,
+    cases: &[CaseDecl],
+) -> Result<List<AdmittedCase>, NoMemory>
+    requires { IsSystem topo.now }
+    ensures { IfOk result (λ all. all ≡ map (admitting.admitted_case topo.now) cases.now) }
+{
+    let mut all = List::new(alloc);
+    for case in cases {
+        all.push(case_of(alloc, topo, case)?)?;
+    }
+    Ok(all)
+}
+
+// A case with the slots of each hart.
+fn case_of(alloc: Global, topo: &Topology, case: &CaseDecl) -> Result<AdmittedCase, NoMemory>
+    requires { IsSystem topo.now }
+    ensures { IfOk result (λ all. all ≡ admitting.admitted_case topo.now case.now) }
+{
+    let name = copy(alloc, case.name.as_slice())?;
+    let bodies = bodies_of(alloc, topo, case.bodies.as_slice())?;
+    Ok(AdmittedCase { name, bodies })
+}
+
+// The slots of each hart, from its body in a case.
+fn bodies_of(
+    alloc: Global,
+    topo: &Topology,
+    bodies: &[BodyDecl],
+) -> Result<List<SlotList>, NoMemory>
+    requires { IsSystem topo.now }
+    ensures { IfOk result (λ all. all ≡ map (admitting.hart_slots topo.now bodies.now) (count_from 0 (harts_of topo.now))) }
+{
+    let mut all = List::new(alloc);
+    for h in 0..topo.cores * topo.threads {
+        all.push(hart_slots(alloc, topo, bodies, h)?)?;
+    }
+    Ok(all)
+}
+
+// The slots of a hart: those of the first body whose team has it.
+#[tactic(auto, unfolding(crate::specs::Admitting::hart_slots))]
+fn hart_slots(
+    alloc: Global,
+    topo: &Topology,
+    bodies: &[BodyDecl],
+    h: u32,
+) -> Result<SlotList, NoMemory>
+    requires { IsSystem topo.now }
+    ensures { IfOk result (λ slots. slots ≡ admitting.hart_slots topo.now bodies.now h) }
+{
+    for body in bodies {
+        if is_in_team(topo, body.whom, h) {
+            return written_out(alloc, body.slots.as_slice());
+        }
+    }
+    one_slot(alloc)
+}

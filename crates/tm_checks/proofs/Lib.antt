@@ -1,0 +1,4 @@
+pub mod Finding
+pub mod Checking
+pub mod Reading
+pub mod Ruling

@@ -1,0 +1,52 @@
+-- The first broken rule of a template, from those of its parts.
+use Rattle.std.proofs.Common.{◌≡◌, ◌==◌, ℕ, Bool, true, false, not, List, [], ◌∷◌, ◌++◌, length, Option, Some, None, refl, sym, ap, ◌∙◌}
+use Rattle.std.proofs.lemmas.Bool.{eq-eqb, ne_eqb}
+use Rattle.tm_checks.specs.declared.fault.RuleFault.TheVariants.{Cases, Passes}
+use Rattle.tm_checks.specs.declared.fault.RuleFault.{RuleFault}
+use Rattle.tm_tmpl.specs.declared.template.Template.{Template}
+use Rattle.tm_topo.specs.declared.system.Topology.{Topology}
+use Rattle.tm_rules.specs.declared.fault.RuleAt.{RuleAt}
+use Rattle.tm_rules.specs.Windows.{windows_of, shape_of}
+use Rattle.tm_rules.specs.Rules.{Check, unless, first_of, in_turn, are_passes, window_checks, case_checks, checks_of, broken_rule}
+use Rattle.tm_rules.proofs.FirstLemmas.{at_place, first-passes, first-stops, first-both, one-passes, one-stops, one-none}
+
+-- the checks of a template's windows, of its cases, and of its end
+abbrev pub in_windows : Topology → Template → List Check
+in_windows topo t = in_turn (window_checks topo) [] t.windows
+
+abbrev pub in_cases : Topology → Template → List Check
+in_cases topo t = in_turn (case_checks topo (shape_of (windows_of t.windows)) (length t.cases)) [] t.cases
+
+abbrev at_end : Template → List Check
+at_end t = (t.end, unless (not (length t.cases == 0)) (Cases 0)) ∷ []
+
+pub passes-stop : (topo : Topology) (t : Template) → are_passes t.passes ≡ false → broken_rule topo t ≡ Some (at_place t.passes_at (Passes t.passes))
+unfolding broken_rule checks_of first_of
+passes-stop topo t wrong = rw wrong refl
+
+-- what comes behind the passes
+behind-passes : (topo : Topology) (t : Template) → are_passes t.passes ≡ true → broken_rule topo t ≡ first_of (in_windows topo t ++ (in_cases topo t ++ at_end t))
+unfolding broken_rule checks_of first_of
+behind-passes topo t right = rw right refl
+
+pub windows-stop : (topo : Topology) (t : Template) (r : RuleAt) → are_passes t.passes ≡ true → first_of (in_windows topo t) ≡ Some r → broken_rule topo t ≡ Some r
+windows-stop topo t r right some = behind-passes topo t right ∙ first-stops (in_windows topo t) (in_cases topo t ++ at_end t) r some
+
+behind-windows : (topo : Topology) (t : Template) → are_passes t.passes ≡ true → first_of (in_windows topo t) ≡ None → broken_rule topo t ≡ first_of (in_cases topo t ++ at_end t)
+behind-windows topo t right none = behind-passes topo t right ∙ first-passes (in_windows topo t) (in_cases topo t ++ at_end t) none
+
+pub cases-stop : (topo : Topology) (t : Template) (r : RuleAt) → are_passes t.passes ≡ true → first_of (in_windows topo t) ≡ None → first_of (in_cases topo t) ≡ Some r
+    → broken_rule topo t ≡ Some r
+cases-stop topo t r right none some = behind-windows topo t right none ∙ first-stops (in_cases topo t) (at_end t) r some
+
+behind-cases : (topo : Topology) (t : Template) → are_passes t.passes ≡ true → first_of (in_windows topo t) ≡ None → first_of (in_cases topo t) ≡ None
+    → broken_rule topo t ≡ first_of (at_end t)
+behind-cases topo t right none silent = behind-windows topo t right none ∙ first-passes (in_cases topo t) (at_end t) silent
+
+pub end-stops : (topo : Topology) (t : Template) → are_passes t.passes ≡ true → first_of (in_windows topo t) ≡ None → first_of (in_cases topo t) ≡ None
+    → length t.cases ≡ 0 → broken_rule topo t ≡ Some (at_place t.end (Cases 0))
+end-stops topo t right none silent empty = behind-cases topo t right none silent ∙ rw (eq-eqb _ _ empty) (one-stops t.end (Cases 0))
+
+pub nothing-stops : (topo : Topology) (t : Template) → are_passes t.passes ≡ true → first_of (in_windows topo t) ≡ None → first_of (in_cases topo t) ≡ None
+    → (length t.cases ≡ 0 → ⊥) → broken_rule topo t ≡ None
+nothing-stops topo t right none silent some = behind-cases topo t right none silent ∙ rw (ne_eqb _ _ some) (one-passes t.end)
