@@ -1,7 +1,7 @@
 -- A test that no rule refuses, of a template whose statements are all built, is one of those that are built so far.
 use Rattle.std.proofs.Common.{◌≡◌, ◌≢◌, ◌≤◌, ◌<◌, ℕ, zero, suc, ◌+◌, ◌*◌, ◌==◌, ◌&&◌, nat_eq, Bool, true, false, not, if◌then◌else◌, List, [], ◌∷◌, ◌++◌, length, map, Option, Some, None, Result, Ok, Err, refl, sym, ap, ◌∙◌, subst, arith, true≢false, pos}
 use Rattle.std.specs.Prelude.{All, AllPairs, find, flat_map, slice_get, IsTrue, IsFalse}
-use Rattle.std.specs.List.{range_with_len}
+use Rattle.tm_plan.specs.Collected.{count_from}
 use Rattle.std.proofs.lemmas.Bool.{and_parts, eqb-true}
 use Rattle.std.proofs.lemmas.List.Elements.{All-cons, All-nil}
 use Rattle.tm_base.specs.declared.Pos.{Pos}
@@ -35,6 +35,8 @@ use Rattle.tm_rules.specs.Windows.{windows_of, window_of}
 use Rattle.tm_admit.specs.Admitting.{nothing, or_nothing, slots_of, written_out, slots_in, hart_slots, admitted_case, admitted_of}
 use Rattle.tm_inputs.specs.Built.{is_built, IsEmitted, emits, IsBuilt, AreBuilt}
 use Rattle.tm_inputs.specs.Late.{Mark, or_later, first_late, is_shared, is_first_window, is_built_line, is_built_slot, window_marks, slot_marks, body_marks, case_marks, marks_of, late_in}
+use Rattle.tm_inputs.specs.declared.role.Role.TheVariants.{Topology as of_topology}
+use Rattle.tm_inputs.specs.declared.fault.InputFault.TheVariants.{NotYet}
 use Rattle.tm_inputs.specs.Inputs.{is_first_system, late_at, not_yet}
 use Rattle.tm_inputs.proofs.LateLemmas.{or_second, first_of_both}
 
@@ -169,7 +171,7 @@ unfolding hart_slots
 written_body topo c late = found_built (λ b. in_team topo b.whom 0) c.bodies late
 
 bodies_of_one : (topo : Topology) (c : CaseDecl) → harts_of topo ≡ 1 → (admitted_case topo c).bodies ≡ one_body topo c ∷ []
-bodies_of_one topo c one = ap (λ (n : ℕ). map (hart_slots topo c.bodies) (range_with_len 0 n)) one
+bodies_of_one topo c one = ap (λ (n : ℕ). map (hart_slots topo c.bodies) (count_from 0 n)) one
 
 -- ---- the test
 
@@ -217,3 +219,18 @@ built_of topo t first late ruled =
       few = omega (arith, rules.few, ap (λ (ss : List Slot). length ss) body.are, emits_length body.stream);
       each = all_emitted (sharing_in (admitted_of topo t)) (windows_of t.windows) 0 (length (one_body topo c)) 0 body.stream body.ops (λ n x at. let p : n ≡ 0 + n = omega arith in subst (λ (m : ℕ). IsRuledSlot (sharing_in (admitted_of topo t)) (windows_of t.windows) 0 (length (one_body topo c)) m x) p (rules.each n x (ap (λ (ss : List Slot). slice_get ss n) body.are ∙ at)));
     })
+
+-- where nothing is late, the system is one that is built, and so is each statement
+nothing_late : (topo : Topology) (t : Template) → not_yet topo t ≡ None → (is_first_system topo ≡ true) × (late_in t ≡ None)
+unfolding not_yet
+nothing_late topo t h = split (is_first_system topo) (late_in t) h where
+  split : (b : Bool) (p : Option Pos) → (if b then late_at p else Some (NotYet of_topology 0)) ≡ None → (b ≡ true) × (p ≡ None)
+  split true None e = (refl, refl)
+  split true (Some p) e = absurd (cc)
+  split false p e = absurd (cc)
+
+-- a test of which nothing is late is one that is built
+pub built_where : (topo : Topology) (t : Template) (a : Admitted) → a ≡ admitted_of topo t → IsRuled a → None ≡ not_yet topo t → AreBuilt a
+built_where topo t a is ruled late =
+    let no = nothing_late topo t (sym late) in
+    subst AreBuilt (sym is) (built_of topo t no.0 no.1 (subst IsRuled is ruled))

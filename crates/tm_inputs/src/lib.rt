@@ -3,7 +3,9 @@
 
 mod fault;
 mod late;
+mod read;
 mod role;
 
 pub use fault::{BuildFault, InputFault};
+pub use read::{read_inputs, topology_fault};
 pub use role::Role;
