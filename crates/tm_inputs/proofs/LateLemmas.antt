@@ -29,7 +29,7 @@ pub some_stays : (xs ys : List Mark) (p : Pos) → Some p ≡ first_late xs → 
 some_stays xs ys p some = first_of_both xs ys ∙ ap (λ o. or_second o (first_late ys)) (sym some)
 
 -- what is left behind the first of a list
-behind_first : {A : Type 0} (x : A) (xs : List A) → take (length (x ∷ xs) - 1) (drop 1 (x ∷ xs)) ≡ xs
+pub behind_first : {A : Type 0} (x : A) (xs : List A) → take (length (x ∷ xs) - 1) (drop 1 (x ∷ xs)) ≡ xs
 behind_first x xs = let n : length (x ∷ xs) - 1 ≡ length xs = omega arith in ap (λ k. take k xs) n ∙ take-length xs
 
 -- a body whose statements are all built is passed over

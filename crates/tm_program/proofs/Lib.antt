@@ -5,3 +5,4 @@ pub mod MaskLemmas
 pub mod ShapedLemmas
 pub mod SizeLemmas
 pub mod SoundLemmas
+pub mod TestLemmas

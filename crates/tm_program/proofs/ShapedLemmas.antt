@@ -14,7 +14,7 @@ use Rattle.tm_plan.specs.declared.cases.Stream.{Stream}
 use Rattle.tm_plan.specs.Map.{window_at, private_at}
 use Rattle.tm_plan.specs.Slots.{instr_of, load_width, store_width, is_access, is_barred, is_jump}
 use Rattle.tm_plan.specs.Shaped.{IsShapedSlot, IsShapedStream, IsShapedCase, IsShapedWindow, AreShaped}
-use Rattle.tm_program.specs.Emitted.{IsEmitted, is_built}
+use Rattle.tm_inputs.specs.Built.{IsEmitted, is_built}
 use Rattle.tm_program.specs.Program.{Names, first_registers, zero_dwords, case_of, cases_of, declared_bytes}
 use Rattle.tm_program.proofs.MaskLemmas.{the-one}
 

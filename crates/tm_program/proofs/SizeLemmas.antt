@@ -11,7 +11,7 @@ use Rattle.tm_runs.specs.World.{Sizes}
 use Rattle.tm_pass.specs.Hart.{hart_words, before_stream, behind_stream}
 use Rattle.tm_pass.proofs.Numbers.{length-before_stream, length-behind_stream}
 use Rattle.tm_course.proofs.Fitting.{AllFit, Fit, fit-before, fit-behind}
-use Rattle.tm_program.specs.Emitted.{IsEmitted}
+use Rattle.tm_inputs.specs.Built.{IsEmitted}
 use Rattle.tm_program.specs.Program.{Names, first_registers, zero_dwords, case_of, cases_of, declared_bytes, all_checked, program_of}
 use Rattle.tm_program.proofs.TableLemmas.{tables_short}
 

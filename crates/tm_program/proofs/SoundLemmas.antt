@@ -11,7 +11,7 @@ use Rattle.tm_plan.specs.Shaped.{IsShapedMask, MasksFit, IsProgram}
 use Rattle.tm_course.specs.OneHart.{HasNoAccess, IsOfOneHart}
 use Rattle.tm_course.specs.Claims.{SoundSoFar}
 use Rattle.tm_course.proofs.Together.{one-hart}
-use Rattle.tm_program.specs.Emitted.{IsEmitted}
+use Rattle.tm_inputs.specs.Built.{IsEmitted}
 use Rattle.tm_program.specs.Program.{Names, case_of, cases_of, zero_dwords, all_checked, marks_around, program_of}
 use Rattle.tm_program.proofs.MaskLemmas.{the-mask, are-checked, mask-ends}
 use Rattle.tm_program.proofs.TableLemmas.{tables_short}

@@ -1,15 +1,19 @@
--- The program of one hart with one case, of a stream of sums and exclusive ors. Source: this project.
-use Rattle.std.specs.Prelude.{◌≡◌, ℕ, ◌+◌, ◌-◌, ◌*◌, ◌^◌, List, [], ◌∷◌, ◌++◌, length, codes, replicate, flat_map, map, slice_index}
+-- The program of a test that is built so far: one hart with one case, of a stream of sums and exclusive ors. Source: this project.
+use Rattle.std.specs.Prelude.{◌≡◌, ℕ, ◌+◌, ◌-◌, ◌*◌, ◌^◌, List, [], ◌∷◌, ◌++◌, length, replicate, map}
 use Rattle.tm_table.specs.declared.instr.Instr.{Instr}
 use Rattle.tm_table.specs.Words.{word_of}
+use Rattle.tm_plan.specs.declared.admitted.Slot.{Slot}
+use Rattle.tm_plan.specs.declared.admitted.Slot.TheVariants.{Emit, Mix}
+use Rattle.tm_plan.specs.declared.admitted.AdmittedCase.{AdmittedCase}
+use Rattle.tm_plan.specs.declared.admitted.Admitted.{Admitted}
 use Rattle.tm_plan.specs.declared.cases.Cases.{Cases}
+use Rattle.tm_plan.specs.declared.cases.Stream.{Stream}
 use Rattle.tm_plan.specs.declared.cases.Case.{Case}
 use Rattle.tm_plan.specs.declared.cases.Kind2.TheVariants.{True}
 use Rattle.tm_plan.specs.declared.masks.Masks.{Masks}
 use Rattle.tm_plan.specs.declared.program.Marks.{Marks}
 use Rattle.tm_plan.specs.declared.program.Program.{Program}
 use Rattle.tm_plan.specs.Map.{text_base, window_at, private_at}
-use Rattle.tm_plan.specs.Collected.{count_from}
 use Rattle.tm_plan.specs.Tables.{table_bytes}
 use Rattle.tm_pass.specs.Hart.{hart_words, exit_place, start_place, halt_place}
 
@@ -71,3 +75,53 @@ program_with names words = record {
 -- the program of a stream
 unfoldable pub program_of : Names → List Instr → Program
 program_of names stream = program_with names (map word_of stream)
+
+-- ---- the program of a test
+
+-- the instructions of emit slots, in order (this project)
+abbrev pub emitted : List Slot → List Instr
+emitted [] = []
+emitted (Emit i ∷ more) = i ∷ emitted more
+emitted (Mix alu load store branch ∷ more) = emitted more
+
+-- the instructions of the first hart (this project)
+abbrev pub hart_stream : List (List Slot) → List Instr
+hart_stream [] = []
+hart_stream (slots ∷ more) = emitted slots
+
+-- the instructions of the first hart in the first case (this project)
+abbrev pub case_stream : List AdmittedCase → List Instr
+case_stream [] = []
+case_stream (case ∷ more) = hart_stream case.bodies
+
+-- the name of the first case (this project)
+abbrev pub case_name : List AdmittedCase → List ℕ
+case_name [] = []
+case_name (case ∷ more) = case.name
+
+-- the names of a test and of its first case (this project)
+abbrev pub names_of : Admitted → Names
+names_of a = record { test = a.name; case = case_name a.cases }
+
+-- The program of a test that is built so far (this project).
+unfoldable pub program_for : Admitted → Program
+program_for a = program_of (names_of a) (case_stream a.cases)
+
+-- ---- what it has of the test
+
+-- the words of a hart's slots, with the first registers (this project)
+abbrev pub stream_from : List Slot → Stream
+stream_from slots = record { words = map word_of (emitted slots); regs = first_registers }
+
+-- a case with the words of each hart; all first bytes are 0 (this project)
+abbrev pub case_from : AdmittedCase → Case
+case_from case = record { name = case.name; streams = map stream_from case.bodies; first = zero_dwords }
+
+-- The cases are those of the test: its numbers, its names, its windows, and in each case the words of each hart (this project).
+pub record IsTestOf (a : Admitted) (cases : Cases) : Type 0 where
+  pub name : cases.name ≡ a.name
+  pub harts : cases.harts ≡ a.harts
+  pub line : cases.line ≡ a.line
+  pub passes : cases.passes ≡ a.passes
+  pub windows : cases.windows ≡ a.windows
+  pub each : cases.cases ≡ map case_from a.cases

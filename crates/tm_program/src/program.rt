@@ -1,18 +1,18 @@
-// The program of one hart with one case, of a stream.
+// The program of a test of one hart with one case.
 ghost use Rattle.std.specs.Prelude.{◌≡◌, ◌≤◌, ◌<◌, ◌^◌, ◌++◌, ◌∷◌, [], IfOk, OnOk, All, List, map, length, replicate, ℕ};
 ghost use Rattle.tm_table.specs.Words.{word_of};
 ghost use Rattle.tm_course.specs.Claims.{SoundSoFar};
-ghost use Rattle.tm_program.specs.Emitted.{IsEmitted};
-ghost use Rattle.tm_program.specs.Program.{first_registers as registers_of, cases_of as cases_with, case_of as case_with, zero_dwords, declared_bytes, all_checked as masks_of_all, marks_around, program_with, program_of as program_with_stream};
+ghost use Rattle.tm_inputs.specs.Built.{IsEmitted, AreBuilt};
+ghost use Rattle.tm_program.specs.Program.{first_registers as registers_of, cases_of as cases_with, case_of as case_with, zero_dwords, declared_bytes, all_checked as masks_of_all, marks_around, emitted, hart_stream, case_stream, case_name, program_of as program_of_names, program_for, IsTestOf};
 
 use std::alloc::Global;
 use tm_base::{Bytes, List, NoMemory, Words};
 use tm_pass::{HartCode, hart_code};
 use tm_plan::{
-    Case, CaseMask, Cases, Kind2, Marks, Masks, Program, Stream, Window, private_base, tables,
+    Admitted, AdmittedCase, Case, CaseMask, Cases, Kind2, Marks, Masks, Program, Slot, SlotList, Stream, Window, private_base, tables,
     window_base,
 };
-use tm_table::{Instr, encode};
+use tm_table::encode;
 
 // Where the text stands, and each hart begins.
 const TEXT_BASE: u64 = 0x8000_0000;
@@ -20,18 +20,59 @@ const TEXT_BASE: u64 = 0x8000_0000;
 // x1 to x30.
 const ALL_REGISTERS: u32 = 0x7FFF_FFFE;
 
-/// The program of a stream of 1 to 256 instructions, each ADDI, ADD or XOR on x0 to x27: of one hart, two passes and one case, with one
-/// line of 64 bytes of window 0. `test` and `case` are the names.
-#[tactic(auto, unfolding(crate::specs::Program::program_of))]
-pub fn program_of(alloc: Global, test: &[u8], case: &[u8], stream: &[Instr]) -> Result<Program, NoMemory>
-    requires some { 1 ≤ length stream.now }
-    requires few { length stream.now ≤ 256 }
-    requires each { All IsEmitted stream.now }
-    ensures program { IfOk result (λ program. program ≡ program_with_stream (record { test = test.now; case = case.now }) stream.now) }
+/// The program of a test: of one hart, two passes and one case of 1 to 256 instructions, each ADDI, ADD or XOR on x0 to x27, with one
+/// line of 64 bytes of window 0.
+#[tactic(auto, unfolding(crate::specs::Program::program_for), using(crate::proofs::TestLemmas::has_stream, crate::proofs::TestLemmas::has_test, crate::proofs::TestLemmas::is_sound))]
+pub fn program_of(alloc: Global, a: &Admitted) -> Result<Program, NoMemory>
+    requires { AreBuilt a.now }
+    ensures program { IfOk result (λ program. program ≡ program_for a.now) }
+    ensures test { IfOk result (λ program. IsTestOf a.now program.cases) }
     ensures short { IfOk result (λ program. length program.text ≤ 2048) }
     ensures sound { IfOk result (λ program. SoundSoFar program) }
 {
-    let words = words_of(alloc, stream)?;
+    let cases = a.cases.as_slice();
+    program_with(alloc, a.name.as_slice(), first_name(cases), first_slots(cases))
+}
+
+// The name of the first case.
+fn first_name(cases: &[AdmittedCase]) -> &[u8]
+    ensures { result.now ≡ case_name cases.now }
+{
+    match cases {
+        [] => &[],
+        [case, ..] => case.name.as_slice(),
+    }
+}
+
+// The slots of the first hart in the first case.
+fn first_slots(cases: &[AdmittedCase]) -> &[Slot]
+    ensures { emitted result.now ≡ case_stream cases.now }
+{
+    match cases {
+        [] => &[],
+        [case, ..] => first_body(case.bodies.as_slice()),
+    }
+}
+
+// The slots of the first hart.
+fn first_body(bodies: &[SlotList]) -> &[Slot]
+    ensures { emitted result.now ≡ hart_stream bodies.now }
+{
+    match bodies {
+        [] => &[],
+        [slots, ..] => slots.as_slice(),
+    }
+}
+
+// The program of a stream, with the names of the test and of its case.
+fn program_with(alloc: Global, test: &[u8], case: &[u8], slots: &[Slot]) -> Result<Program, NoMemory>
+    requires some { 1 ≤ length (emitted slots.now) }
+    requires few { length (emitted slots.now) ≤ 256 }
+    requires each { All IsEmitted (emitted slots.now) }
+    ensures program { IfOk result (λ program. program ≡ program_of_names (record { test = test.now; case = case.now }) (emitted slots.now)) }
+    ensures short { IfOk result (λ program. length program.text ≤ 2048) }
+{
+    let words = words_of(alloc, slots)?;
     let cases = cases_of(alloc, test, case, words.as_slice())?;
     let masks = all_checked(alloc)?;
     let tables = tables(alloc, &cases, &masks)?;
@@ -55,15 +96,28 @@ pub fn program_of(alloc: Global, test: &[u8], case: &[u8], stream: &[Instr]) -> 
 }
 
 // The words of a stream.
-fn words_of(alloc: Global, stream: &[Instr]) -> Result<Words, NoMemory>
-    requires { All IsEmitted stream.now }
-    ensures { IfOk result (λ words. words ≡ map word_of stream.now) }
+fn words_of(alloc: Global, slots: &[Slot]) -> Result<Words, NoMemory>
+    requires { All IsEmitted (emitted slots.now) }
+    ensures { IfOk result (λ words. words ≡ map word_of (emitted slots.now)) }
 {
     let mut words = Words::new(alloc);
-    for instr in stream {
-        words.push(encode(*instr))?;
-    }
+    put_words(&mut words, slots)?;
     Ok(words)
+}
+
+// Appends the words of emit slots.
+#[tactic(auto, using(crate::proofs::TestLemmas::behind_emitted))]
+fn put_words(out: &mut Words, slots: &[Slot]) -> Result<(), NoMemory>
+    requires { All IsEmitted (emitted slots.now) }
+    ensures { OnOk result (out.new ≡ out.old ++ map word_of (emitted slots.now)) }
+{
+    let [slot, more @ ..] = slots else {
+        return Ok(());
+    };
+    if let Slot::Emit(i) = *slot {
+        out.push(encode(i))?;
+    }
+    put_words(out, more)
 }
 
 // What is run: one case of these words.
