@@ -3,3 +3,4 @@ pub mod Checking
 pub mod Reading
 pub mod Ruling
 pub mod Systems
+mod Rows
