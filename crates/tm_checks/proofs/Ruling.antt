@@ -61,7 +61,7 @@ mix-ruled shape alu load store branch e =
 
 -- ---- ops
 
-load-wide : (op : Op) → load_width op ≢ 0 → IsWidth (load_width op)
+pub load-wide : (op : Op) → load_width op ≢ 0 → IsWidth (load_width op)
 load-wide Lb h = inl refl
 load-wide Lbu h = inl refl
 load-wide Lh h = inr (inl refl)
@@ -71,7 +71,7 @@ load-wide Lwu h = inr (inr (inl refl))
 load-wide Ld h = inr (inr (inr refl))
 load-wide _ h = absurd (h refl)
 
-store-wide : (op : Op) → store_width op ≢ 0 → IsWidth (store_width op)
+pub store-wide : (op : Op) → store_width op ≢ 0 → IsWidth (store_width op)
 store-wide Sb h = inl refl
 store-wide Sh h = inr (inl refl)
 store-wide Sw h = inr (inr (inl refl))
@@ -226,7 +226,7 @@ imm-below Shift5 i h = omega (arith, ints, h.3.1)
 imm-below Order i h = omega (arith, ints, h.3.1)
 imm-below Whole i h = omega (arith, ints, h.3)
 
-fits-below : (i : Instr) → Fits i → i.imm ≤ℤ pos 1048575
+pub fits-below : (i : Instr) → Fits i → i.imm ≤ℤ pos 1048575
 unfolding Fits
 fits-below i h = imm-below (row_of i.op).layout i h
 
