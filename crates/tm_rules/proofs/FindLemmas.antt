@@ -1,31 +1,37 @@
 -- The first element that passes a test, as a walk finds it.
-use Rattle.std.proofs.Common.{◌≡◌, ◌+◌, ◌<◌, ℕ, zero, suc, Bool, true, false, List, [], ◌∷◌, map, length, get_or, take, Option, Some, None, slice_get, refl, add-one, arith, inl, inr}
+use Rattle.std.proofs.Common.{◌≡◌, ◌+◌, ◌<◌, ◌≤◌, ℕ, zero, suc, Bool, true, false, List, [], ◌∷◌, map, length, get_or, take, Option, Some, None, option_map, slice_get, refl, sym, ◌∙◌, add-one, arith, inl, inr}
 use Rattle.std.specs.Prelude.{find}
 use Rattle.std.proofs.lemmas.Bool.{cases_Bool}
+use Rattle.std.proofs.lemmas.List.{take_all}
 
-pub found-at : {A B : Type 0} (p : B → Bool) (f : A → B) (xs : List A) (k : ℕ) (d : A) → k < length xs → find p (map f (take k xs)) ≡ None
-    → p (f (get_or xs k d)) ≡ true → find p (map f xs) ≡ Some (f (get_or xs k d))
-found-at p f [] k d within none passes = absurd (omega arith)
-found-at p f (x ∷ xs) zero d within none passes = rw passes refl
-found-at p f (x ∷ xs) (suc k) d within none passes =
-    elim (cases_Bool (p (f x))) [
-      | inl here ↦ let bad : Some (f x) ≡ None = rw here at none in cc
-      | inr other ↦ let later : find p (map f (take k xs)) ≡ None = rw other at none in rw other (found-at p f xs k d (omega arith) later passes)
+pub found-at : {A : Type 0} (p : A → Bool) (xs : List A) (k : ℕ) (d : A) → k < length xs → find p (take k xs) ≡ None → p (get_or xs k d) ≡ true → find p xs ≡ Some (get_or xs k d)
+found-at p [] k d within none passes = absurd (omega arith)
+found-at p (x ∷ xs) zero d within none passes = rw passes refl
+found-at p (x ∷ xs) (suc k) d within none passes =
+    elim (cases_Bool (p x)) [
+      | inl here ↦ let bad : Some x ≡ None = rw here at none in cc
+      | inr other ↦ let later : find p (take k xs) ≡ None = rw other at none in rw other (found-at p xs k d (omega arith) later passes)
     ]
 
-none-suc : {A B : Type 0} (p : B → Bool) (f : A → B) (xs : List A) (k : ℕ) (d : A) → k < length xs → find p (map f (take k xs)) ≡ None
-    → p (f (get_or xs k d)) ≡ false → find p (map f (take (suc k) xs)) ≡ None
-none-suc p f [] k d within none fails = absurd (omega arith)
-none-suc p f (x ∷ xs) zero d within none fails = rw fails refl
-none-suc p f (x ∷ xs) (suc k) d within none fails =
-    elim (cases_Bool (p (f x))) [
-      | inl here ↦ let bad : Some (f x) ≡ None = rw here at none in cc
-      | inr other ↦ let later : find p (map f (take k xs)) ≡ None = rw other at none in rw other (none-suc p f xs k d (omega arith) later fails)
+none-suc : {A : Type 0} (p : A → Bool) (xs : List A) (k : ℕ) (d : A) → k < length xs → find p (take k xs) ≡ None → p (get_or xs k d) ≡ false → find p (take (suc k) xs) ≡ None
+none-suc p [] k d within none fails = absurd (omega arith)
+none-suc p (x ∷ xs) zero d within none fails = rw fails refl
+none-suc p (x ∷ xs) (suc k) d within none fails =
+    elim (cases_Bool (p x)) [
+      | inl here ↦ let bad : Some x ≡ None = rw here at none in cc
+      | inr other ↦ let later : find p (take k xs) ≡ None = rw other at none in rw other (none-suc p xs k d (omega arith) later fails)
     ]
 
-pub none-more : {A B : Type 0} (p : B → Bool) (f : A → B) (xs : List A) (k : ℕ) (d : A) → k < length xs → find p (map f (take k xs)) ≡ None
-    → p (f (get_or xs k d)) ≡ false → find p (map f (take (k + 1) xs)) ≡ None
-none-more p f xs k d within none fails = rw add-one (none-suc p f xs k d within none fails)
+pub none-more : {A : Type 0} (p : A → Bool) (xs : List A) (k : ℕ) (d : A) → k < length xs → find p (take k xs) ≡ None → p (get_or xs k d) ≡ false → find p (take (k + 1) xs) ≡ None
+none-more p xs k d within none fails = rw add-one (none-suc p xs k d within none fails)
+
+pub none-all : {A : Type 0} (p : A → Bool) (xs : List A) (k : ℕ) → length xs ≤ k → find p (take k xs) ≡ None → find p xs ≡ None
+none-all p xs k over none = rw (take_all k xs over) at none
+
+-- the first of images
+pub find-map : {A B : Type 0} (p : B → Bool) (f : A → B) (xs : List A) → find p (map f xs) ≡ option_map f (find (λ x. p (f x)) xs)
+find-map p f [] = refl
+find-map p f (x ∷ xs) = elim (cases_Bool (p (f x))) [ inl here ↦ rw here refl | inr other ↦ rw other (find-map p f xs) ]
 
 pub found-in : {A : Type 0} (p : A → Bool) (xs : List A) (x : A) → find p xs ≡ Some x → (p x ≡ true) × ((k : ℕ) × (slice_get xs k ≡ Some x))
 found-in p [] x found = cc

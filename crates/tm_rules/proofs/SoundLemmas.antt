@@ -69,13 +69,14 @@ mapped-at f (x ∷ xs) zero y at = (x, refl, cc)
 mapped-at f (x ∷ xs) (suc k) y at = mapped-at f xs k y at
 
 -- the window of a number, where windows break no rule
-pub numbered-sound : (topo : Topology) (ws : List WindowDecl) → first_of (in_turn (window_checks topo) [] ws) ≡ None → (n : ℕ) → n < 3 → (v : Window)
-    → numbered n (windows_of ws) ≡ Some v → IsWindow (harts_of topo) topo.line n v
-numbered-sound topo ws none n below v found =
+pub numbered-sound : (topo : Topology) (ws : List WindowDecl) → first_of (in_turn (window_checks topo) [] ws) ≡ None → (n : ℕ) (v : Window) → numbered n (windows_of ws) ≡ Some v
+    → IsWindow (harts_of topo) topo.line n v
+numbered-sound topo ws none n v found =
     let stands = found-in (λ w. w.number == n) (windows_of ws) v found in
     let said = mapped-at window_of ws stands.1.0 v stands.1.1 in
     let ruled : IsRuledWindow (harts_of topo) topo.line v = subst (IsRuledWindow (harts_of topo) topo.line) said.2 (windows-sound topo ws none stands.1.0 said.0 said.1).0 in
-    record { number = eqb-true v.number n stands.0; below = below; some = ruled.some; few = ruled.few; each = ruled.each }
+    let number = eqb-true v.number n stands.0 in
+    record { number = number; below = rw number at ruled.number; some = ruled.some; few = ruled.few; each = ruled.each }
 
 -- ---- bodies and cases
 
