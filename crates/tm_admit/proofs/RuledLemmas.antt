@@ -3,7 +3,7 @@ use Rattle.std.proofs.Common.{◌≡◌, ◌≢◌, ◌+◌, ◌*◌, ◌<◌, �
 use Rattle.std.specs.Prelude.{find, All, AllPairs}
 use Rattle.std.specs.List.{list_any}
 use Rattle.std.specs.Str.{bytes_eq}
-use Rattle.std.proofs.lemmas.Bool.{leb-true, eq-eqb, true≢false}
+use Rattle.std.proofs.lemmas.Bool.{leb-true, eq-eqb, and_parts, true≢false}
 use Rattle.std.proofs.lemmas.List.{length-map, length-take-le}
 use Rattle.std.proofs.lemmas.Slice.Eq.{bytes_eq-Decides}
 use Rattle.tm_table.specs.Words.{Fits}
@@ -27,7 +27,7 @@ use Rattle.tm_rules.proofs.FirstLemmas.{first-both, put-none}
 use Rattle.tm_rules.proofs.TurnLemmas.{turn-each}
 use Rattle.tm_rules.proofs.FindLemmas.{found-in}
 use Rattle.tm_rules.proofs.CountLemmas.{total-none, count-small}
-use Rattle.tm_rules.proofs.SoundLemmas.{both-true, windows-sound, mapped-at, body-sound, case-sound, system-harts}
+use Rattle.tm_rules.proofs.SoundLemmas.{windows-sound, mapped-at, body-sound, case-sound, system-harts}
 use Rattle.tm_rules.proofs.TemplateLemmas.{parts-none}
 use Rattle.tm_admit.specs.Admitting.{nothing, slots_in, written_out, hart_slots, admitted_case, admitted_of}
 use Rattle.tm_admit.proofs.EachLemmas.{all-images, pair-images, any-fails, stands-at, counted-at, length-counted}
@@ -135,7 +135,7 @@ pub admitted-ruled : (topo : Topology) (t : Template) → IsSystem topo → brok
 unfolding admitted_of
 admitted-ruled topo t system none =
     let parts = parts-none topo t none in
-    let passes = both-true _ _ parts.0 in
+    let passes = and_parts _ _ parts.0 in
     let shown = shared-shown topo t.windows system parts.1 in
     let same : length (map (admitted_case topo) t.cases) ≡ length t.cases = length-map t.cases (admitted_case topo) in
     record {

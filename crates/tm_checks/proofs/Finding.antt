@@ -1,5 +1,5 @@
 -- The least hart of a team that a test finds.
-use Rattle.std.proofs.Common.{◌≡◌, ◌≤◌, ◌<◌, ℕ, zero, suc, ◌+◌, Bool, true, false, ◌&&◌, cond, List, [], ◌∷◌, filter, find, Option, Some, None, refl, sym, ◌∙◌, ap, inl, inr, arith}
+use Rattle.std.proofs.Common.{◌≡◌, ◌≤◌, ◌<◌, ℕ, zero, suc, ◌+◌, Bool, true, false, ◌&&◌, cond, List, [], ◌∷◌, filter, find, Some, None, refl, sym, ◌∙◌, ap, inl, inr, arith}
 use Rattle.std.proofs.lemmas.Bool.{cases_Bool, cases_eq, and_from}
 use Rattle.tm_topo.specs.declared.system.Topology.{Topology}
 use Rattle.tm_tmpl.specs.declared.template.Selector.{Selector}
@@ -48,13 +48,13 @@ unfolding team
 team-some topo whom test h low before among here =
     let both = and_from (in_team topo whom h) (test h) among here in
     sym (find-filter test (in_team topo whom) (count_from 0 (harts_of topo))
-      ∙ find_from-some (λ x. in_team topo whom x && test x) 0 (harts_of topo) h (omega arith) (omega arith) (λ k some less. before k less) both)
+    ∙ find_from-some (λ x. in_team topo whom x && test x) 0 (harts_of topo) h (omega arith) (omega arith) (λ k some less. before k less) both)
 
 pub team-none : (topo : Topology) (whom : Selector) (test : ℕ → Bool) → ((k : ℕ) → k < harts_of topo → in_team topo whom k && test k ≡ false) → None ≡ find test (team topo whom)
 unfolding team
 team-none topo whom test none =
     sym (find-filter test (in_team topo whom) (count_from 0 (harts_of topo))
-      ∙ find_from-none (λ x. in_team topo whom x && test x) 0 (harts_of topo) (λ k some less. none k (omega arith)))
+    ∙ find_from-none (λ x. in_team topo whom x && test x) 0 (harts_of topo) (λ k some less. none k (omega arith)))
 
 -- where a team has no hart that passes, none of its harts passes
 pub team-fails : (topo : Topology) (whom : Selector) (test : ℕ → Bool) → find test (team topo whom) ≡ None → (h : ℕ) → h < harts_of topo → in_team topo whom h ≡ true → test h ≡ false

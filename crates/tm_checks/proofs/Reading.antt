@@ -1,8 +1,8 @@
 -- What a line spells fits.
-use Rattle.std.proofs.Common.{◌≡◌, ◌≤◌, ◌<◌, ℕ, suc, ◌+◌, ◌*◌, ◌%◌, ◌==◌, Bool, T, true, false, ◌&&◌, not, nat_lt, nat_le, ℤ, pos, negsuc, ◌≤ℤ◌, List, [], ◌∷◌, length, if◌then◌else◌, Option, Some, None, IfSome, Result, Ok, Err, refl, ap, subst, inl, inr, arith}
+use Rattle.std.proofs.Common.{◌≡◌, ◌<◌, ℕ, ◌+◌, ◌*◌, ◌%◌, ◌==◌, Bool, T, true, false, ◌&&◌, not, nat_lt, ℤ, pos, negsuc, List, [], ◌∷◌, length, if◌then◌else◌, Option, Some, None, IfSome, Result, Ok, Err, refl, ap, subst, inl, inr, arith}
 use Rattle.std.specs.Prelude.{slice_index, int_le, unsigned_abs, ◌⊎◌}
 use Rattle.std.specs.Char.{is_digit, digit_value}
-use Rattle.std.proofs.lemmas.Bool.{cases_Bool, and_parts, ltb-true, leb-true, eqb-true}
+use Rattle.std.proofs.lemmas.Bool.{cases_Bool, and_parts, ltb-true, eqb-true}
 use Rattle.std.proofs.lemmas.Int.{ints}
 use Rattle.tm_table.specs.declared.instr.Op.{Op}
 use Rattle.tm_table.specs.declared.instr.Op.TheVariants.{Lui}
@@ -22,7 +22,7 @@ use Rattle.tm_asm.specs.declared.shape.Operand.TheVariants.{Register, Number, Se
 use Rattle.tm_asm.specs.declared.shape.Shape.{Shape}
 use Rattle.tm_asm.specs.declared.shape.Shape.TheVariants.{Upper, Jump, Memory, Branch, Store, Immediate, Shift64, Shift32, Registers, Fences, Bare}
 use Rattle.tm_asm.specs.Shapes.{shape_of, pieces_of}
-use Rattle.tm_asm.specs.Reading.{register_of, signed_of, set_of, set_before, set_after, with_register, with_set, is_in, or_register, or_number, or_set, operand_reading, piece_reading, pieces_reading, and_place, and_then, taken, operand, after_blanks, bare, named, line_of, op_of, name_at}
+use Rattle.tm_asm.specs.Reading.{register_of, signed_of, set_of, set_before, with_register, with_set, is_in, or_register, or_number, or_set, operand_reading, piece_reading, pieces_reading, and_place, and_then, taken, operand, after_blanks, bare, named, line_of, op_of, name_at}
 use Rattle.tm_asm.proofs.Cutting.{set-small}
 
 -- What holds of an instruction once the pieces that are left are read, whatever they say.
@@ -57,7 +57,7 @@ register-small bs r e =
           let rest = rw f at e in
           small-if (length bs == 2 && is_digit x 10) (digit_value x) r _ (short_digit (length bs == 2) (digit_value x))
           (small-if (length bs == 3 && ((is_digit x 10 && is_digit y 10) && (not (x == 48) && nat_lt (10 * digit_value x + digit_value y) 32))) (10 * digit_value x + digit_value y) r None
-            (long_digits (length bs == 3) (is_digit x 10 && is_digit y 10) (not (x == 48)) (10 * digit_value x + digit_value y)) (λ w. cc))
+          (long_digits (length bs == 3) (is_digit x 10 && is_digit y 10) (not (x == 48)) (10 * digit_value x + digit_value y)) (λ w. cc))
           rest
     ]
 

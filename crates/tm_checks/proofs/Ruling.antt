@@ -1,12 +1,12 @@
 -- What a slot without a fault is.
-use Rattle.std.proofs.Common.{◌≡◌, ◌≢◌, ◌≤◌, ◌<◌, ℕ, zero, suc, ◌+◌, ◌-◌, ◌*◌, ◌/◌, ◌%◌, ◌^◌, ◌==◌, Bool, true, false, ◌&&◌, not, nat_lt, nat_le, IsTrue, IsFalse, if◌then◌else◌, ℤ, pos, negsuc, ◌≤ℤ◌, List, [], ◌∷◌, find, filter, get_or, slice_get, Option, Some, None, option_map, is_some, Result, Ok, Err, refl, sym, ◌∙◌, ap, subst, inl, inr, arith, zero-add}
+use Rattle.std.proofs.Common.{◌≡◌, ◌≢◌, ◌≤◌, ◌<◌, ℕ, suc, ◌+◌, ◌-◌, ◌*◌, ◌/◌, ◌%◌, ◌^◌, ◌==◌, Bool, true, false, ◌&&◌, not, nat_lt, nat_le, ℤ, pos, negsuc, ◌≤ℤ◌, List, [], ◌∷◌, find, get_or, Option, Some, None, option_map, is_some, Result, Ok, Err, refl, ◌∙◌, ap, inl, inr, arith}
 use Rattle.std.specs.List.{list_any}
-use Rattle.std.proofs.lemmas.Bool.{cases_Bool, and_parts, and_from, true≢false, false≢true, not-true, not-false, ltb-true, ltb-false, leb-true, leb-false, eqb-true, lt-ltb, le-ltb}
+use Rattle.std.proofs.lemmas.Bool.{and_parts, not-false, ltb-true, ltb-false, leb-true, eqb-true, lt-ltb}
 use Rattle.std.proofs.lemmas.Nat.{div-add-mod'}
 use Rattle.std.proofs.Math.Nat.{mod-lt, mod-eq_of_lt, div-lt_iff_lt-mul}
 use Rattle.std.proofs.lemmas.Int.{ints}
 use Rattle.tm_table.specs.declared.instr.Op.{Op}
-use Rattle.tm_table.specs.declared.instr.Op.TheVariants.{Lb, Lh, Lw, Ld, Lbu, Lhu, Lwu, Sb, Sh, Sw, Sd, Lui}
+use Rattle.tm_table.specs.declared.instr.Op.TheVariants.{Lb, Lh, Lw, Ld, Lbu, Lhu, Lwu, Sb, Sh, Sw, Sd}
 use Rattle.tm_table.specs.declared.instr.Instr.{Instr}
 use Rattle.tm_table.specs.declared.table.Layout.{Layout}
 use Rattle.tm_table.specs.declared.table.Layout.TheVariants.{R, I, S, B, U, J, Shift6, Shift5, Order, Whole}
@@ -19,16 +19,15 @@ use Rattle.tm_tmpl.specs.declared.template.Selector.{Selector}
 use Rattle.tm_plan.specs.declared.cases.Window.{Window}
 use Rattle.tm_plan.specs.Map.{window_at, within}
 use Rattle.tm_plan.specs.Slots.{is_access, is_barred, is_jump, load_width, store_width, slot_addr, slot_target}
-use Rattle.tm_plan.specs.Collected.{count_from}
-use Rattle.tm_place.specs.Sharing.{Sharing, StandsAt, MayStore, MayLoad, IsWidth}
+use Rattle.tm_place.specs.Sharing.{Sharing, IsWidth}
 use Rattle.tm_place.specs.Ruled.{IsBased, IsRuledEmit}
 use Rattle.tm_place.specs.Allowed.{may_store_at, may_load_at}
 use Rattle.tm_place.proofs.PartLemmas.{size-some}
 use Rattle.tm_place.proofs.AllowedLemmas.{Shown, store-computed, load-computed}
 use Rattle.tm_checks.specs.declared.fault.RuleFault.{RuleFault}
-use Rattle.tm_checks.specs.declared.fault.RuleFault.TheVariants.{Asm, NoWindow, NotOwner, BadPlace, Register, Target, NotAllowed}
+use Rattle.tm_checks.specs.declared.fault.RuleFault.TheVariants.{NoWindow, NotOwner, BadPlace, NotAllowed}
 use Rattle.tm_checks.specs.Teams.{harts_of, in_team, team}
-use Rattle.tm_checks.specs.Slots.{first, broken, barred, within_registers, is_source, source_fault, window_fault, base_window, is_placed, width_of, place_fault, may_access, owner_fault, is_forward, target_fault, register_checks, access_checks, emit_checks, fault_of, emit_fault, weight_fault, any_window_fault, mix_fault}
+use Rattle.tm_checks.specs.Slots.{first, broken, barred, within_registers, is_source, source_fault, window_fault, is_placed, width_of, place_fault, may_access, owner_fault, is_forward, target_fault, register_checks, access_checks, emit_checks, fault_of, emit_fault, weight_fault, any_window_fault, mix_fault}
 use Rattle.tm_checks.specs.Laws.{IsRuledLine, HasWindow, AreRuledWeights}
 use Rattle.tm_checks.proofs.Finding.{team-fails}
 use Rattle.tm_checks.proofs.Checking.{first-none, unbroken, stops-first, stops-second, stops-third, comes-last, only-check}
@@ -62,7 +61,7 @@ mix-ruled shape alu load store branch e =
 
 -- ---- ops
 
-load-wide : (op : Op) → load_width op ≢ 0 → IsWidth (load_width op)
+pub load-wide : (op : Op) → load_width op ≢ 0 → IsWidth (load_width op)
 load-wide Lb h = inl refl
 load-wide Lbu h = inl refl
 load-wide Lh h = inr (inl refl)
@@ -72,7 +71,7 @@ load-wide Lwu h = inr (inr (inl refl))
 load-wide Ld h = inr (inr (inr refl))
 load-wide _ h = absurd (h refl)
 
-store-wide : (op : Op) → store_width op ≢ 0 → IsWidth (store_width op)
+pub store-wide : (op : Op) → store_width op ≢ 0 → IsWidth (store_width op)
 store-wide Sb h = inl refl
 store-wide Sh h = inr (inl refl)
 store-wide Sw h = inr (inr (inl refl))
@@ -227,7 +226,7 @@ imm-below Shift5 i h = omega (arith, ints, h.3.1)
 imm-below Order i h = omega (arith, ints, h.3.1)
 imm-below Whole i h = omega (arith, ints, h.3)
 
-fits-below : (i : Instr) → Fits i → i.imm ≤ℤ pos 1048575
+pub fits-below : (i : Instr) → Fits i → i.imm ≤ℤ pos 1048575
 unfolding Fits
 fits-below i h = imm-below (row_of i.op).layout i h
 

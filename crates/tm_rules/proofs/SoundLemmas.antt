@@ -3,7 +3,7 @@ use Rattle.std.proofs.Common.{◌≡◌, ◌≢◌, ◌+◌, ◌*◌, ◌<◌, �
 use Rattle.std.specs.Prelude.{find}
 use Rattle.std.specs.List.{list_any}
 use Rattle.std.specs.Str.{bytes_eq}
-use Rattle.std.proofs.lemmas.Bool.{cases_Bool, leb-true, ltb-true, eq-eqb, eqb-true, not-true, true≢false}
+use Rattle.std.proofs.lemmas.Bool.{cases_Bool, leb-true, ltb-true, eq-eqb, eqb-true, not-true, and_parts, true≢false}
 use Rattle.std.proofs.Math.Nat.{mul-le-mul}
 use Rattle.tm_checks.specs.declared.fault.RuleFault.{RuleFault}
 use Rattle.tm_checks.specs.Teams.{IsSystem, harts_of, team}
@@ -32,10 +32,6 @@ pub unless-true : (b : Bool) (f : RuleFault) → unless b f ≡ None → b ≡ t
 unless-true true f none = refl
 unless-true false f none = cc
 
-pub both-true : (a b : Bool) → (a && b) ≡ true → (a ≡ true) × (b ≡ true)
-both-true true b both = (refl, both)
-both-true false b both = cc
-
 -- ---- windows
 
 own-lines : (k : Kind) (harts lines : ℕ) → has_each k harts lines ≡ true → kind_of k ≡ Own → harts ≤ lines
@@ -49,8 +45,8 @@ unfolding window_rules
 window-sound topo before w none =
     let a = first-none _ _ none in
     let b = first-none _ _ a.1 in
-    let lines = both-true _ _ (unless-true _ _ (first-none _ _ b.1).0) in
-    let number = both-true _ _ lines.0 in
+    let lines = and_parts _ _ (unless-true _ _ (first-none _ _ b.1).0) in
+    let number = and_parts _ _ lines.0 in
     (record {
       number = ltb-true w.number 3 (unless-true _ _ a.0);
       some = leb-true 1 w.lines number.0;
@@ -86,7 +82,7 @@ unfolding body_rules
 body-sound topo before whom len none =
     let a = first-none _ _ none in
     let b = first-none _ _ a.1 in
-    let count = both-true _ _ (unless-true _ _ (first-none _ _ b.1).0) in
+    let count = and_parts _ _ (unless-true _ _ (first-none _ _ b.1).0) in
     (unless-true _ _ a.0, b.0, leb-true 1 len count.0, leb-true len 256 count.1)
 
 pub case-sound : (count : ℕ) (before : List CaseDecl) (name : List ℕ) → first (case_rules count before name) ≡ None

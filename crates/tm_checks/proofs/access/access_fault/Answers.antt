@@ -13,24 +13,24 @@ is_placed-requires-clause-few c = ((sound-of c.args.p.now).windows _ c.in-Some.w
 pub returns-in-None : goal.returns-in-None
 returns-in-None c =
     rw c.from-w.ensures (access-undeclared c.args.p.now.line c.args.p.now.part c.args.p.now.shape c.args.topo.now c.args.whom c.args.i (sym c.is_access.ensures ∙ c.if-not-is_access.false)
-      (rw c.from-w.ensures at c.in-None.is))
+    (rw c.from-w.ensures at c.in-None.is))
 
 pub returns-then-not-is_placed : goal.returns-then-not-is_placed
 returns-then-not-is_placed c =
     let test = rw (c.from-w.ensures, c.width_of.ensures, c.slot_addr-addr.ensures) at c.is_placed.ensures in
     rw c.slot_addr-addr.ensures (access-misplaced c.args.p.now.line c.args.p.now.part c.args.p.now.shape c.args.topo.now c.args.whom c.args.i c.in-Some.window
-      (sym c.is_access.ensures ∙ c.if-not-is_access.false) (rw c.from-w.ensures at c.in-Some.is) (sym test ∙ c.if-not-is_placed.true))
+    (sym c.is_access.ensures ∙ c.if-not-is_access.false) (rw c.from-w.ensures at c.in-Some.is) (sym test ∙ c.if-not-is_placed.true))
 
 pub returns-in-None-stranger : goal.returns-in-None-stranger
 returns-in-None-stranger c =
     let test = rw (c.from-w.ensures, c.width_of.ensures, c.slot_addr-addr.ensures) at c.is_placed.ensures in
     access-owned c.args.p.now.line c.args.p.now.part c.args.p.now.shape c.args.topo.now c.args.whom c.args.i c.in-Some.window None
-      (sym c.is_access.ensures ∙ c.if-not-is_access.false) (rw c.from-w.ensures at c.in-Some.is) (sym test ∙ c.if-not-is_placed.false)
-      (sym c.in-None-stranger.is ∙ rw c.requires.harts at c.stranger.ensures)
+    (sym c.is_access.ensures ∙ c.if-not-is_access.false) (rw c.from-w.ensures at c.in-Some.is) (sym test ∙ c.if-not-is_placed.false)
+    (sym c.in-None-stranger.is ∙ rw c.requires.harts at c.stranger.ensures)
 
 pub returns-in-Some-stranger : goal.returns-in-Some-stranger
 returns-in-Some-stranger c =
     let test = rw (c.from-w.ensures, c.width_of.ensures, c.slot_addr-addr.ensures) at c.is_placed.ensures in
     rw c.slot_addr-addr.ensures (access-owned c.args.p.now.line c.args.p.now.part c.args.p.now.shape c.args.topo.now c.args.whom c.args.i c.in-Some.window (Some c.in-Some-stranger.hart)
-      (sym c.is_access.ensures ∙ c.if-not-is_access.false) (rw c.from-w.ensures at c.in-Some.is) (sym test ∙ c.if-not-is_placed.false)
-      (sym c.in-Some-stranger.is ∙ rw c.requires.harts at c.stranger.ensures))
+    (sym c.is_access.ensures ∙ c.if-not-is_access.false) (rw c.from-w.ensures at c.in-Some.is) (sym test ∙ c.if-not-is_placed.false)
+    (sym c.in-Some-stranger.is ∙ rw c.requires.harts at c.stranger.ensures))

@@ -21,4 +21,4 @@ pub returns : goal.returns
 returns c =
     c.target_fault.ensures
     ∙ emit-target c.args.p.now.line c.args.p.now.part c.args.p.now.shape c.args.topo.now c.args.whom c.args.slot c.args.slots c.args.i
-      (sym c.is_barred.ensures ∙ c.if-is_barred.false) (sym c.register_fault.ensures ∙ c.in_default.is) (sym c.access_fault.ensures ∙ c.in_default-access_fault.is)
+    (sym c.is_barred.ensures ∙ c.if-is_barred.false) (sym c.register_fault.ensures ∙ c.in_default.is) (sym c.access_fault.ensures ∙ c.in_default-access_fault.is)
