@@ -3,11 +3,12 @@ use Rattle.std.proofs.Common.{◌≡◌, ◌≢◌, ◌+◌, ◌*◌, ◌<◌, �
 use Rattle.std.specs.Prelude.{find}
 use Rattle.std.specs.List.{list_any}
 use Rattle.std.specs.Str.{bytes_eq}
-use Rattle.std.proofs.lemmas.Bool.{cases_Bool, leb-true, ltb-true, eq-eqb, eqb-true, not-true, true≢false}
+use Rattle.std.proofs.lemmas.Bool.{cases_Bool, leb-true, ltb-true, eq-eqb, eqb-true, not-true, and_parts, true≢false}
 use Rattle.std.proofs.Math.Nat.{mul-le-mul}
 use Rattle.tm_checks.specs.declared.fault.RuleFault.{RuleFault}
 use Rattle.tm_checks.specs.Teams.{IsSystem, harts_of, team}
 use Rattle.tm_checks.specs.Slots.{first}
+use Rattle.tm_checks.proofs.Checking.{first-none}
 use Rattle.tm_plan.specs.declared.cases.Window.{Window}
 use Rattle.tm_plan.specs.declared.cases.Kind2.TheVariants.{Own}
 use Rattle.tm_place.specs.Limits.{IsWindow}
@@ -27,17 +28,9 @@ use Rattle.tm_rules.proofs.FindLemmas.{found-in}
 
 -- ---- single rules
 
-pub rule-holds : (rule : Option RuleFault) (rules : List (Option RuleFault)) → first (rule ∷ rules) ≡ None → (rule ≡ None) × (first rules ≡ None)
-rule-holds None rules none = (refl, none)
-rule-holds (Some f) rules none = cc
-
 pub unless-true : (b : Bool) (f : RuleFault) → unless b f ≡ None → b ≡ true
 unless-true true f none = refl
 unless-true false f none = cc
-
-pub both-true : (a b : Bool) → (a && b) ≡ true → (a ≡ true) × (b ≡ true)
-both-true true b both = (refl, both)
-both-true false b both = cc
 
 -- ---- windows
 
@@ -50,10 +43,10 @@ pub window-sound : (topo : Topology) (before : List WindowDecl) (w : WindowDecl)
     → IsRuledWindow (harts_of topo) topo.line (window_of w) × (list_any (λ v. v.number == w.number) before ≡ false)
 unfolding window_rules
 window-sound topo before w none =
-    let a = rule-holds _ _ none in
-    let b = rule-holds _ _ a.1 in
-    let lines = both-true _ _ (unless-true _ _ (rule-holds _ _ b.1).0) in
-    let number = both-true _ _ lines.0 in
+    let a = first-none _ _ none in
+    let b = first-none _ _ a.1 in
+    let lines = and_parts _ _ (unless-true _ _ (first-none _ _ b.1).0) in
+    let number = and_parts _ _ lines.0 in
     (record {
       number = ltb-true w.number 3 (unless-true _ _ a.0);
       some = leb-true 1 w.lines number.0;
@@ -72,13 +65,14 @@ mapped-at f (x ∷ xs) zero y at = (x, refl, cc)
 mapped-at f (x ∷ xs) (suc k) y at = mapped-at f xs k y at
 
 -- the window of a number, where windows break no rule
-pub numbered-sound : (topo : Topology) (ws : List WindowDecl) → first_of (in_turn (window_checks topo) [] ws) ≡ None → (n : ℕ) → n < 3 → (v : Window)
-    → numbered n (windows_of ws) ≡ Some v → IsWindow (harts_of topo) topo.line n v
-numbered-sound topo ws none n below v found =
+pub numbered-sound : (topo : Topology) (ws : List WindowDecl) → first_of (in_turn (window_checks topo) [] ws) ≡ None → (n : ℕ) (v : Window) → numbered n (windows_of ws) ≡ Some v
+    → IsWindow (harts_of topo) topo.line n v
+numbered-sound topo ws none n v found =
     let stands = found-in (λ w. w.number == n) (windows_of ws) v found in
     let said = mapped-at window_of ws stands.1.0 v stands.1.1 in
     let ruled : IsRuledWindow (harts_of topo) topo.line v = subst (IsRuledWindow (harts_of topo) topo.line) said.2 (windows-sound topo ws none stands.1.0 said.0 said.1).0 in
-    record { number = eqb-true v.number n stands.0; below = below; some = ruled.some; few = ruled.few; each = ruled.each }
+    let number = eqb-true v.number n stands.0 in
+    record { number = number; below = rw number at ruled.number; some = ruled.some; few = ruled.few; each = ruled.each }
 
 -- ---- bodies and cases
 
@@ -86,18 +80,18 @@ pub body-sound : (topo : Topology) (before : List BodyDecl) (whom : Selector) (l
     → (is_there topo whom ≡ true) × (twice_fault topo before whom ≡ None) × (1 ≤ len) × (len ≤ 256)
 unfolding body_rules
 body-sound topo before whom len none =
-    let a = rule-holds _ _ none in
-    let b = rule-holds _ _ a.1 in
-    let count = both-true _ _ (unless-true _ _ (rule-holds _ _ b.1).0) in
+    let a = first-none _ _ none in
+    let b = first-none _ _ a.1 in
+    let count = and_parts _ _ (unless-true _ _ (first-none _ _ b.1).0) in
     (unless-true _ _ a.0, b.0, leb-true 1 len count.0, leb-true len 256 count.1)
 
 pub case-sound : (count : ℕ) (before : List CaseDecl) (name : List ℕ) → first (case_rules count before name) ≡ None
     → (length before ≢ 32) × (list_any (λ d. bytes_eq d.name name) before ≡ false)
 unfolding case_rules
 case-sound count before name none =
-    let a = rule-holds _ _ none in
+    let a = first-none _ _ none in
     let other : (length before == 32) ≡ false = not-true _ (unless-true _ _ a.0) in
-    (λ same. true≢false (sym (eq-eqb _ _ same) ∙ other), not-true _ (unless-true _ _ (rule-holds _ _ a.1).0))
+    (λ same. true≢false (sym (eq-eqb _ _ same) ∙ other), not-true _ (unless-true _ _ (first-none _ _ a.1).0))
 
 -- ---- systems
 

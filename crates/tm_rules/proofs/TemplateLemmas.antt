@@ -1,6 +1,6 @@
 -- The first broken rule of a template, from those of its parts.
 use Rattle.std.proofs.Common.{◌≡◌, ◌==◌, ℕ, Bool, true, false, not, List, [], ◌∷◌, ◌++◌, length, Option, Some, None, refl, sym, ap, ◌∙◌}
-use Rattle.std.proofs.lemmas.Bool.{eq-eqb, ne_eqb}
+use Rattle.std.proofs.lemmas.Bool.{eq-eqb, ne_eqb, not-true, true≢false}
 use Rattle.tm_checks.specs.declared.fault.RuleFault.TheVariants.{Cases, Passes}
 use Rattle.tm_checks.specs.declared.fault.RuleFault.{RuleFault}
 use Rattle.tm_tmpl.specs.declared.template.Template.{Template}
@@ -8,6 +8,7 @@ use Rattle.tm_topo.specs.declared.system.Topology.{Topology}
 use Rattle.tm_rules.specs.declared.fault.RuleAt.{RuleAt}
 use Rattle.tm_rules.specs.Windows.{windows_of, shape_of}
 use Rattle.tm_rules.specs.Rules.{Check, unless, first_of, in_turn, are_passes, window_checks, case_checks, checks_of, broken_rule}
+use Rattle.tm_rules.proofs.SoundLemmas.{unless-true}
 use Rattle.tm_rules.proofs.FirstLemmas.{at_place, first-passes, first-stops, first-both, one-passes, one-stops, one-none}
 
 -- the checks of a template's windows, of its cases, and of its end
@@ -50,3 +51,14 @@ end-stops topo t right none silent empty = behind-cases topo t right none silent
 pub nothing-stops : (topo : Topology) (t : Template) → are_passes t.passes ≡ true → first_of (in_windows topo t) ≡ None → first_of (in_cases topo t) ≡ None
     → (length t.cases ≡ 0 → ⊥) → broken_rule topo t ≡ None
 nothing-stops topo t right none silent some = behind-cases topo t right none silent ∙ rw (ne_eqb _ _ some) (one-passes t.end)
+
+-- a template that breaks no rule: its passes, its windows, its cases, and that there is one
+pub parts-none : (topo : Topology) (t : Template) → broken_rule topo t ≡ None
+    → (are_passes t.passes ≡ true) × (first_of (in_windows topo t) ≡ None) × (first_of (in_cases topo t) ≡ None) × (length t.cases ≡ 0 → ⊥)
+unfolding broken_rule checks_of
+parts-none topo t none =
+    let a = first-both ((t.passes_at, unless (are_passes t.passes) (Passes t.passes)) ∷ []) (in_windows topo t ++ (in_cases topo t ++ at_end t)) none in
+    let b = first-both (in_windows topo t) (in_cases topo t ++ at_end t) a.1 in
+    let c = first-both (in_cases topo t) (at_end t) b.1 in
+    let some = not-true _ (unless-true _ _ (one-none t.end _ c.1)) in
+    (unless-true _ _ (one-none t.passes_at _ a.0), b.0, c.0, λ empty. true≢false (sym (eq-eqb _ _ empty) ∙ some))

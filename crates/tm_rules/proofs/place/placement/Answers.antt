@@ -1,4 +1,4 @@
-use Rattle.std.proofs.Common.{◌∙◌, sym, refl, arith}
+use Rattle.std.proofs.Common.{◌∙◌, sym, refl}
 use Rattle.tm_checks.specs.Teams.{harts_of}
 use Rattle.tm_place.proofs.PlacementLemmas.{placement-three}
 use Rattle.tm_rules.specs.Windows.{shape_of}
@@ -12,7 +12,7 @@ invariant_of-result c =
     let sound = numbered-sound topo c.args.windows.now c.requires.sound in
     record {
       limits = placement-three (harts_of topo) topo.line c.part_size.result c.numbered.result c.numbered-2.result c.numbered-3.result harts.0 harts.1 c.requires.system.line c.part_size.ensures.value
-          (λ v e. sound 0 (omega arith) v (sym c.numbered.ensures ∙ e)) (λ v e. sound 1 (omega arith) v (sym c.numbered-2.ensures ∙ e)) (λ v e. sound 2 (omega arith) v (sym c.numbered-3.ensures ∙ e));
+          (λ v e. sound 0 v (sym c.numbered.ensures ∙ e)) (λ v e. sound 1 v (sym c.numbered-2.ensures ∙ e)) (λ v e. sound 2 v (sym c.numbered-3.ensures ∙ e));
     }
 
 pub returns-clause-shape : goal.returns-clause-shape

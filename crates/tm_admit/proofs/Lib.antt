@@ -1,0 +1,4 @@
+pub mod WrittenLemmas
+pub mod EachLemmas
+pub mod SlotLemmas
+pub mod RuledLemmas
