@@ -35,9 +35,11 @@ use Rattle.tm_rules.specs.Windows.{windows_of, window_of}
 use Rattle.tm_admit.specs.Admitting.{nothing, or_nothing, slots_of, written_out, slots_in, hart_slots, admitted_case, admitted_of}
 use Rattle.tm_inputs.specs.Built.{is_built, IsEmitted, emits, IsBuilt, AreBuilt}
 use Rattle.tm_inputs.specs.Late.{Mark, or_later, first_late, is_shared, is_first_window, is_built_line, is_built_slot, window_marks, slot_marks, body_marks, case_marks, marks_of, late_in}
-use Rattle.tm_inputs.specs.declared.role.Role.TheVariants.{Topology as of_topology}
+use Rattle.tm_rules.specs.Rules.{broken_rule}
+use Rattle.tm_inputs.specs.declared.role.Role.TheVariants.{Topology as of_topology, Template as of_template}
+use Rattle.tm_inputs.specs.declared.fault.InputFault.{InputFault}
 use Rattle.tm_inputs.specs.declared.fault.InputFault.TheVariants.{NotYet}
-use Rattle.tm_inputs.specs.Inputs.{is_first_system, late_at, not_yet}
+use Rattle.tm_inputs.specs.Inputs.{is_first_system, late_at, not_yet, unless_late, unless_broken, IsNamed}
 use Rattle.tm_inputs.proofs.LateLemmas.{or_second, first_of_both}
 
 -- ---- statements that are all built
@@ -234,3 +236,19 @@ pub built_where : (topo : Topology) (t : Template) (a : Admitted) → a ≡ admi
 built_where topo t a is ruled late =
     let no = nothing_late topo t (sym late) in
     subst AreBuilt (sym is) (built_of topo t no.0 no.1 (subst IsRuled is ruled))
+
+late_named : (p : Option Pos) (f : InputFault) → late_at p ≡ Some f → IsNamed f
+late_named None f h = absurd (cc)
+late_named (Some p) f h = let same : NotYet of_template p.line ≡ f = cc in subst IsNamed same tt
+
+not_yet_named : (topo : Topology) (t : Template) (f : InputFault) → not_yet topo t ≡ Some f → IsNamed f
+unfolding not_yet
+not_yet_named topo t f h = split (is_first_system topo) h where
+  split : (b : Bool) → (if b then late_at (late_in t) else Some (NotYet of_topology 0)) ≡ Some f → IsNamed f
+  split true e = late_named (late_in t) f e
+  split false e = let same : NotYet of_topology 0 ≡ f = cc in subst IsNamed same tt
+
+-- what isn't built yet is the fault of a test that no rule refuses
+pub late_fault : (topo : Topology) (t : Template) (f : InputFault) → broken_rule topo t ≡ None → not_yet topo t ≡ Some f
+    → IsNamed f × (unless_broken topo t (broken_rule topo t) ≡ Err f)
+late_fault topo t f sound late = (not_yet_named topo t f late, ap (unless_broken topo t) sound ∙ ap (unless_late (admitted_of topo t)) late)

@@ -1,3 +1,2 @@
 pub mod LateLemmas
 pub mod BuiltLemmas
-pub mod SystemLemmas
