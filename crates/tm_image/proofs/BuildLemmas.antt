@@ -1,77 +1,73 @@
 -- What `build` gives, over plain values.
-use Rattle.std.proofs.Common.{◌≡◌, ◌≤◌, ◌<◌, ℕ, List, length, map, Ok, refl, arith, length-append, lit≤, lit<}
-use Rattle.std.proofs.lemmas.List.{length-map}
+use Rattle.std.proofs.Common.{◌≡◌, ◌≤◌, ℕ, ◌*◌, List, [], ◌∷◌, length, map, Ok, refl, sym, ap, ◌∙◌, arith, lit≤, lit<}
 use Rattle.std.proofs.lemmas.List.Elements.{All-from_recursion}
-use Rattle.tm_table.specs.declared.instr.Instr.{Instr}
-use Rattle.tm_table.specs.Words.{word_of}
+use Rattle.tm_plan.specs.declared.admitted.AdmittedCase.{AdmittedCase}
+use Rattle.tm_plan.specs.declared.admitted.Admitted.{Admitted}
 use Rattle.tm_plan.specs.declared.program.Program.{Program}
+use Rattle.tm_plan.specs.Shaped.{IsProgram}
 use Rattle.tm_elf.specs.declared.parts.Parts.{Parts}
 use Rattle.tm_elf.specs.declared.parts.Symbol.{Symbol}
 use Rattle.tm_elf.specs.Elf.{elf_file, IsWritable}
 use Rattle.tm_elf.specs.Symbols.{IsName}
-use Rattle.tm_pass.specs.Hart.{hart_words}
-use Rattle.tm_image.specs.declared.image.BuildFault.{BuildFault}
-use Rattle.tm_image.specs.declared.image.BuildFault.TheVariants as fault
-use Rattle.tm_image.specs.Inputs.{inputs}
-use Rattle.tm_image.specs.Program.{program_of, cases_of, marks_around, symbols_at, IsOfOne}
-use Rattle.tm_image.specs.Built.{parts_of, image_file, built, program_from, IsFaultOf}
+use Rattle.tm_inputs.specs.declared.fault.BuildFault.{BuildFault}
+use Rattle.tm_inputs.specs.declared.fault.BuildFault.TheVariants as fault
+use Rattle.tm_inputs.specs.Inputs.{inputs, IsFaultOf}
+use Rattle.tm_inputs.specs.Built.{AreBuilt}
+use Rattle.tm_program.specs.Program.{program_for, case_from, IsTestOf}
+use Rattle.tm_image.specs.Symbols.{symbols_at, IsOfOne}
+use Rattle.tm_image.specs.Built.{parts_of, image_file, built, program_from}
 use Rattle.tm_image.proofs.SymbolLemmas.{symbols_are}
-use Rattle.tm_image.proofs.TableLemmas.{tables_short}
 
-pub is_of_one : (stream : List Instr) → IsOfOne (program_of stream)
-unfolding program_of cases_of marks_around
-is_of_one stream = record { harts = refl; cases = refl; marks = record { starts = refl; ends = refl; exits = refl; halts = refl } }
+one_case : (cs : List AdmittedCase) (c : AdmittedCase) → cs ≡ c ∷ [] → length (map case_from cs) ≡ 1
+one_case cs c is = ap (λ (ds : List AdmittedCase). length (map case_from ds)) is
 
-pub of_one : (p : Program) (stream : List Instr) → p ≡ program_of stream → IsOfOne p
-of_one p stream is = rw is (is_of_one stream)
-
-text_some : (words : List ℕ) → 1 ≤ length words → 0 < length (hart_words words)
-unfolding hart_words
-text_some words some = simp length-append (omega arith)
-
-tables_few : (stream : List Instr) → length (program_of stream).tables ≤ 4194304
-unfolding program_of
-tables_few stream = tables_short (map word_of stream)
-
-program_some : (stream : List Instr) → 1 ≤ length stream → 0 < length (program_of stream).text
-unfolding program_of
-program_some stream some = text_some (map word_of stream) (omega (arith, length-map stream word_of))
-
-writable_parts : (p : Program) (topo template : List ℕ) (seed : ℕ) (stream : List Instr) → p ≡ program_of stream → 1 ≤ length stream → length p.text ≤ 2048
-    → length topo ≤ 65536 → length template ≤ 1048576 → IsWritable (parts_of p topo template seed)
-unfolding parts_of
-writable_parts p topo template seed stream is some short topo_short template_short =
-    let one : IsOfOne p = rw is (is_of_one stream) in
-    let named = symbols_are p one in
+-- one hart and one case, since the test has them
+pub of_one : (a : Admitted) (p : Program) → AreBuilt a → IsTestOf a p.cases → IsProgram p → IsOfOne p
+of_one a p (case, stream, built) test program =
+    let harts : p.cases.harts ≡ 1 = test.harts ∙ built.harts in
+    let cases : length p.cases.cases ≡ 1 = ap (λ cs. length cs) test.each ∙ one_case a.cases _ built.cases in
+    let both : p.cases.harts * length p.cases.cases ≡ 1 = rw (harts, cases) refl in
     record {
-      text = (let h : 0 < length p.text = rw is (program_some stream some) in h, omega arith);
-      tables = rw is (tables_few stream);
+      harts = harts;
+      cases = cases;
+      marks = record { starts = program.starts ∙ both; ends = program.ends ∙ both; exits = program.exits ∙ harts; halts = program.halts ∙ harts };
+    }
+
+-- the parts of a program of one hart and one case can be written
+pub writable : (p : Program) (topo template : List ℕ) (seed : ℕ) (parts : Parts) → parts ≡ parts_of p topo template seed → IsOfOne p → IsProgram p
+    → length topo ≤ 65536 → length template ≤ 1048576 → IsWritable parts
+unfolding parts_of
+writable p topo template seed parts made one program topo_short template_short =
+    let named = symbols_are p one in
+    rw made (record {
+      text = (omega (arith, program.text.0), program.text.1);
+      tables = program.tables;
       topo = topo_short;
       template = template_short;
       symbols = rw named (lit≤ tt);
       names = rw named (All-from_recursion (λ (s : Symbol). IsName s.name) (symbols_at p.marks) (record { some = lit< tt; short = lit≤ tt; ascii = refl }, (record { some = lit< tt; short = lit≤ tt; ascii = refl }, (record { some = lit< tt; short = lit≤ tt; ascii = refl }, (record { some = lit< tt; short = lit≤ tt; ascii = refl }, tt)))));
-    }
+    })
 
-pub writable : (p : Program) (topo template : List ℕ) (seed : ℕ) (stream : List Instr) (parts : Parts) → parts ≡ parts_of p topo template seed → p ≡ program_of stream
-    → 1 ≤ length stream → length p.text ≤ 2048 → length topo ≤ 65536 → length template ≤ 1048576 → IsWritable parts
-writable p topo template seed stream parts made is some short topo_short template_short =
-    rw made (writable_parts p topo template seed stream is some short topo_short template_short)
-
-pub built_ok : (topo template : List ℕ) (seed : ℕ) (stream : List Instr) (p : Program) (parts : Parts) (file : List ℕ) → inputs topo template ≡ Ok stream
-    → p ≡ program_of stream → parts ≡ parts_of p topo template seed → file ≡ elf_file parts → built topo template seed ≡ Ok file
+pub built_ok : (topo template : List ℕ) (seed : ℕ) (a : Admitted) (p : Program) (parts : Parts) (file : List ℕ) → inputs topo template ≡ Ok a
+    → p ≡ program_for a → parts ≡ parts_of p topo template seed → file ≡ elf_file parts → built topo template seed ≡ Ok file
 unfolding built image_file
-built_ok topo template seed stream p parts file read is made written = rw (read, written, made, is) refl
+built_ok topo template seed a p parts file read is made written = rw (read, written, made, is) refl
 
-pub program_ok : (topo template : List ℕ) (stream : List Instr) (p : Program) → inputs topo template ≡ Ok stream → p ≡ program_of stream
+pub program_ok : (topo template : List ℕ) (a : Admitted) (p : Program) → inputs topo template ≡ Ok a → p ≡ program_for a
     → program_from (inputs topo template) ≡ Ok p
-program_ok topo template stream p read is = rw (read, is) refl
+program_ok topo template a p read is = rw (read, is) refl
 
 pub file_is : (topo template : List ℕ) (seed : ℕ) (p : Program) (parts : Parts) (file : List ℕ) → parts ≡ parts_of p topo template seed → file ≡ elf_file parts
     → file ≡ image_file p topo template seed
 unfolding image_file
 file_is topo template seed p parts file made written = rw (written, made) refl
 
+-- the test is the only one that the two texts ask for
+pub test_is : (topo template : List ℕ) (a : Admitted) (p : Program) → inputs topo template ≡ Ok a → IsTestOf a p.cases
+    → (b : Admitted) → inputs topo template ≡ Ok b → IsTestOf b p.cases
+test_is topo template a p read test b other = let same : a ≡ b = cc in rw (sym same) test
+
 pub built_err : (f : BuildFault) (topo template : List ℕ) (seed : ℕ) → IsFaultOf f (inputs topo template) → IsFaultOf f (built topo template seed)
 unfolding built
-built_err (fault.Input refused) topo template seed h = rw h refl
+built_err (fault.Input refused) topo template seed h = (h.0, rw h.1 refl)
 built_err fault.NoMemory topo template seed h = tt

@@ -1,37 +1,18 @@
 // From the two texts to the image.
 ghost use Rattle.std.specs.Prelude.{◌≡◌, ◌≤◌, ◌<◌, ◌^◌, ◌++◌, ◌∷◌, [], Ok, IfOk, OnOk, IfErr, length, codes};
 ghost use Rattle.tm_course.specs.Claims.{SoundSoFar};
-ghost use Rattle.tm_image.specs.Template.{Spells};
-ghost use Rattle.tm_image.specs.Inputs.{inputs};
-ghost use Rattle.tm_image.specs.Program.{symbol, symbols_at, AreOfOne, IsOfOne};
-ghost use Rattle.tm_image.specs.Built.{built, parts_of as parts_with, image_file, program_from, IsFaultOf};
+ghost use Rattle.tm_plan.specs.declared.admitted.Admitted.{Admitted as Test};
+ghost use Rattle.tm_inputs.specs.Inputs.{inputs, IsFaultOf};
+ghost use Rattle.tm_program.specs.Program.{IsTestOf};
+ghost use Rattle.tm_image.specs.Symbols.{symbol, symbols_at, AreOfOne, IsOfOne};
+ghost use Rattle.tm_image.specs.Built.{built, parts_of as parts_with, image_file, program_from};
 
-use crate::input::{InputFault, Role, topology_fault};
-use crate::program::program_of;
-use crate::template::{LineFault, stream_of};
 use std::alloc::Global;
 use tm_base::{Bytes, List, NoMemory, Words};
 use tm_elf::{Parts, Plan, Symbol, write_elf};
+use tm_inputs::{BuildFault, read_inputs};
 use tm_plan::{Marks, Program};
-use tm_table::Instr;
-
-/// Why nothing was built.
-#[derive(Clone, Copy, Debug, PartialEq, Eq)]
-pub enum BuildFault {
-    Input(InputFault),
-    NoMemory,
-}
-
-impl From<NoMemory> for BuildFault {
-    ghost use Rattle.std.specs.Prelude.{◌≡◌};
-    ghost use Rattle.tm_image.specs.declared.image.BuildFault.TheVariants as fault;
-
-    ghost from_gives = { λ _ e. e ≡ fault.NoMemory };
-
-    fn from(_: NoMemory) -> Self {
-        BuildFault::NoMemory
-    }
-}
+use tm_program::program_of;
 
 /// A program with the seed that it was built with, and its file.
 #[derive(Drop)]
@@ -43,22 +24,23 @@ pub struct Image {
 
 /// The image of two texts and a seed, or their first fault. The topology, of at most 65,536 bytes, is
 /// refused before the template, of at most 1,048,576 bytes.
-#[tactic(auto, using(crate::proofs::BuildLemmas::built_ok, crate::proofs::BuildLemmas::built_err, crate::proofs::BuildLemmas::program_ok, crate::proofs::BuildLemmas::file_is))]
+#[tactic(auto, using(crate::proofs::BuildLemmas::built_ok, crate::proofs::BuildLemmas::built_err, crate::proofs::BuildLemmas::program_ok, crate::proofs::BuildLemmas::file_is, crate::proofs::BuildLemmas::test_is))]
 pub fn build(alloc: Global, topo: &[u8], template: &[u8], seed: u64) -> Result<Image, BuildFault>
     requires topo { length topo.now ≤ 65536 }
     requires template { length template.now ≤ 1048576 }
     ensures ok { IfOk result (λ image. built topo.now template.now seed ≡ Ok image.file) }
     ensures program { IfOk result (λ image. program_from (inputs topo.now template.now) ≡ Ok image.program) }
+    ensures test { IfOk result (λ image. (a : Test) → inputs topo.now template.now ≡ Ok a → IsTestOf a image.program.cases) }
     ensures file { IfOk result (λ image. image.file ≡ image_file image.program topo.now template.now seed) }
     ensures sound { IfOk result (λ image. SoundSoFar image.program) }
     ensures seed { IfOk result (λ image. image.seed ≡ seed) }
     ensures err { IfErr result (λ fault. IsFaultOf fault (built topo.now template.now seed)) }
 {
-    let stream = match stream_of_inputs(alloc, topo, template) {
-        Ok(stream) => stream,
+    let test = match read_inputs(alloc, topo, template) {
+        Ok(test) => test,
         Err(fault) => return Err(fault),
     };
-    let program = program_of(alloc, stream.as_slice())?;
+    let program = program_of(alloc, &test)?;
     let parts = parts_of(alloc, &program, topo, template, seed)?;
     let file = write_elf(alloc, &parts)?;
     Ok(Image {
@@ -66,28 +48,6 @@ pub fn build(alloc: Global, topo: &[u8], template: &[u8], seed: u64) -> Result<I
         seed,
         file,
     })
-}
-
-// The stream that both texts ask for, or their first fault.
-#[tactic(auto, unfolding(crate::specs::Inputs::inputs, crate::specs::Inputs::template_inputs))]
-fn stream_of_inputs(alloc: Global, topo: &[u8], template: &[u8]) -> Result<List<Instr>, BuildFault>
-    requires topo { length topo.now ≤ 65536 }
-    requires template { length template.now ≤ 1048576 }
-    ensures ok { IfOk result (λ stream. inputs topo.now template.now ≡ Ok stream) }
-    ensures spells { IfOk result (λ stream. Spells template.now stream) }
-    ensures err { IfErr result (λ fault. IsFaultOf fault (inputs topo.now template.now)) }
-{
-    if let Some(fault) = topology_fault(topo) {
-        return Err(BuildFault::Input(fault));
-    }
-    match stream_of(alloc, template) {
-        Ok(stream) => Ok(stream),
-        Err(LineFault::Line(line)) => Err(BuildFault::Input(InputFault::NotYet {
-            file: Role::Template,
-            line,
-        })),
-        Err(LineFault::NoMemory) => Err(BuildFault::NoMemory),
-    }
 }
 
 // What the file of a program holds.
