@@ -2,10 +2,12 @@
 use Rattle.std.specs.Prelude.{ℕ, List, Option, Some, None, Result, Ok, Err}
 use Rattle.tm_elf.specs.declared.parts.Parts.{Parts}
 use Rattle.tm_elf_head.specs.declared.fault.ElfFault.{ElfFault}
+use Rattle.tm_elf_head.specs.declared.fault.ElfFault.TheVariants as elf_fault
 use Rattle.tm_elf_head.specs.Differences.{first_difference}
 use Rattle.tm_elf_read.specs.Read.{elf_of}
 use Rattle.tm_image.specs.Built.{built}
-use Rattle.tm_image.specs.declared.input.InputFault.{InputFault}
+use Rattle.tm_inputs.specs.declared.fault.InputFault.{InputFault}
+use Rattle.tm_inputs.specs.Inputs.{IsNamed}
 use Rattle.tm_open.specs.declared.fault.ImageFault.{ImageFault}
 use Rattle.tm_open.specs.declared.fault.ImageFault.TheVariants.{Elf, Inputs, Differs}
 
@@ -32,3 +34,9 @@ opened_from bytes (Err fault) = Err (Elf fault)
 -- (this project)
 unfoldable pub opened : List ℕ → Result (List ℕ) ImageFault
 opened bytes = opened_from bytes (elf_of bytes)
+
+-- want of memory stands in no fault of a file: it is a fault of its own (this project)
+abbrev pub IsNamedFault : ImageFault → Type 0
+IsNamedFault (Elf elf_fault.NoMemory) = ⊥
+IsNamedFault (Inputs fault) = IsNamed fault
+IsNamedFault _ = Unit {0}

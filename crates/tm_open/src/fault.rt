@@ -1,8 +1,8 @@
 use tm_elf_head::ElfFault;
-use tm_image::InputFault;
+use tm_inputs::InputFault;
 
 /// Why a file isn't opened as an image.
-#[derive(Clone, Copy, Debug, PartialEq, Eq)]
+#[derive(Drop)]
 pub enum ImageFault {
     /// The file hasn't the form of an image; want of memory doesn't stand here.
     Elf(ElfFault),

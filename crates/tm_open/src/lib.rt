@@ -3,8 +3,6 @@
 
 mod fault;
 mod open;
-#[cfg(test)]
-mod tests;
 
 pub use fault::ImageFault;
 pub use open::open_image;

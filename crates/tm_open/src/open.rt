@@ -1,18 +1,18 @@
 // Opens an image by building it again.
 ghost use Rattle.std.specs.Prelude.{◌≡◌, ◌≢◌, ◌≤◌, Ok, Err, IfOk, IfErr, MatchResult, length};
 ghost use Rattle.tm_course.specs.Claims.{SoundSoFar};
-ghost use Rattle.tm_elf_head.specs.declared.fault.ElfFault.TheVariants as elf_fault;
 ghost use Rattle.tm_elf_read.specs.Read.{elf_of};
 ghost use Rattle.tm_image.specs.Built.{program_from};
-ghost use Rattle.tm_image.specs.Inputs.{inputs};
-ghost use Rattle.tm_open.specs.Opened.{compared, opened, rebuilt};
+ghost use Rattle.tm_inputs.specs.Inputs.{inputs};
+ghost use Rattle.tm_open.specs.Opened.{compared, opened, rebuilt, IsNamedFault};
 
 use crate::fault::ImageFault;
 use std::alloc::Global;
 use tm_elf::Parts;
 use tm_elf_head::{ElfFault, first_difference};
 use tm_elf_read::read_elf;
-use tm_image::{BuildFault, Image, build};
+use tm_image::{Image, build};
+use tm_inputs::BuildFault;
 
 /// The image of a file, if the file is what is built of its plan; else its first fault. A file is taken only where it is the image's file, byte for byte.
 #[tactic(auto, unfolding(crate::specs::Opened::opened))]
@@ -24,7 +24,7 @@ pub fn open_image(alloc: Global, bytes: &[u8]) -> Result<Image, ImageFault>
     ensures program { IfOk result (λ image. MatchResult (elf_of bytes.now) (λ parts. program_from (inputs parts.plan.topo parts.plan.template) ≡ Ok image.program) (λ _. ⊥)) }
     ensures sound { IfOk result (λ image. SoundSoFar image.program) }
     ensures err { IfErr result (λ e. e ≢ ImageFault.NoMemory → opened bytes.now ≡ Err e) }
-    ensures form { IfErr result (λ e. e ≢ ImageFault.Elf elf_fault.NoMemory) }
+    ensures named { IfErr result IsNamedFault }
 {
     match read_elf(alloc, bytes) {
         Ok(parts) => rebuild(alloc, &parts, bytes),
@@ -45,7 +45,7 @@ fn rebuild(alloc: Global, parts: &Parts, bytes: &[u8]) -> Result<Image, ImageFau
     ensures program { IfOk result (λ image. program_from (inputs parts.now.plan.topo parts.now.plan.template) ≡ Ok image.program) }
     ensures sound { IfOk result (λ image. SoundSoFar image.program) }
     ensures err { IfErr result (λ e. e ≢ ImageFault.NoMemory → compared bytes.now (rebuilt parts.now) ≡ Err e) }
-    ensures form { IfErr result (λ e. e ≢ ImageFault.Elf elf_fault.NoMemory) }
+    ensures named { IfErr result IsNamedFault }
 {
     let plan = &parts.plan;
     let image = match build(
