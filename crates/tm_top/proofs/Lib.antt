@@ -1,4 +1,4 @@
 pub mod Refusals
+pub mod Listings
 pub mod Stops
-pub mod Reports
 pub mod Owing

@@ -1,14 +1,14 @@
 // What goes to the error sink, and the status that a call ends with.
-ghost use Rattle.std.specs.Prelude.{◌≡◌};
-ghost use Rattle.tm_top.specs.Texts.{no_memory, fault_text, usage};
-ghost use Rattle.tm_top.specs.Changes.{sink_change, TookFront};
-ghost use Rattle.tm_top.specs.Steps.{Told, IsTellable, Reported};
+ghost use Rattle.std.specs.Prelude.{◌≡◌, IsFalse};
+ghost use Rattle.tm_lines.specs.Lines.{fault_text, wants_memory};
+ghost use Rattle.tm_owed.specs.Texts.{no_memory, usage};
+ghost use Rattle.tm_owed.specs.Changes.{sink_change, TookFront};
+ghost use Rattle.tm_owed.specs.Steps.{Told, IsTellable, Reported};
 
-use crate::fault::{AnyFault, fault_line};
 use crate::stop::Stop;
 use std::alloc::Global;
 use tm_desk::{DeskError, Sink, SinkError, put_all};
-use tm_image::Role;
+use tm_lines::{AnyFault, Role, fault_line};
 
 const USAGE: &[u8] =
     b"usage: threadmill build TOPO TEMPLATE OUT --seed S\n       threadmill list IMAGE\n       threadmill run IMAGE [--events N] [--order threads|round] [--faults F] [--trace OUT]\n       threadmill sample N\n";
@@ -38,7 +38,7 @@ fn say<E: Sink>(err: &mut E, text: &[u8], status: u8) -> u8
 
 /// Says the line of a fault and answers its status, or 6.
 fn say_fault<E: Sink>(alloc: Global, err: &mut E, role: Role, fault: &AnyFault, status: u8) -> u8
-    requires { fault.now ≡ AnyFault.Desk DeskError.NoMemory → ⊥ }
+    requires { IsFalse (wants_memory fault.now) }
     ensures { Told (sink_change E.tells E.taken E.faults err.old err.new) (fault_text role fault.now) status result }
 {
     match fault_line(alloc, role, fault) {
@@ -51,7 +51,7 @@ fn say_fault<E: Sink>(alloc: Global, err: &mut E, role: Role, fault: &AnyFault, 
 }
 
 /// Says why a command stopped, and answers its status.
-pub fn report<E: Sink>(alloc: Global, err: &mut E, stop: &Stop) -> u8
+pub fn tell_stop<E: Sink>(alloc: Global, err: &mut E, stop: &Stop) -> u8
     requires { IsTellable stop.now }
     ensures { Reported stop.now (sink_change E.tells E.taken E.faults err.old err.new) result }
 {
@@ -67,7 +67,7 @@ pub fn report<E: Sink>(alloc: Global, err: &mut E, stop: &Stop) -> u8
 
 /// Says the usage text, and answers the status.
 #[tactic(auto, unfolding(crate::specs::Texts::usage))]
-pub fn report_usage<E: Sink>(err: &mut E) -> u8
+pub fn tell_usage<E: Sink>(err: &mut E) -> u8
     ensures { Told (sink_change E.tells E.taken E.faults err.old err.new) usage 2 result }
 {
     say(err, USAGE, 2)

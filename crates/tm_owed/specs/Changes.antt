@@ -1,7 +1,7 @@
 -- What a call changes at a desk and at a sink. Source: this project.
 use Rattle.std.specs.Prelude.{◌≡◌, ℕ, Bool, IsTrue, List, ◌++◌, take}
 use Rattle.tm_desk.specs.Causes.{Files, Rose, OthersStay}
-use Rattle.tm_top.specs.Texts.{no_memory}
+use Rattle.tm_owed.specs.Texts.{no_memory}
 
 -- a desk before and after a call
 pub record DeskChange : Type 0 where

@@ -1,13 +1,12 @@
-// The steps of a build at the desk and at the sink: each ends, or stops the build with its cause.
+// The steps of a command at the desk and at the sink: each ends, or stops the command with its cause.
 ghost use Rattle.std.specs.Prelude.{◌≡◌, ◌++◌, ◌≤◌, ℕ, IsTrue, IfOk, OnOk, IfErr, OnErr, length, take, Some};
 ghost use Rattle.tm_desk.specs.Causes.{OthersStay};
-ghost use Rattle.tm_top.specs.Steps.{ReadStop, PutStop};
+ghost use Rattle.tm_owed.specs.Steps.{ReadStop, PutStop};
 
-use crate::fault::AnyFault;
 use crate::stop::Stop;
 use tm_base::{Bytes, Text};
 use tm_desk::{Desk, DeskError, Sink, SinkError, put_all};
-use tm_image::Role;
+use tm_lines::{AnyFault, Role};
 
 /// Reads the file of a role, of at most `max` bytes.
 pub fn read_input<D: Desk>(desk: &mut D, role: Role, name: &str, max: u64) -> Result<Bytes, Stop>
@@ -43,13 +42,13 @@ pub fn write_output<D: Desk>(desk: &mut D, name: &str, file: &Bytes) -> Result<(
     }
 }
 
-/// Prints a line.
-pub fn print_line<O: Sink>(out: &mut O, line: &Text) -> Result<(), Stop>
-    ensures all { IsTrue O.tells → OnOk result (O.taken out.new ≡ O.taken out.old ++ line.now) }
-    ensures front { IsTrue O.tells → OnErr result ((n : ℕ) × (O.taken out.new ≡ O.taken out.old ++ take n line.now)) }
+/// Prints a text.
+pub fn print_text<O: Sink>(out: &mut O, text: &Text) -> Result<(), Stop>
+    ensures all { IsTrue O.tells → OnOk result (O.taken out.new ≡ O.taken out.old ++ text.now) }
+    ensures front { IsTrue O.tells → OnErr result ((n : ℕ) × (O.taken out.new ≡ O.taken out.old ++ take n text.now)) }
     ensures cause { IfErr result (λ stop. PutStop stop (O.faults out.old) (O.faults out.new)) }
 {
-    match put_all(out, line.as_slice()) {
+    match put_all(out, text.as_slice()) {
         Ok(()) => Ok(()),
         Err(SinkError::NoMemory) => Err(Stop::NoMemory),
         Err(SinkError::Failed) => Err(Stop::Failed(Role::Output)),

@@ -8,3 +8,10 @@ pub struct BuildWords<'a> {
     pub out: &'a str,
     pub seed: u64,
 }
+
+/// A command with what it asks for; a listing asks for the image of a name.
+#[derive(Drop)]
+pub enum CommandWords<'a> {
+    Build(BuildWords<'a>),
+    List(&'a str),
+}

@@ -1,8 +1,9 @@
 // The words of the command line.
-ghost use Rattle.std.specs.Prelude.{◌≡◌, MatchOption, None, Some};
-ghost use Rattle.tm_top.specs.Words.{command_of, is_name, bytes_of_words, words_of};
+ghost use Rattle.std.specs.Prelude.{◌≡◌, MatchOption, None, Some, ◌∷◌, [], List, ℕ};
+ghost use Rattle.std.specs.String.{string_bytes};
+ghost use Rattle.tm_owed.specs.Words.{command_of, command_in, is_name, bytes_of_words};
 
-use crate::command::BuildWords;
+use crate::command::{BuildWords, CommandWords};
 use tm_base::read_number;
 
 fn is_a_name(word: &str) -> bool
@@ -16,10 +17,16 @@ fn is_a_name(word: &str) -> bool
 
 /// The command that the words are; none where they are of another form.
 #[tactic(auto, unfolding(crate::specs::Words::command_of))]
-pub fn read_words(words: &[String]) -> Option<BuildWords<'_>>
+pub fn read_words(words: &[String]) -> Option<CommandWords<'_>>
     ensures { MatchOption result (command_of (bytes_of_words words.now) ≡ None)
-        (λ b. command_of (bytes_of_words words.now) ≡ Some (words_of b)) }
+        (λ c. command_of (bytes_of_words words.now) ≡ Some (command_in c)) }
 {
+    if let [name, image] = words {
+        if name.as_str() != "list" || !is_a_name(image) {
+            return None;
+        }
+        return Some(CommandWords::List(image));
+    }
     let [name, topo, template, out, option, seed] = words else {
         return None;
     };
@@ -28,12 +35,12 @@ pub fn read_words(words: &[String]) -> Option<BuildWords<'_>>
         return None;
     }
     match read_number(seed.as_bytes()) {
-        Ok(seed) => Some(BuildWords {
+        Ok(seed) => Some(CommandWords::Build(BuildWords {
             topo,
             template,
             out,
             seed,
-        }),
+        })),
         Err(_) => None,
     }
 }

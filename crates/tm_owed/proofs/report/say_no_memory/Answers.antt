@@ -1,7 +1,7 @@
-use Rattle.tm_top.specs.Texts.{no_memory}
-use Rattle.tm_top.specs.Changes.{sink_change}
-use Rattle.tm_top.proofs.Reports.{put_front}
-use Rattle.tm_top.proofs.report.say_no_memory.Goals as goal
+use Rattle.tm_owed.specs.Texts.{no_memory}
+use Rattle.tm_owed.specs.Changes.{sink_change}
+use Rattle.tm_owed.proofs.Reports.{put_front}
+use Rattle.tm_owed.proofs.report.say_no_memory.Goals as goal
 
 pub returns : goal.returns
 unfolding no_memory

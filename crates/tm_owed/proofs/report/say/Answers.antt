@@ -1,8 +1,8 @@
 use Rattle.std.proofs.Common.{refl}
-use Rattle.tm_top.specs.Changes.{sink_change}
-use Rattle.tm_top.specs.Steps.Told.{told_whole}
-use Rattle.tm_top.proofs.Reports.{said_whole}
-use Rattle.tm_top.proofs.report.say.Goals as goal
+use Rattle.tm_owed.specs.Changes.{sink_change}
+use Rattle.tm_owed.specs.Steps.Told.{told_whole}
+use Rattle.tm_owed.proofs.Reports.{said_whole}
+use Rattle.tm_owed.proofs.report.say.Goals as goal
 
 pub returns-in-Ok : goal.returns-in-Ok
 returns-in-Ok g c =

@@ -1,6 +1,5 @@
 // Why a command stops before it is done.
-use crate::fault::AnyFault;
-use tm_image::Role;
+use tm_lines::{AnyFault, Role};
 
 /// An input was refused, the outside failed at the file of a role, or there was no memory.
 #[derive(Clone, Copy, Debug, PartialEq, Eq)]
