@@ -1,4 +1,2 @@
 pub mod Refusals
-pub mod Listings
-pub mod Stops
 pub mod Owing

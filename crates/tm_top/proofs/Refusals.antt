@@ -1,7 +1,6 @@
 -- The first fault of a build's two inputs, step by step.
 use Rattle.std.proofs.Common.{◌≡◌, ◌≤◌, ◌<◌, ◌∙◌, ap, sym, subst, refl, ℕ, List, Option, None, Some, Result, Ok, Err, IsTrue, length, arith, inl, inr}
 use Rattle.std.specs.Prelude.{IsSomeAnd}
-use Rattle.std.proofs.lemmas.Bool.{le-ltb, lt-ltb}
 use Rattle.tm_table.specs.declared.instr.Instr.{Instr}
 use Rattle.tm_desk.specs.Causes.{Files}
 use Rattle.tm_desk.specs.declared.desk.DeskError.TheVariants.{TooLong, Failed}
@@ -15,23 +14,13 @@ use Rattle.tm_owed.specs.declared.stop.Stop.{Stop}
 use Rattle.tm_owed.specs.declared.stop.Stop.TheVariants as stop
 use Rattle.tm_owed.specs.Words.{Build}
 use Rattle.tm_owed.specs.Words.Command.{to_build}
-use Rattle.tm_owed.specs.Inputs.{topology_limit, template_limit, refusal_of, as_fault, refused_topology, refused_template, fault_of_input, fault_of_topology, fault_of_template, first_fault}
+use Rattle.tm_owed.proofs.Limits.{long, short}
+use Rattle.tm_owed.specs.Inputs.{topology_limit, template_limit, refusal_of, as_fault, refused_topology, refused_template, fault_of_topology, fault_of_template, first_fault}
 use Rattle.tm_owed.specs.Changes.{DeskChange, DeskFailed}
 use Rattle.tm_owed.specs.Owed.{IsRefusal, IsMadeOf, IsImageOf}
 use Rattle.tm_owed.specs.Owed.InputFailure.{unread, missing}
 use Rattle.tm_owed.specs.Steps.{ReadStop, InputStop}
 use Rattle.tm_top.specs.Steps.{IsTopology, ImageStop}
-
--- an input that is longer than its limit
-pub long : (max : ℕ) (refusal : List ℕ → Option AnyFault) (file : Option (List ℕ)) → IsSomeAnd file (λ text. max < length text)
-    → fault_of_input max refusal file ≡ Some (Desk (TooLong max))
-long max refusal None h = absurd h
-long max refusal (Some text) h = rw (lt-ltb max (length text) h) refl
-
--- an input within its limit
-pub short : (max : ℕ) (refusal : List ℕ → Option AnyFault) (text : List ℕ) → length text ≤ max
-    → fault_of_input max refusal (Some text) ≡ refusal text
-short max refusal text h = rw (le-ltb max (length text) h) refl
 
 -- ---- which fault is the first
 

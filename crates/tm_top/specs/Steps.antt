@@ -1,13 +1,11 @@
--- What the steps of the two commands leave. Source: this project.
-use Rattle.std.specs.Prelude.{◌≡◌, ◌≤◌, ℕ, Bool, false, List, length, IsTrue, None, Some, Result, Ok, Err}
+-- What the steps of a build leave. Source: this project.
+use Rattle.std.specs.Prelude.{◌≡◌, ◌≤◌, ℕ, Bool, List, length, IsTrue, None, Some, Result, Ok, Err}
 use Rattle.tm_desk.specs.Causes.{Files}
 use Rattle.tm_table.specs.declared.instr.Instr.{Instr}
 use Rattle.tm_image.specs.declared.input.Role.TheVariants as roles
 use Rattle.tm_image.specs.declared.input.InputFault.{InputFault}
 use Rattle.tm_image.specs.Inputs.{topology_refusal}
-use Rattle.tm_open.specs.declared.fault.ImageFault.{ImageFault}
-use Rattle.tm_lines.specs.declared.fault.AnyFault.TheVariants.{Input, Image}
-use Rattle.tm_lines.specs.Lines.{wants_memory}
+use Rattle.tm_lines.specs.declared.fault.AnyFault.TheVariants.{Input}
 use Rattle.tm_owed.specs.declared.stop.Stop.{Stop}
 use Rattle.tm_owed.specs.declared.stop.Stop.TheVariants as stop
 use Rattle.tm_owed.specs.Words.{Build}
@@ -24,10 +22,3 @@ abbrev pub ImageStop : Stop → Result (List Instr) InputFault → Type 0
 ImageStop (stop.Refused by fault) template = (refusal : InputFault) × (template ≡ Err refusal) × (by ≡ roles.Template) × (fault ≡ Input refusal)
 ImageStop (stop.Failed by) template = ⊥
 ImageStop stop.NoMemory template = Unit {0}
-
--- why a file isn't opened as an image
-abbrev pub OpenStop : Stop → Result (List ℕ) ImageFault → Type 0
-OpenStop (stop.Refused by fault) opened =
-    (refusal : ImageFault) × (opened ≡ Err refusal) × (by ≡ roles.Image) × (fault ≡ Image refusal) × (wants_memory (Image refusal) ≡ false)
-OpenStop (stop.Failed by) opened = ⊥
-OpenStop stop.NoMemory opened = Unit {0}

@@ -12,7 +12,7 @@ use tm_desk::{Desk, Sink};
 use tm_owed::{BuildWords, Stop, print_text, write_output};
 
 /// Reads and refuses the inputs, builds, writes and prints.
-#[tactic(auto, using(crate::proofs::Stops::input_stopped, crate::proofs::Stops::write_stopped))]
+#[tactic(auto, using(tm_owed::proofs::Stops::input_stopped, tm_owed::proofs::Stops::write_stopped))]
 pub fn build_command<D: Desk, O: Sink>(
     alloc: Global,
     b: &BuildWords<'_>,

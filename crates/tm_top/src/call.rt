@@ -6,9 +6,9 @@ ghost use Rattle.tm_owed.specs.Owed.{Owes, Ended, IsDone, RestStays};
 ghost use Rattle.tm_owed.specs.Steps.{Stopped};
 
 use crate::build::build_command;
-use crate::list::list_command;
 use std::alloc::Global;
 use tm_desk::{Desk, Sink};
+use tm_list::list_command;
 use tm_owed::{CommandWords, Stop, read_words, tell_stop, tell_usage};
 use tm_plan::Journal;
 

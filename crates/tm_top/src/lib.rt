@@ -5,7 +5,6 @@ mod build;
 mod call;
 mod image;
 mod inputs;
-mod list;
 mod made;
 
 pub use call::{Outcome, still};

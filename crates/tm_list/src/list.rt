@@ -5,7 +5,7 @@ ghost use Rattle.tm_owed.specs.Words.Command.{to_list};
 ghost use Rattle.tm_owed.specs.Changes.{desk_change, sink_change, FilesStay};
 ghost use Rattle.tm_owed.specs.Owed.{IsListed, IsListingIn, IsListingOf};
 ghost use Rattle.tm_owed.specs.Steps.{InputStop, Stopped};
-ghost use Rattle.tm_top.specs.Steps.{OpenStop};
+ghost use Rattle.tm_list.specs.Steps.{OpenStop};
 
 use std::alloc::Global;
 use tm_base::{Bytes, Text};
@@ -53,7 +53,7 @@ fn read_listing<D: Desk>(alloc: Global, image: &str, desk: &mut D) -> Result<Tex
 }
 
 /// Reads and opens the image, and prints its listing.
-#[tactic(auto, using(crate::proofs::Stops::input_stopped))]
+#[tactic(auto, using(tm_owed::proofs::Stops::input_stopped))]
 pub fn list_command<D: Desk, O: Sink>(
     alloc: Global,
     image: &str,

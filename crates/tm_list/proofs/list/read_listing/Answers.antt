@@ -1,6 +1,6 @@
 use Rattle.tm_owed.specs.Changes.{desk_change}
-use Rattle.tm_top.proofs.Listings.{image_stop, open_stop, listing_of_held}
-use Rattle.tm_top.proofs.list.read_listing.Goals as goal
+use Rattle.tm_list.proofs.Listings.{image_stop, open_stop, listing_of_held}
+use Rattle.tm_list.proofs.list.read_listing.Goals as goal
 
 pub returns-in-Err-clause-cause : goal.returns-in-Err-clause-cause
 returns-in-Err-clause-cause g c =

@@ -1,33 +1,22 @@
--- The first fault of a listing's image, step by step, and the image that is opened.
-use Rattle.std.proofs.Common.{◌≡◌, ◌≢◌, ◌≤◌, ◌<◌, ◌∙◌, ap, sym, refl, ℕ, List, Bool, false, Option, None, Some, Result, Ok, Err, IsTrue, length, inl, inr, MatchResult}
+-- The first fault of a listing's image, step by step.
+use Rattle.std.proofs.Common.{◌≡◌, ◌≤◌, ◌<◌, ◌∙◌, ap, refl, ℕ, List, None, Some, IsTrue, length, inl, inr}
 use Rattle.std.specs.Prelude.{IsSomeAnd}
-use Rattle.tm_course.specs.Claims.{SoundSoFar}
 use Rattle.tm_desk.specs.Causes.{Files}
 use Rattle.tm_desk.specs.declared.desk.DeskError.TheVariants.{TooLong, Failed}
-use Rattle.tm_elf.specs.declared.parts.Parts.{Parts}
-use Rattle.tm_elf_head.specs.declared.fault.ElfFault.{ElfFault}
-use Rattle.tm_elf_head.specs.declared.fault.ElfFault.TheVariants as elf
-use Rattle.tm_elf_read.specs.Read.{elf_of}
-use Rattle.tm_image.specs.Built.{program_from}
-use Rattle.tm_image.specs.Inputs.{inputs}
 use Rattle.tm_image.specs.declared.input.Role.TheVariants as roles
-use Rattle.tm_open.specs.Opened.{opened, rebuilt}
-use Rattle.tm_open.specs.declared.fault.ImageFault.{ImageFault}
-use Rattle.tm_open.specs.declared.fault.ImageFault.TheVariants as image_fault
-use Rattle.tm_plan.specs.declared.program.Program.{Program}
+use Rattle.tm_open.specs.Opened.{opened}
 use Rattle.tm_lines.specs.declared.fault.AnyFault.{AnyFault}
 use Rattle.tm_lines.specs.declared.fault.AnyFault.TheVariants.{Desk, Image}
-use Rattle.tm_lines.specs.Lines.{wants_memory}
 use Rattle.tm_owed.specs.declared.stop.Stop.{Stop}
 use Rattle.tm_owed.specs.declared.stop.Stop.TheVariants as stop
 use Rattle.tm_owed.specs.Words.Command.{to_list}
 use Rattle.tm_owed.specs.Inputs.{image_limit, not_opened, refused_image, fault_of_image, first_fault}
 use Rattle.tm_owed.specs.Changes.{DeskChange}
-use Rattle.tm_owed.specs.Owed.{IsOpened, IsListingIn, IsListingOf}
+use Rattle.tm_owed.specs.Owed.{IsListingIn, IsListingOf}
 use Rattle.tm_owed.specs.Owed.InputFailure.{unread, missing}
 use Rattle.tm_owed.specs.Steps.{ReadStop, InputStop}
-use Rattle.tm_top.specs.Steps.{OpenStop}
-use Rattle.tm_top.proofs.Refusals.{long, short}
+use Rattle.tm_list.specs.Steps.{OpenStop}
+use Rattle.tm_owed.proofs.Limits.{long, short}
 
 -- ---- the image that is held
 
@@ -86,42 +75,7 @@ listing_of_held image desk file text there h listing = record {
   of_file = listing;
   read = there;
   accepted = λ told.
-    let none : refused_image file ≡ None = ap not_opened listing.image.accepted in
-    let calm = image_read image desk.held file (there told) h ∙ none in
-    none_first image desk.held calm;
+      let none : refused_image file ≡ None = ap not_opened listing.image.accepted in
+      let calm = image_read image desk.held file (there told) h ∙ none in
+      none_first image desk.held calm;
 }
-
--- ---- what is opened
-
--- a fault that isn't want of memory has a line
-pub has_line : (fault : ImageFault) → fault ≢ image_fault.NoMemory → fault ≢ image_fault.Elf elf.NoMemory → wants_memory (Image fault) ≡ false
-has_line (image_fault.Elf (elf.Short have)) outer inner = refl
-has_line (image_fault.Elf elf.BadMagic) outer inner = refl
-has_line (image_fault.Elf (elf.NotRiscv machine)) outer inner = refl
-has_line (image_fault.Elf (elf.NotExec kind)) outer inner = refl
-has_line (image_fault.Elf (elf.BadHeader field)) outer inner = refl
-has_line (image_fault.Elf (elf.BadSegment index)) outer inner = refl
-has_line (image_fault.Elf elf.NoPlan) outer inner = refl
-has_line (image_fault.Elf (elf.BadSymbol index)) outer inner = refl
-has_line (image_fault.Elf (elf.Differs offset)) outer inner = refl
-has_line (image_fault.Elf elf.NoMemory) outer inner = absurd (inner refl)
-has_line (image_fault.Inputs fault) outer inner = refl
-has_line (image_fault.Differs offset) outer inner = refl
-has_line image_fault.NoMemory outer inner = absurd (outer refl)
-
--- what is known of an opened file, by what its form is read as
-pub opened_as : (form : Result Parts ElfFault) (file : List ℕ) (program : Program) (seed : ℕ) → elf_of file ≡ form
-    → MatchResult form (λ parts. rebuilt parts ≡ Ok file) (λ _. ⊥)
-    → MatchResult form (λ parts. seed ≡ parts.plan.seed) (λ _. ⊥)
-    → MatchResult form (λ parts. program_from (inputs parts.plan.topo parts.plan.template) ≡ Ok program) (λ _. ⊥)
-    → SoundSoFar program → opened file ≡ Ok file → IsOpened file program seed
-opened_as (Ok parts) file program seed form again its_seed its_program is_sound accepted = record {
-  parts = parts;
-  form = form;
-  again = again;
-  its_seed = its_seed;
-  its_program = its_program;
-  is_sound = is_sound;
-  accepted = accepted;
-}
-opened_as (Err fault) file program seed form again its_seed its_program is_sound accepted = absurd again
