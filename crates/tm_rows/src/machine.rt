@@ -26,7 +26,7 @@ pub struct Machine<'a> {
 
 impl<'a> Machine<'a> {
     /// The hart is at the entry; its registers hold anything but for x10, its number.
-    pub fn load(alloc: Global, program: &'a Program) -> Result<Self, Fail> {
+    pub(crate) fn load(alloc: Global, program: &'a Program) -> Result<Self, Fail> {
         let mut x = [0xDEAD_BEEF_0BAD_F00D; 32];
         x[0] = 0;
         x[10] = 0;
@@ -37,16 +37,16 @@ impl<'a> Machine<'a> {
         })
     }
 
-    pub fn pc(&self) -> u64 {
+    pub(crate) fn pc(&self) -> u64 {
         self.cpu.pc
     }
 
-    pub fn registers(&self) -> [u64; 32] {
+    pub(crate) fn registers(&self) -> [u64; 32] {
         self.cpu.x
     }
 
     /// Makes one step, and gives the address and the value of what it writes.
-    pub fn step(&mut self) -> Result<Option<(u64, u64)>, Fail> {
+    pub(crate) fn step(&mut self) -> Result<Option<(u64, u64)>, Fail> {
         let i = self.instruction()?;
         let read = self.operand(i)?;
         match exec(&mut self.cpu, i, read) {
@@ -64,7 +64,7 @@ impl<'a> Machine<'a> {
     }
 
     /// One bit of a register from x1 to x27 is turned.
-    pub fn turn_register(&mut self, register: u8) -> Result<(), Fail> {
+    pub(crate) fn turn_register(&mut self, register: u8) -> Result<(), Fail> {
         if register == 0 || register > 27 {
             return Err(Fail::new("no register of a stream"));
         }
@@ -73,7 +73,7 @@ impl<'a> Machine<'a> {
     }
 
     /// One bit of a byte of the zeroed memory is turned.
-    pub fn turn_byte(&mut self, addr: u64) -> Result<(), Fail> {
+    pub(crate) fn turn_byte(&mut self, addr: u64) -> Result<(), Fail> {
         let first = addr / 8 * 8;
         let old = self.dword(first)?;
         self.put(first, old ^ (1 << (8 * (addr % 8))))

@@ -10,7 +10,7 @@ pub const TEMPLATE: &[u8] =
 pub const BUILD: &str = "build a.toml a.tm a.elf --seed 1";
 
 /// The words between blanks.
-pub fn words_of(rt: &HostRuntime, text: &str) -> Result<Vec<String>, Fail> {
+pub(crate) fn words_of(rt: &HostRuntime, text: &str) -> Result<Vec<String>, Fail> {
     let mut words = Vec::new(rt.alloc());
     for word in text.split(' ') {
         words.push(String::from_str(rt.alloc(), word)?)?;
@@ -19,7 +19,7 @@ pub fn words_of(rt: &HostRuntime, text: &str) -> Result<Vec<String>, Fail> {
 }
 
 /// The numbers of calls that fail.
-pub fn calls(rt: &HostRuntime, numbers: &[u64]) -> Result<List<u64>, Fail> {
+pub(crate) fn calls(rt: &HostRuntime, numbers: &[u64]) -> Result<List<u64>, Fail> {
     let mut list = List::new(rt.alloc());
     for n in numbers {
         list.push(*n)?;
@@ -28,7 +28,7 @@ pub fn calls(rt: &HostRuntime, numbers: &[u64]) -> Result<List<u64>, Fail> {
 }
 
 /// So many times one byte.
-pub fn filled(rt: &HostRuntime, byte: u8, count: u32) -> Result<Bytes, Fail> {
+pub(crate) fn filled(rt: &HostRuntime, byte: u8, count: u32) -> Result<Bytes, Fail> {
     let mut bytes = Bytes::new(rt.alloc());
     for _ in 0..count {
         bytes.push(byte)?;

@@ -1,4 +1,2 @@
 pub mod Refusals
-pub mod Stops
-pub mod Reports
 pub mod Owing

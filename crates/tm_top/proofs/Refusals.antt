@@ -1,7 +1,6 @@
--- The first fault of two inputs, step by step.
+-- The first fault of a build's two inputs, step by step.
 use Rattle.std.proofs.Common.{◌≡◌, ◌≤◌, ◌<◌, ◌∙◌, ap, sym, subst, refl, ℕ, List, Option, None, Some, Result, Ok, Err, IsTrue, length, arith, inl, inr}
 use Rattle.std.specs.Prelude.{IsSomeAnd}
-use Rattle.std.proofs.lemmas.Bool.{le-ltb, lt-ltb}
 use Rattle.tm_table.specs.declared.instr.Instr.{Instr}
 use Rattle.tm_desk.specs.Causes.{Files}
 use Rattle.tm_desk.specs.declared.desk.DeskError.TheVariants.{TooLong, Failed}
@@ -9,40 +8,32 @@ use Rattle.tm_image.specs.declared.input.Role.TheVariants.{Topology, Template}
 use Rattle.tm_image.specs.declared.input.InputFault.{InputFault}
 use Rattle.tm_image.specs.Inputs.{topology_refusal, template_inputs, inputs}
 use Rattle.tm_image.specs.Built.{built, built_of}
-use Rattle.tm_top.specs.declared.fault.AnyFault.{AnyFault}
-use Rattle.tm_top.specs.declared.fault.AnyFault.TheVariants.{Input, Desk}
-use Rattle.tm_top.specs.declared.stop.Stop.{Stop}
-use Rattle.tm_top.specs.declared.stop.Stop.TheVariants as stop
-use Rattle.tm_top.specs.Words.{Build}
-use Rattle.tm_top.specs.Inputs.{topology_limit, template_limit, refusal_of, template_refusal, as_fault, fault_of_input, fault_of_topology, fault_of_template, first_fault}
-use Rattle.tm_top.specs.Changes.{DeskChange, DeskFailed}
-use Rattle.tm_top.specs.Owed.{IsRefusal, IsMadeOf, IsImageOf}
-use Rattle.tm_top.specs.Owed.InputFailure.{unread, missing}
-use Rattle.tm_top.specs.Steps.{ReadStop, InputStop, IsTopology, ImageStop}
-
--- an input that is longer than its limit
-long : (max : ℕ) (refusal : List ℕ → Option InputFault) (file : Option (List ℕ)) → IsSomeAnd file (λ text. max < length text)
-    → fault_of_input max refusal file ≡ Some (Desk (TooLong max))
-long max refusal None h = absurd h
-long max refusal (Some text) h = rw (lt-ltb max (length text) h) refl
-
--- an input within its limit
-short : (max : ℕ) (refusal : List ℕ → Option InputFault) (text : List ℕ) → length text ≤ max
-    → fault_of_input max refusal (Some text) ≡ as_fault (refusal text)
-short max refusal text h = rw (le-ltb max (length text) h) refl
+use Rattle.tm_lines.specs.declared.fault.AnyFault.{AnyFault}
+use Rattle.tm_lines.specs.declared.fault.AnyFault.TheVariants.{Input, Desk}
+use Rattle.tm_owed.specs.declared.stop.Stop.{Stop}
+use Rattle.tm_owed.specs.declared.stop.Stop.TheVariants as stop
+use Rattle.tm_owed.specs.Words.{Build}
+use Rattle.tm_owed.specs.Words.Command.{to_build}
+use Rattle.tm_owed.proofs.Limits.{long, short}
+use Rattle.tm_owed.specs.Inputs.{topology_limit, template_limit, refusal_of, as_fault, refused_topology, refused_template, fault_of_topology, fault_of_template, first_fault}
+use Rattle.tm_owed.specs.Changes.{DeskChange, DeskFailed}
+use Rattle.tm_owed.specs.Owed.{IsRefusal, IsMadeOf, IsImageOf}
+use Rattle.tm_owed.specs.Owed.InputFailure.{unread, missing}
+use Rattle.tm_owed.specs.Steps.{ReadStop, InputStop}
+use Rattle.tm_top.specs.Steps.{IsTopology, ImageStop}
 
 -- ---- which fault is the first
 
-at_topology : (b : Build) (files : Files) (fault : AnyFault) → fault_of_topology b files ≡ Some fault → first_fault b files ≡ Some (Topology, fault)
+at_topology : (b : Build) (files : Files) (fault : AnyFault) → fault_of_topology b files ≡ Some fault → first_fault (to_build b) files ≡ Some (Topology, fault)
 unfolding first_fault
 at_topology b files fault is = rw is refl
 
 at_template : (b : Build) (files : Files) (fault : AnyFault) → fault_of_topology b files ≡ None → fault_of_template b files ≡ Some fault
-    → first_fault b files ≡ Some (Template, fault)
+    → first_fault (to_build b) files ≡ Some (Template, fault)
 unfolding first_fault
 at_template b files fault none is = rw (none, is) refl
 
-at_none : (b : Build) (files : Files) → fault_of_topology b files ≡ None → fault_of_template b files ≡ None → first_fault b files ≡ None
+at_none : (b : Build) (files : Files) → fault_of_topology b files ≡ None → fault_of_template b files ≡ None → first_fault (to_build b) files ≡ None
 unfolding first_fault
 at_none b files first second = rw (first, second) refl
 
@@ -55,18 +46,19 @@ topology_missing b files is = rw is refl
 topology_long : (b : Build) (files : Files) → IsSomeAnd (files b.topo) (λ text. topology_limit < length text)
     → fault_of_topology b files ≡ Some (Desk (TooLong topology_limit))
 unfolding fault_of_topology
-topology_long b files h = long topology_limit topology_refusal (files b.topo) h
+topology_long b files h = long topology_limit refused_topology (files b.topo) h
 
 topology_read : (b : Build) (files : Files) (text : List ℕ) → files b.topo ≡ Some text → length text ≤ topology_limit
     → fault_of_topology b files ≡ as_fault (topology_refusal text)
 unfolding fault_of_topology
-topology_read b files text held h = rw held (short topology_limit topology_refusal text h)
+topology_read b files text held h = rw held (short topology_limit refused_topology text h)
 
 -- a read of the topology that stopped
 pub topology_stop : (s : Stop) (b : Build) (desk : DeskChange)
-    → ReadStop s Topology (IsTrue desk.tells) (desk.held b.topo) topology_limit desk.faults desk.faults_after → InputStop s b desk
+    → ReadStop s Topology (IsTrue desk.tells) (desk.held b.topo) topology_limit desk.faults desk.faults_after → InputStop s (to_build b) desk
 topology_stop (stop.Refused by fault) b desk (role_is, fault_is, h) = rw (role_is, fault_is) (record {
   status = refl;
+  has_line = refl;
   first = λ told. at_topology b desk.held _ (topology_long b desk.held (h told));
 })
 topology_stop (stop.Failed by) b desk (role_is, inl rose) = rw role_is (unread refl rose)
@@ -77,9 +69,10 @@ topology_stop stop.NoMemory b desk h = tt
 -- a topology that is refused
 pub topology_refused : (b : Build) (desk : DeskChange) (text : List ℕ) (refusal : InputFault)
     → (IsTrue desk.tells → desk.held b.topo ≡ Some text) → length text ≤ topology_limit → Some refusal ≡ topology_refusal text
-    → IsRefusal b desk Topology (Input refusal)
+    → IsRefusal (to_build b) desk Topology (Input refusal)
 topology_refused b desk text refusal held h is = record {
   status = refl;
+  has_line = refl;
   first = λ told. at_topology b desk.held _ (topology_read b desk.held text (held told) h ∙ ap as_fault (sym is));
 }
 
@@ -97,19 +90,20 @@ template_missing b files is = rw is refl
 template_long : (b : Build) (files : Files) → IsSomeAnd (files b.template) (λ text. template_limit < length text)
     → fault_of_template b files ≡ Some (Desk (TooLong template_limit))
 unfolding fault_of_template
-template_long b files h = long template_limit template_refusal (files b.template) h
+template_long b files h = long template_limit refused_template (files b.template) h
 
 template_read : (b : Build) (files : Files) (text : List ℕ) → files b.template ≡ Some text → length text ≤ template_limit
-    → fault_of_template b files ≡ as_fault (template_refusal text)
+    → fault_of_template b files ≡ refused_template text
 unfolding fault_of_template
-template_read b files text held h = rw held (short template_limit template_refusal text h)
+template_read b files text held h = rw held (short template_limit refused_template text h)
 
 -- a read of the template that stopped, behind a topology that is accepted
 pub template_stop : (s : Stop) (b : Build) (desk : DeskChange) (text : List ℕ) (there : Option (List ℕ)) (faults : ℕ)
     → IsTopology b desk.tells desk.held text → (IsTrue desk.tells → there ≡ desk.held b.template) → desk.faults ≤ faults
-    → ReadStop s Template (IsTrue desk.tells) there template_limit faults desk.faults_after → InputStop s b desk
+    → ReadStop s Template (IsTrue desk.tells) there template_limit faults desk.faults_after → InputStop s (to_build b) desk
 template_stop (stop.Refused by fault) b desk text there faults topology same later (role_is, fault_is, h) = rw (role_is, fault_is) (record {
   status = refl;
+  has_line = refl;
   first = λ told. at_template b desk.held _ (topology_accepted b desk text topology told)
       (template_long b desk.held (subst (λ file. IsSomeAnd file (λ template. template_limit < length template)) (same told) (h told)));
 })
@@ -123,9 +117,10 @@ template_stop stop.NoMemory b desk text there faults topology same later h = tt
 -- a template of which no image is built, behind a topology that is accepted
 pub image_stop : (s : Stop) (b : Build) (desk : DeskChange) (text template : List ℕ) → IsTopology b desk.tells desk.held text
     → (IsTrue desk.tells → desk.held b.template ≡ Some template) → length template ≤ template_limit
-    → ImageStop s (template_inputs template) → InputStop s b desk
+    → ImageStop s (template_inputs template) → InputStop s (to_build b) desk
 image_stop (stop.Refused by fault) b desk text template topology there h (refusal, refused, role_is, fault_is) = rw (role_is, fault_is) (record {
   status = refl;
+  has_line = refl;
   first = λ told. at_template b desk.held _ (topology_accepted b desk text topology told)
       (template_read b desk.held template (there told) h ∙ ap (λ reading. as_fault (refusal_of reading)) refused);
 })
@@ -155,7 +150,7 @@ image_refused topo template seed refusal accepted h =
     sym (inputs_behind topo template accepted) ∙ refused_at (inputs topo template) topo template seed refusal h
 
 template_accepted : (topo template file : List ℕ) (seed : ℕ) → topology_refusal topo ≡ None → built topo template seed ≡ Ok file
-    → template_refusal template ≡ None
+    → refusal_of (template_inputs template) ≡ None
 unfolding built
 template_accepted topo template file seed accepted h =
     ap refusal_of (sym (inputs_behind topo template accepted)) ∙ built_at (inputs topo template) topo template file seed h
@@ -163,7 +158,7 @@ template_accepted topo template file seed accepted h =
 -- where an image is built, neither input has a fault
 pub no_fault : (b : Build) (desk : DeskChange) (topo template file : List ℕ) → IsTopology b desk.tells desk.held topo
     → (IsTrue desk.tells → desk.held b.template ≡ Some template) → length template ≤ template_limit → built topo template b.seed ≡ Ok file
-    → IsTrue desk.tells → first_fault b desk.held ≡ None
+    → IsTrue desk.tells → first_fault (to_build b) desk.held ≡ None
 no_fault b desk topo template file topology there h is_built told =
     at_none b desk.held (topology_accepted b desk topo topology told)
     (template_read b desk.held template (there told) h ∙ ap as_fault (template_accepted topo template file b.seed topology.accepted is_built))

@@ -1,29 +1,28 @@
 // The command that builds an image.
 ghost use Rattle.std.specs.Prelude.{IfErr, OnOk};
-ghost use Rattle.tm_top.specs.Words.{words_of};
-ghost use Rattle.tm_top.specs.Changes.{desk_change, sink_change, OtherFilesStay};
-ghost use Rattle.tm_top.specs.Owed.{IsDone};
-ghost use Rattle.tm_top.specs.Steps.{Stopped};
+ghost use Rattle.tm_owed.specs.Words.{build_in};
+ghost use Rattle.tm_owed.specs.Words.Command.{to_build};
+ghost use Rattle.tm_owed.specs.Changes.{desk_change, sink_change, OtherFilesStay};
+ghost use Rattle.tm_owed.specs.Owed.{IsBuilt};
+ghost use Rattle.tm_owed.specs.Steps.{Stopped};
 
-use crate::command::BuildWords;
 use crate::inputs::make_image;
-use crate::steps::{print_line, write_output};
-use crate::stop::Stop;
 use std::alloc::Global;
 use tm_desk::{Desk, Sink};
+use tm_owed::{BuildWords, Stop, print_text, write_output};
 
 /// Reads and refuses the inputs, builds, writes and prints.
-#[tactic(auto, using(crate::proofs::Stops::input_stopped, crate::proofs::Stops::write_stopped))]
+#[tactic(auto, using(tm_owed::proofs::Stops::input_stopped, tm_owed::proofs::Stops::write_stopped))]
 pub fn build_command<D: Desk, O: Sink>(
     alloc: Global,
     b: &BuildWords<'_>,
     desk: &mut D,
     out: &mut O,
 ) -> Result<(), Stop>
-    ensures done { OnOk result (IsDone (words_of b.now)
+    ensures done { OnOk result (IsBuilt (build_in b.now)
         (desk_change D.tells D.held D.faults desk.old desk.new)
         (sink_change O.tells O.taken O.faults out.old out.new)) }
-    ensures stopped { IfErr result (λ stop. Stopped stop (words_of b.now)
+    ensures stopped { IfErr result (λ stop. Stopped stop (to_build (build_in b.now))
         (desk_change D.tells D.held D.faults desk.old desk.new)
         (sink_change O.tells O.taken O.faults out.old out.new)) }
     ensures others { OtherFilesStay (desk_change D.tells D.held D.faults desk.old desk.new) b.now.out.now }
@@ -36,7 +35,7 @@ pub fn build_command<D: Desk, O: Sink>(
         Ok(()) => (),
         Err(stop) => return Err(stop),
     }
-    match print_line(out, &made.line) {
+    match print_text(out, &made.line) {
         Ok(()) => Ok(()),
         Err(stop) => Err(stop),
     }

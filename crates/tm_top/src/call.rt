@@ -1,14 +1,15 @@
 // All that the program does, but for what waits.
-ghost use Rattle.std.specs.Prelude.{◌≡◌, None};
-ghost use Rattle.tm_top.specs.Words.{bytes_of_words};
-ghost use Rattle.tm_top.specs.Changes.{desk_change, sink_change};
-ghost use Rattle.tm_top.specs.Owed.{Owes, Ended};
+ghost use Rattle.std.specs.Prelude.{◌≡◌, None, IfErr, OnOk};
+ghost use Rattle.tm_owed.specs.Words.{bytes_of_words, command_in};
+ghost use Rattle.tm_owed.specs.Changes.{desk_change, sink_change};
+ghost use Rattle.tm_owed.specs.Owed.{Owes, Ended, IsDone, RestStays};
+ghost use Rattle.tm_owed.specs.Steps.{Stopped};
 
 use crate::build::build_command;
-use crate::report::{report, report_usage};
-use crate::words::read_words;
 use std::alloc::Global;
 use tm_desk::{Desk, Sink};
+use tm_list::list_command;
+use tm_owed::{CommandWords, Stop, read_words, tell_stop, tell_usage};
 use tm_plan::Journal;
 
 /// How a call ended: its status, and the journal of a simulation where the command made one.
@@ -18,7 +19,28 @@ pub struct Outcome {
     pub journal: Option<Journal>,
 }
 
-/// Does what the words say, and answers the status.
+// Does what a command asks for, or stops with the cause.
+fn run_command<D: Desk, O: Sink>(
+    alloc: Global,
+    command: &CommandWords<'_>,
+    desk: &mut D,
+    out: &mut O,
+) -> Result<(), Stop>
+    ensures done { OnOk result (IsDone (command_in command.now)
+        (desk_change D.tells D.held D.faults desk.old desk.new)
+        (sink_change O.tells O.taken O.faults out.old out.new)) }
+    ensures stopped { IfErr result (λ stop. Stopped stop (command_in command.now)
+        (desk_change D.tells D.held D.faults desk.old desk.new)
+        (sink_change O.tells O.taken O.faults out.old out.new)) }
+    ensures rest { RestStays (command_in command.now) (desk_change D.tells D.held D.faults desk.old desk.new) }
+{
+    match command {
+        CommandWords::Build(build) => build_command(alloc, build, desk, out),
+        CommandWords::List(image) => list_command(alloc, image, desk, out),
+    }
+}
+
+// Does what the words say, and answers the status.
 #[tactic(auto, using(crate::proofs::Owing::ended_usage, crate::proofs::Owing::tellable))]
 fn status_of_call<D: Desk, O: Sink, E: Sink>(
     alloc: Global,
@@ -33,18 +55,18 @@ fn status_of_call<D: Desk, O: Sink, E: Sink>(
         (sink_change E.tells E.taken E.faults err.old err.new)
         result }
 {
-    let Some(build) = read_words(words) else {
-        return report_usage(err);
+    let Some(command) = read_words(words) else {
+        return tell_usage(err);
     };
-    match build_command(alloc, &build, desk, out) {
+    match run_command(alloc, &command, desk, out) {
         Ok(()) => 0,
-        Err(stop) => report(alloc, err, &stop),
+        Err(stop) => tell_stop(alloc, err, &stop),
     }
 }
 
 /// Does what the words say, over what is handed in. It waits for nobody.
 ///
-/// So far there is one command, `build TOPO TEMPLATE OUT --seed S`. The statuses are 0 where the job was done, 2 for words
+/// So far there are two commands, `build TOPO TEMPLATE OUT --seed S` and `list IMAGE`. The statuses are 0 where the job was done, 2 for words
 /// that are no command, 3 for an input that is refused or too long, 5 where the desk or the output sink failed or an input
 /// is missing, and 6 for want of memory.
 #[tactic(auto, using(crate::proofs::Owing::owes))]

@@ -1,21 +1,21 @@
 // The image of a build's two texts.
 ghost use Rattle.std.specs.Prelude.{◌≡◌, ◌≤◌, IfOk, IfErr, length, None};
 ghost use Rattle.tm_image.specs.Inputs.{topology_refusal, template_inputs};
-ghost use Rattle.tm_top.specs.Texts.{built_line};
-ghost use Rattle.tm_top.specs.Inputs.{topology_limit, template_limit};
-ghost use Rattle.tm_top.specs.Owed.{IsMadeOf};
+ghost use Rattle.tm_owed.specs.Texts.{built_line};
+ghost use Rattle.tm_owed.specs.Inputs.{topology_limit, template_limit};
+ghost use Rattle.tm_owed.specs.Owed.{IsMadeOf};
 ghost use Rattle.tm_top.specs.Steps.{ImageStop};
 
-use crate::fault::AnyFault;
 use crate::made::Made;
-use crate::stop::Stop;
 use std::alloc::Global;
 use tm_base::{Bytes, NoMemory, Text, push_decimal};
-use tm_image::{BuildFault, Role, build};
+use tm_image::{BuildFault, build};
+use tm_lines::{AnyFault, Role};
+use tm_owed::Stop;
 use tm_plan::Program;
 
 /// The line that says what was built.
-#[tactic(auto, unfolding(crate::specs::Texts::built_line))]
+#[tactic(auto, unfolding(tm_owed::specs::Texts::built_line))]
 fn line_of(alloc: Global, program: &Program, file: &[u8]) -> Result<Text, NoMemory>
     ensures { IfOk result (λ text. text ≡ built_line program.now file.now) }
 {

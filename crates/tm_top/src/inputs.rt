@@ -1,20 +1,20 @@
 // The inputs of a build, read and refused in the order of work.
 ghost use Rattle.std.specs.Prelude.{◌≡◌, ◌≤◌, IsTrue, IfOk, IfErr};
-ghost use Rattle.tm_top.specs.Words.{words_of};
-ghost use Rattle.tm_top.specs.Changes.{desk_change};
-ghost use Rattle.tm_top.specs.Owed.{IsImageOf};
-ghost use Rattle.tm_top.specs.Steps.{InputStop, IsTopology};
+ghost use Rattle.tm_owed.specs.Words.{build_in};
+ghost use Rattle.tm_owed.specs.Words.Command.{to_build};
+ghost use Rattle.tm_owed.specs.Changes.{desk_change};
+ghost use Rattle.tm_owed.specs.Owed.{IsImageOf};
+ghost use Rattle.tm_owed.specs.Steps.{InputStop};
+ghost use Rattle.tm_top.specs.Steps.{IsTopology};
 
-use crate::command::BuildWords;
-use crate::fault::AnyFault;
 use crate::image::image_of;
 use crate::made::Made;
-use crate::steps::read_input;
-use crate::stop::Stop;
 use std::alloc::Global;
 use tm_base::Bytes;
 use tm_desk::Desk;
-use tm_image::{Role, topology_fault};
+use tm_image::topology_fault;
+use tm_lines::{AnyFault, Role};
+use tm_owed::{BuildWords, Stop, read_input};
 
 // in bytes
 const TOPOLOGY_LIMIT: u64 = 65_536;
@@ -24,11 +24,11 @@ const TEMPLATE_LIMIT: u64 = 1_048_576;
 
 /// Reads the topology, and refuses it.
 fn read_topology<D: Desk>(b: &BuildWords<'_>, desk: &mut D) -> Result<Bytes, Stop>
-    ensures ok { IfOk result (λ text. IsTopology (words_of b.now) D.tells (D.held desk.old) text) }
+    ensures ok { IfOk result (λ text. IsTopology (build_in b.now) D.tells (D.held desk.old) text) }
     ensures unchanged { IsTrue D.tells → D.held desk.new ≡ D.held desk.old }
     ensures later { D.faults desk.old ≤ D.faults desk.new }
     ensures cause { IfErr result (λ stop.
-        InputStop stop (words_of b.now) (desk_change D.tells D.held D.faults desk.old desk.new)) }
+        InputStop stop (to_build (build_in b.now)) (desk_change D.tells D.held D.faults desk.old desk.new)) }
 {
     let text = match read_input(desk, Role::Topology, b.topo, TOPOLOGY_LIMIT) {
         Ok(text) => text,
@@ -42,11 +42,11 @@ fn read_topology<D: Desk>(b: &BuildWords<'_>, desk: &mut D) -> Result<Bytes, Sto
 
 /// Reads the two inputs and builds the image, or stops at the first that fails or is refused.
 pub fn make_image<D: Desk>(alloc: Global, b: &BuildWords<'_>, desk: &mut D) -> Result<Made, Stop>
-    ensures ok { IfOk result (λ made. IsImageOf (words_of b.now) D.tells (D.held desk.old) made.file made.line) }
+    ensures ok { IfOk result (λ made. IsImageOf (build_in b.now) D.tells (D.held desk.old) made.file made.line) }
     ensures unchanged { IsTrue D.tells → D.held desk.new ≡ D.held desk.old }
     ensures later { D.faults desk.old ≤ D.faults desk.new }
     ensures cause { IfErr result (λ stop.
-        InputStop stop (words_of b.now) (desk_change D.tells D.held D.faults desk.old desk.new)) }
+        InputStop stop (to_build (build_in b.now)) (desk_change D.tells D.held D.faults desk.old desk.new)) }
 {
     let topo = match read_topology(b, desk) {
         Ok(topo) => topo,

@@ -3,16 +3,9 @@
 
 mod build;
 mod call;
-mod command;
-mod fault;
 mod image;
 mod inputs;
 mod made;
-mod report;
-mod steps;
-mod stop;
-mod words;
 
 pub use call::{Outcome, still};
-pub use fault::{AnyFault, fault_line};
-pub use tm_image::Role;
+pub use tm_lines::{AnyFault, Role, fault_line};

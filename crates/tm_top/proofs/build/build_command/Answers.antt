@@ -1,12 +1,13 @@
-use Rattle.tm_top.specs.Words.{words_of}
-use Rattle.tm_top.specs.Changes.{desk_change, sink_change}
-use Rattle.tm_top.proofs.Stops.{print_stopped}
+use Rattle.tm_owed.specs.Words.{build_in}
+use Rattle.tm_owed.specs.Words.Command.{to_build}
+use Rattle.tm_owed.specs.Changes.{desk_change, sink_change}
+use Rattle.tm_owed.proofs.Stops.{print_stopped}
 use Rattle.tm_top.proofs.build.build_command.Goals as goal
 
 pub returns-clause-stopped : goal.returns-clause-stopped
 returns-clause-stopped g c =
-    print_stopped c.in-Err-print_line.stop (words_of c.args.b.now)
+    print_stopped c.in-Err-print_text.stop (to_build (build_in c.args.b.now))
     (desk_change g.D.Desk.tells g.D.Desk.held g.D.Desk.faults c.args.desk.now c.write_output.new.desk)
-    (sink_change g.O.Sink.tells g.O.Sink.taken g.O.Sink.faults c.args.out.now c.print_line.new.out)
-    c.in-Ok.made.file c.in-Ok.made.line c.in-Ok.ensures.ok
-    c.in-Err-print_line.ensures.front c.in-Err-print_line.ensures.cause
+    (sink_change g.O.Sink.tells g.O.Sink.taken g.O.Sink.faults c.args.out.now c.print_text.new.out)
+    c.in-Ok.made.line (c.in-Ok.made.file, c.in-Ok.ensures.ok) c.in-Ok.ensures.ok.accepted
+    c.in-Err-print_text.ensures.front c.in-Err-print_text.ensures.cause

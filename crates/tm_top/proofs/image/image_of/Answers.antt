@@ -1,5 +1,5 @@
 use Rattle.std.proofs.Common.{ap, refl}
-use Rattle.tm_top.specs.declared.fault.AnyFault.TheVariants.{Input}
+use Rattle.tm_lines.specs.declared.fault.AnyFault.TheVariants.{Input}
 use Rattle.tm_top.proofs.Refusals.{image_refused}
 use Rattle.tm_top.proofs.image.image_of.Goals as goal
 

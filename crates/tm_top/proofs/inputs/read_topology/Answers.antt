@@ -1,14 +1,14 @@
-use Rattle.tm_top.specs.Words.{words_of}
-use Rattle.tm_top.specs.Changes.{desk_change}
+use Rattle.tm_owed.specs.Words.{build_in}
+use Rattle.tm_owed.specs.Changes.{desk_change}
 use Rattle.tm_top.proofs.Refusals.{topology_stop, topology_refused}
 use Rattle.tm_top.proofs.inputs.read_topology.Goals as goal
 
 pub returns-in-Err-clause-cause : goal.returns-in-Err-clause-cause
 returns-in-Err-clause-cause g c =
-    topology_stop c.in-Err.stop (words_of c.args.b.now) (desk_change g.D.Desk.tells g.D.Desk.held g.D.Desk.faults c.args.desk.now c.read_input.new.desk)
+    topology_stop c.in-Err.stop (build_in c.args.b.now) (desk_change g.D.Desk.tells g.D.Desk.held g.D.Desk.faults c.args.desk.now c.read_input.new.desk)
     c.in-Err.ensures.cause
 
 pub returns-in-Some-clause-cause : goal.returns-in-Some-clause-cause
 returns-in-Some-clause-cause g c =
-    topology_refused (words_of c.args.b.now) (desk_change g.D.Desk.tells g.D.Desk.held g.D.Desk.faults c.args.desk.now c.read_input.new.desk)
+    topology_refused (build_in c.args.b.now) (desk_change g.D.Desk.tells g.D.Desk.held g.D.Desk.faults c.args.desk.now c.read_input.new.desk)
     c.in-Ok.text c.in-Some.fault c.in-Ok.ensures.whole c.in-Ok.ensures.within (rw c.as_slice.ensures at c.in-Some.ensures)

@@ -1,0 +1,135 @@
+// The dwords of the windows of which a byte isn't checked.
+ghost use Rattle.std.specs.Prelude.{◌≡◌, ◌++◌, ◌*◌, ◌+◌, ◌<◌, ◌≤◌, ◌^◌, OnOk, All, ◌∷◌, [], filter, length};
+ghost use Rattle.std.specs.List.{flat_map};
+ghost use Rattle.tm_plan.specs.Map.{windows_base};
+ghost use Rattle.tm_plan.specs.Collected.{any, declares as window_declares, is_declared as declared, window_dwords};
+ghost use Rattle.tm_plan.specs.Shaped.{IsShapedWindow};
+ghost use Rattle.tm_report.specs.Listing.{bytes_line, dword_bits as bits_at, dword_entry, is_listed as listed, unchecked_bits as bits_of};
+
+use crate::entries::put_entries;
+use std::alloc::Global;
+use tm_base::{Bytes, NoMemory, push_hex};
+use tm_plan::{Cases, Window, window_base};
+
+// How many dwords the three windows have.
+const DWORDS: usize = 768;
+
+// Whether an address is in a declared line of a window.
+#[tactic(auto, unfolding(tm_plan::specs::Map::window_at, tm_plan::specs::Map::windows_base))]
+fn declares(line: u32, addr: u64, window: &Window) -> bool
+    requires { IsShapedWindow line window.now }
+    ensures { result ≡ window_declares line addr window.now }
+{
+    let base = window_base(window.number);
+    base <= addr && addr < base + u64::from(window.lines * line)
+}
+
+fn any_declares(line: u32, addr: u64, windows: &[Window]) -> bool
+    requires { All (IsShapedWindow line) windows.now }
+    ensures { result ≡ any (window_declares line addr) windows.now }
+{
+    let [window, more @ ..] = windows else {
+        return false;
+    };
+    declares(line, addr, window) || any_declares(line, addr, more)
+}
+
+// One bit for each byte, from the lowest on, which is set where the byte is 0.
+fn unchecked_bits(bytes: &[u8]) -> u64
+    requires { length bytes.now ≤ 8 }
+    ensures bits { result ≡ bits_of bytes.now }
+    ensures small { result < 2 ^ length bytes.now }
+{
+    let [byte, more @ ..] = bytes else {
+        return 0;
+    };
+    let above = 2 * unchecked_bits(more);
+    if *byte == 0 { above + 1 } else { above }
+}
+
+// The bits of a dword by its number, counted over all windows.
+#[tactic(auto, unfolding(crate::specs::Listing::dword_bits))]
+fn dword_bits(bytes: &[u8], number: usize) -> u64
+    requires bytes { length bytes.now ≡ 6144 }
+    requires number { number < 768 }
+    ensures bits { result ≡ bits_at bytes.now (windows_base + 8 * number) }
+    ensures small { result < 256 }
+{
+    let place = 8 * number;
+    unchecked_bits(&bytes[place..place + 8])
+}
+
+#[tactic(auto, unfolding(tm_plan::specs::Collected::is_declared))]
+fn is_declared(cases: &Cases, addr: u64) -> bool
+    requires { All (IsShapedWindow cases.now.line) cases.now.windows }
+    ensures { result ≡ declared cases.now addr }
+{
+    any_declares(cases.line, addr, cases.windows.as_slice())
+}
+
+// The address of a dword by its number.
+#[tactic(auto, unfolding(tm_plan::specs::Map::window_at, tm_plan::specs::Map::windows_base))]
+fn address(number: usize) -> u64
+    requires { number < 768 }
+    ensures address { result ≡ windows_base + 8 * number }
+    ensures small { result < 16 ^ 8 }
+{
+    window_base(0) + 8 * number as u64
+}
+
+#[tactic(auto, unfolding(crate::specs::Listing::is_listed))]
+fn is_listed(cases: &Cases, bytes: &[u8], number: usize) -> bool
+    requires windows { All (IsShapedWindow cases.now.line) cases.now.windows }
+    requires bytes { length bytes.now ≡ 6144 }
+    requires number { number < 768 }
+    ensures { result ≡ listed cases.now bytes.now (windows_base + 8 * number) }
+{
+    is_declared(cases, address(number)) && dword_bits(bytes, number) != 0
+}
+
+// Puts the entry of the dword of this number where it is declared and has an unchecked byte.
+#[tactic(auto, unfolding(crate::specs::Listing::dword_entry))]
+fn put_dword(out: &mut Bytes, cases: &Cases, bytes: &[u8], number: usize) -> Result<(), NoMemory>
+    requires windows { All (IsShapedWindow cases.now.line) cases.now.windows }
+    requires bytes { length bytes.now ≡ 6144 }
+    requires number { number < 768 }
+    ensures { OnOk result (out.new ≡ out.old ++ flat_map (dword_entry bytes.now)
+        (filter (listed cases.now bytes.now) ((windows_base + 8 * number) ∷ []))) }
+{
+    if !is_listed(cases, bytes, number) {
+        return Ok(());
+    }
+    out.append(b" 0x")?;
+    push_hex(out, address(number), 8)?;
+    out.push(b':')?;
+    push_hex(out, dword_bits(bytes, number), 2)
+}
+
+fn put_dwords(out: &mut Bytes, cases: &Cases, bytes: &[u8]) -> Result<(), NoMemory>
+    requires windows { All (IsShapedWindow cases.now.line) cases.now.windows }
+    requires bytes { length bytes.now ≡ 6144 }
+    ensures { OnOk result (out.new ≡ out.old ++ flat_map (dword_entry bytes.now) (filter (listed cases.now bytes.now) window_dwords)) }
+{
+    for number in 0..DWORDS {
+        put_dword(out, cases, bytes, number)?;
+    }
+    Ok(())
+}
+
+/// Puts the line of the declared dwords that the mask bytes of a case leave out, whole or in part.
+#[tactic(auto, unfolding(crate::specs::Listing::bytes_line))]
+pub fn put_bytes(
+    alloc: Global,
+    out: &mut Bytes,
+    cases: &Cases,
+    bytes: &[u8],
+) -> Result<(), NoMemory>
+    requires windows { All (IsShapedWindow cases.now.line) cases.now.windows }
+    requires bytes { length bytes.now ≡ 6144 }
+    ensures { OnOk result (out.new ≡ out.old ++ bytes_line cases.now bytes.now) }
+{
+    let mut entries = Bytes::new(alloc);
+    put_dwords(&mut entries, cases, bytes)?;
+    out.append(b"bytes")?;
+    put_entries(out, entries.as_slice())
+}
