@@ -194,7 +194,7 @@ pub fn shape_of(op: Op) -> Shape
     }
 }
 
-/// The name of an op.
+/// The name of an op, in lower case, as it stands in a line.
 #[tactic(auto, unfolding(crate::specs::Shapes::name_of))]
 pub fn name(op: Op) -> &'static [u8]
     ensures name { result.now ≡ name_of op }

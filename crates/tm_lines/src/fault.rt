@@ -1,10 +1,10 @@
 // All faults that have a line.
 use tm_desk::DeskError;
-use tm_image::InputFault;
+use tm_inputs::InputFault;
 use tm_open::ImageFault;
 
 /// Why an input or an image is refused, or why a file can't be read or written.
-#[derive(Clone, Copy, Debug, PartialEq, Eq)]
+#[derive(Drop)]
 pub enum AnyFault {
     Input(InputFault),
     Image(ImageFault),

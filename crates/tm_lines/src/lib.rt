@@ -2,8 +2,12 @@
 #![tactic(auto)]
 
 mod fault;
+mod grammar;
 mod line;
+mod rule;
+mod topology;
+mod values;
 
 pub use fault::AnyFault;
 pub use line::fault_line;
-pub use tm_image::Role;
+pub use tm_inputs::Role;

@@ -1,13 +1,18 @@
 // The line of a fault.
 ghost use Rattle.std.specs.Prelude.{◌≡◌, ◌++◌, IfOk, IsFalse, OnOk};
-ghost use Rattle.tm_lines.specs.Lines.{any_text, desk_text, elf_text, fault_text, image_text, input_text, role_name, wants_memory, with_value};
+ghost use Rattle.tm_lines.specs.Inputs.{input_text};
+ghost use Rattle.tm_lines.specs.Lines.{any_text, desk_text, elf_text, fault_text, image_text, role_name, wants_memory};
 
 use crate::fault::AnyFault;
+use crate::grammar::put_grammar;
+use crate::rule::put_rule;
+use crate::topology::put_topology;
+use crate::values::put_value;
 use std::alloc::Global;
-use tm_base::{Bytes, NoMemory, Text, push_decimal};
+use tm_base::{Bytes, NoMemory, Text};
 use tm_desk::DeskError;
 use tm_elf_head::ElfFault;
-use tm_image::{InputFault, Role};
+use tm_inputs::{InputFault, Role};
 use tm_open::ImageFault;
 
 fn name_of_role(role: Role) -> &'static [u8]
@@ -23,19 +28,23 @@ fn name_of_role(role: Role) -> &'static [u8]
     }
 }
 
-fn put_value(out: &mut Bytes, name: &[u8], value: u64) -> Result<(), NoMemory>
-    ensures { OnOk result (out.new ≡ out.old ++ with_value name.now value) }
-{
-    out.append(name)?;
-    out.push(b' ')?;
-    push_decimal(out, value)
-}
-
-fn put_input(out: &mut Bytes, fault: InputFault) -> Result<(), NoMemory>
-    ensures { OnOk result (out.new ≡ out.old ++ input_text fault) }
+fn put_input(out: &mut Bytes, fault: &InputFault) -> Result<(), NoMemory>
+    ensures { OnOk result (out.new ≡ out.old ++ input_text fault.now) }
 {
     match fault {
-        InputFault::NotYet { file: _, line } => put_value(out, b"NotYet", u64::from(line)),
+        InputFault::Topo(fault) => {
+            out.append(b"Topo ")?;
+            put_topology(out, fault)
+        }
+        InputFault::Tmpl(fault) => {
+            out.append(b"Tmpl ")?;
+            put_grammar(out, fault)
+        }
+        InputFault::Rule(broken) => {
+            out.append(b"Rule ")?;
+            put_rule(out, *broken)
+        }
+        InputFault::NotYet { file: _, line } => put_value(out, b"NotYet", u64::from(*line)),
     }
 }
 
@@ -56,19 +65,19 @@ fn put_elf(out: &mut Bytes, fault: ElfFault) -> Result<(), NoMemory>
     }
 }
 
-fn put_image(out: &mut Bytes, fault: ImageFault) -> Result<(), NoMemory>
-    ensures { OnOk result (out.new ≡ out.old ++ image_text fault) }
+fn put_image(out: &mut Bytes, fault: &ImageFault) -> Result<(), NoMemory>
+    ensures { OnOk result (out.new ≡ out.old ++ image_text fault.now) }
 {
     match fault {
         ImageFault::Elf(fault) => {
             out.append(b"Elf ")?;
-            put_elf(out, fault)
+            put_elf(out, *fault)
         }
         ImageFault::Inputs(fault) => {
             out.append(b"Inputs ")?;
             put_input(out, fault)
         }
-        ImageFault::Differs { offset } => put_value(out, b"Differs", offset),
+        ImageFault::Differs { offset } => put_value(out, b"Differs", *offset),
         ImageFault::NoMemory => Ok(()),
     }
 }
@@ -83,13 +92,13 @@ fn put_desk(out: &mut Bytes, fault: DeskError) -> Result<(), NoMemory>
     }
 }
 
-fn put_fault(out: &mut Bytes, fault: AnyFault) -> Result<(), NoMemory>
-    ensures { OnOk result (out.new ≡ out.old ++ any_text fault) }
+fn put_fault(out: &mut Bytes, fault: &AnyFault) -> Result<(), NoMemory>
+    ensures { OnOk result (out.new ≡ out.old ++ any_text fault.now) }
 {
     match fault {
         AnyFault::Input(fault) => put_input(out, fault),
         AnyFault::Image(fault) => put_image(out, fault),
-        AnyFault::Desk(fault) => put_desk(out, fault),
+        AnyFault::Desk(fault) => put_desk(out, *fault),
     }
 }
 
@@ -104,7 +113,7 @@ pub fn fault_line(alloc: Global, role: Role, fault: &AnyFault) -> Result<Text, N
     out.append(b"threadmill: ")?;
     out.append(name_of_role(role))?;
     out.append(b": ")?;
-    put_fault(&mut out, *fault)?;
+    put_fault(&mut out, fault)?;
     out.push(b'\n')?;
     Ok(out)
 }
