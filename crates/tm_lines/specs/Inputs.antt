@@ -8,6 +8,7 @@ use Rattle.tm_asm.specs.declared.fault.AsmFault.TheVariants as asm
 use Rattle.tm_asm.specs.Shapes.{name_of}
 use Rattle.tm_lex.specs.declared.token.LexFault.{LexFault}
 use Rattle.tm_lex.specs.declared.token.LexFault.TheVariants as lex
+use Rattle.tm_topo.specs.declared.system.TopoKey.{TopoKey}
 use Rattle.tm_topo.specs.declared.system.TopoFault.{TopoFault}
 use Rattle.tm_topo.specs.declared.system.TopoFault.TheVariants as topo
 use Rattle.tm_topo.specs.Reading.{key_text}
@@ -24,11 +25,11 @@ use Rattle.tm_inputs.specs.declared.fault.InputFault.TheVariants as input
 -- ---- values
 
 -- a variant's name and its one value (this project)
-abbrev pub with_value : List ℕ → ℕ → List ℕ
+unfoldable pub with_value : List ℕ → ℕ → List ℕ
 with_value name n = name ++ codes " " ++ decimal n
 
 -- a place: line, colon, column (this project)
-abbrev pub pos_text : Pos → List ℕ
+unfoldable pub pos_text : Pos → List ℕ
 pos_text p = decimal p.line ++ codes ":" ++ decimal p.col
 
 -- how many digits an address has: 8, or 16 from 2^32 on (this project)
@@ -43,15 +44,27 @@ addr_text addr = codes "0x" ++ hex_text (digits_of addr) addr
 abbrev pub shown : ℕ → ℕ
 shown b = if nat_le 33 b && nat_le b 126 then b else 63
 
+-- a key, each byte as it is shown (this project)
+unfoldable pub shown_key : List ℕ → List ℕ
+shown_key key = map shown key
+
+-- a number in decimal, with `-` where it is negative (this project)
+unfoldable pub signed_text : ℤ → List ℕ
+signed_text z = signed_decimal z
+
 -- ---- topologies
+
+-- a key and its number (this project)
+abbrev pub number_text : TopoKey → ℤ → List ℕ
+number_text key value = key_text key ++ codes " " ++ signed_text value
 
 -- the fault of a topology; want of memory has no text (this project)
 abbrev pub topo_text : TopoFault → List ℕ
 topo_text topo.NotToml = codes "NotToml"
-topo_text (topo.UnknownKey key) = codes "UnknownKey " ++ map shown key
+topo_text (topo.UnknownKey key) = codes "UnknownKey " ++ shown_key key
 topo_text (topo.Missing key) = codes "Missing " ++ key_text key
 topo_text (topo.WrongKind key) = codes "WrongKind " ++ key_text key
-topo_text (topo.OutOfRange key value) = codes "OutOfRange " ++ key_text key ++ codes " " ++ signed_decimal value
+topo_text (topo.OutOfRange key value) = codes "OutOfRange " ++ number_text key value
 topo_text (topo.TooManyHarts product) = with_value (codes "TooManyHarts") product
 topo_text topo.NoMemory = []
 
@@ -90,7 +103,7 @@ abbrev pub asm_text : AsmFault → List ℕ
 asm_text asm.UnknownName = codes "UnknownName"
 asm_text (asm.BadRegister place) = with_value (codes "BadRegister") place
 asm_text (asm.BadNumber place) = with_value (codes "BadNumber") place
-asm_text (asm.OutOfRange value) = codes "OutOfRange " ++ signed_decimal value
+asm_text (asm.OutOfRange value) = codes "OutOfRange " ++ signed_text value
 asm_text (asm.BadShape place) = with_value (codes "BadShape") place
 
 -- the rule that is broken (this project)
@@ -105,7 +118,7 @@ rule_text (rule.Asm fault) = codes "Asm " ++ asm_text fault
 rule_text (rule.NotAllowed name) = codes "NotAllowed " ++ name_of name
 rule_text (rule.BadPlace addr) = codes "BadPlace " ++ addr_text addr
 rule_text (rule.NotOwner hart addr) = with_value (codes "NotOwner") hart ++ codes " " ++ addr_text addr
-rule_text (rule.Target slot offset) = with_value (codes "Target") slot ++ codes " " ++ signed_decimal offset
+rule_text (rule.Target slot offset) = with_value (codes "Target") slot ++ codes " " ++ signed_text offset
 rule_text (rule.NoWeight sum) = with_value (codes "NoWeight") sum
 rule_text (rule.NoHart n) = with_value (codes "NoHart") n
 rule_text (rule.TwiceBody h) = with_value (codes "TwiceBody") h

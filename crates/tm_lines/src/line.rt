@@ -42,7 +42,7 @@ fn put_input(out: &mut Bytes, fault: &InputFault) -> Result<(), NoMemory>
         }
         InputFault::Rule(broken) => {
             out.append(b"Rule ")?;
-            put_rule(out, *broken)
+            put_rule(out, broken)
         }
         InputFault::NotYet { file: _, line } => put_value(out, b"NotYet", u64::from(*line)),
     }

@@ -1,11 +1,21 @@
 // The faults of a topology, as they are told.
 ghost use Rattle.std.specs.Prelude.{◌≡◌, ◌++◌, OnOk};
-ghost use Rattle.tm_lines.specs.Inputs.{topo_text};
+ghost use Rattle.tm_lines.specs.Inputs.{number_text, topo_text};
 
 use crate::values::{put_key, put_signed, put_value};
 use tm_base::{Bytes, NoMemory};
-use tm_topo::TopoFault;
+use tm_topo::{TopoFault, TopoKey};
 
+// A key and its number.
+fn put_number(out: &mut Bytes, key: TopoKey, value: i64) -> Result<(), NoMemory>
+    ensures { OnOk result (out.new ≡ out.old ++ number_text key value) }
+{
+    out.append(key.as_str().as_bytes())?;
+    out.push(b' ')?;
+    put_signed(out, &i128::from(value))
+}
+
+/// The fault of a topology.
 pub fn put_topology(out: &mut Bytes, fault: &TopoFault) -> Result<(), NoMemory>
     ensures { OnOk result (out.new ≡ out.old ++ topo_text fault.now) }
 {
@@ -25,9 +35,7 @@ pub fn put_topology(out: &mut Bytes, fault: &TopoFault) -> Result<(), NoMemory>
         }
         TopoFault::OutOfRange { key, value } => {
             out.append(b"OutOfRange ")?;
-            out.append(key.as_str().as_bytes())?;
-            out.push(b' ')?;
-            put_signed(out, i128::from(*value))
+            put_number(out, *key, *value)
         }
         TopoFault::TooManyHarts { product } => put_value(out, b"TooManyHarts", u64::from(*product)),
         TopoFault::NoMemory => Ok(()),

@@ -3,7 +3,7 @@ use Rattle.std.proofs.Common.{◌≡◌, ◌≤◌, ◌<◌, ◌∙◌, ap, refl
 use Rattle.std.specs.Prelude.{IsSomeAnd}
 use Rattle.tm_desk.specs.Causes.{Files}
 use Rattle.tm_desk.specs.declared.desk.DeskError.TheVariants.{TooLong, Failed}
-use Rattle.tm_image.specs.declared.input.Role.TheVariants as roles
+use Rattle.tm_inputs.specs.declared.role.Role.TheVariants as roles
 use Rattle.tm_open.specs.Opened.{opened}
 use Rattle.tm_lines.specs.declared.fault.AnyFault.{AnyFault}
 use Rattle.tm_lines.specs.declared.fault.AnyFault.TheVariants.{Desk, Image}

@@ -1,6 +1,6 @@
 -- What the steps of a listing leave. Source: this project.
 use Rattle.std.specs.Prelude.{◌≡◌, ℕ, false, List, Result, Err}
-use Rattle.tm_image.specs.declared.input.Role.TheVariants as roles
+use Rattle.tm_inputs.specs.declared.role.Role.TheVariants as roles
 use Rattle.tm_open.specs.declared.fault.ImageFault.{ImageFault}
 use Rattle.tm_lines.specs.declared.fault.AnyFault.TheVariants.{Image}
 use Rattle.tm_lines.specs.Lines.{wants_memory}

@@ -1,12 +1,13 @@
 -- The first fault of a command's inputs, in the order of work: each input is read and refused before the next one is read. Source: this project.
-use Rattle.std.specs.Prelude.{ℕ, List, length, if◌then◌else◌, nat_lt, Option, None, Some, Result, Ok, Err}
+use Rattle.std.specs.Prelude.{ℕ, List, [], length, if◌then◌else◌, nat_lt, Option, None, Some, Result, Ok, Err}
 use Rattle.tm_desk.specs.Causes.{Files}
 use Rattle.tm_desk.specs.declared.desk.DeskError.TheVariants.{Failed, TooLong}
-use Rattle.tm_table.specs.declared.instr.Instr.{Instr}
-use Rattle.tm_image.specs.declared.input.Role.{Role}
-use Rattle.tm_image.specs.declared.input.Role.TheVariants as roles
-use Rattle.tm_image.specs.declared.input.InputFault.{InputFault}
-use Rattle.tm_image.specs.Inputs.{topology_refusal, template_inputs}
+use Rattle.tm_plan.specs.declared.admitted.Admitted.{Admitted}
+use Rattle.tm_inputs.specs.declared.role.Role.{Role}
+use Rattle.tm_inputs.specs.declared.role.Role.TheVariants as roles
+use Rattle.tm_inputs.specs.declared.fault.InputFault.{InputFault}
+use Rattle.tm_inputs.specs.declared.fault.InputFault.TheVariants.{NotYet}
+use Rattle.tm_inputs.specs.Inputs.{topology_refusal, inputs}
 use Rattle.tm_open.specs.declared.fault.ImageFault.{ImageFault}
 use Rattle.tm_open.specs.Opened.{opened}
 use Rattle.tm_lines.specs.declared.fault.AnyFault.{AnyFault}
@@ -29,8 +30,8 @@ image_limit = 16777216
 -- ---- refusals
 
 -- why a reading was refused
-abbrev pub refusal_of : Result (List Instr) InputFault → Option InputFault
-refusal_of (Ok stream) = None
+abbrev pub refusal_of : Result Admitted InputFault → Option InputFault
+refusal_of (Ok test) = None
 refusal_of (Err fault) = Some fault
 
 -- a text's refusal as one of all faults
@@ -47,9 +48,9 @@ not_opened (Err fault) = Some (Image fault)
 abbrev pub refused_topology : List ℕ → Option AnyFault
 refused_topology text = as_fault (topology_refusal text)
 
--- why a template is refused
-abbrev pub refused_template : List ℕ → Option AnyFault
-refused_template text = as_fault (refusal_of (template_inputs text))
+-- why a template is refused, behind a topology
+abbrev pub refused_template : List ℕ → List ℕ → Option AnyFault
+refused_template topo text = as_fault (refusal_of (inputs topo text))
 
 -- why an image is refused
 abbrev pub refused_image : List ℕ → Option AnyFault
@@ -66,18 +67,28 @@ fault_of_input max refused (Some bytes) = if nat_lt max (length bytes) then Some
 unfoldable pub fault_of_topology : Build → Files → Option AnyFault
 fault_of_topology b files = fault_of_input topology_limit refused_topology (files b.topo)
 
--- the fault of the template that is held
+-- the text of a file, where it is held
+abbrev pub text_of : Option (List ℕ) → List ℕ
+text_of None = []
+text_of (Some text) = text
+
+-- the fault of the template that is held, behind the topology that is
 unfoldable pub fault_of_template : Build → Files → Option AnyFault
-fault_of_template b files = fault_of_input template_limit refused_template (files b.template)
+fault_of_template b files = fault_of_input template_limit (refused_template (text_of (files b.topo))) (files b.template)
 
 -- the fault of the image that is held
 unfoldable pub fault_of_image : List ℕ → Files → Option AnyFault
 fault_of_image image files = fault_of_input image_limit refused_image (files image)
 
--- a fault with the role of its file, or else the first one behind it
+-- the role of the file that a fault speaks of: what isn't built yet names its file
+abbrev pub role_of : Role → AnyFault → Role
+role_of role (Input (NotYet file line)) = file
+role_of role _ = role
+
+-- a fault with the role of the file that it speaks of, or else the first one behind it
 abbrev pub or_behind : Role → Option AnyFault → Option (Role × AnyFault) → Option (Role × AnyFault)
 or_behind role None behind = behind
-or_behind role (Some fault) behind = Some (role, fault)
+or_behind role (Some fault) behind = Some (role_of role fault, fault)
 
 -- the first fault of a command's inputs
 unfoldable pub first_fault : Command → Files → Option (Role × AnyFault)

@@ -2,13 +2,15 @@
 use Rattle.std.specs.Prelude.{◌≡◌, ◌⊎◌, ℕ, Bool, true, false, IsTrue, IsFalse, List, [], None, Some, Ok}
 use Rattle.tm_desk.specs.Causes.{Files}
 use Rattle.tm_desk.specs.declared.desk.DeskError.TheVariants.{Failed, TooLong, NoMemory}
+use Rattle.tm_plan.specs.declared.admitted.Admitted.{Admitted}
 use Rattle.tm_plan.specs.declared.program.Program.{Program}
+use Rattle.tm_program.specs.Program.{IsTestOf}
 use Rattle.tm_course.specs.Claims.{SoundSoFar}
 use Rattle.tm_elf.specs.declared.parts.Parts.{Parts}
 use Rattle.tm_elf_read.specs.Read.{elf_of}
-use Rattle.tm_image.specs.declared.input.Role.{Role}
-use Rattle.tm_image.specs.declared.input.Role.TheVariants as roles
-use Rattle.tm_image.specs.Inputs.{inputs}
+use Rattle.tm_inputs.specs.declared.role.Role.{Role}
+use Rattle.tm_inputs.specs.declared.role.Role.TheVariants as roles
+use Rattle.tm_inputs.specs.Inputs.{inputs}
 use Rattle.tm_image.specs.Built.{built, image_file, program_from}
 use Rattle.tm_open.specs.Opened.{opened, rebuilt}
 use Rattle.tm_report.specs.Listing.{listing}
@@ -23,10 +25,12 @@ use Rattle.tm_owed.specs.Changes.{DeskChange, SinkChange, DeskFailed, SinkFailed
 
 -- ---- a build
 
--- The file is built of two texts and a seed; its program is sound, so far as that is claimed; and the line is that of its program.
+-- The file is built of two texts and a seed; its program has the cases of the test that the texts ask for, and is sound, so far as that
+-- is claimed; and the line is that of its program.
 pub record IsMadeOf (topo template : List ℕ) (seed : ℕ) (file line : List ℕ) : Type 0 where
   pub program : Program
   pub its_program : program_from (inputs topo template) ≡ Ok program
+  pub its_test : (a : Admitted) → inputs topo template ≡ Ok a → IsTestOf a program.cases
   pub its_file : built topo template seed ≡ Ok file
   pub of_program : file ≡ image_file program topo template seed
   pub is_sound : SoundSoFar program

@@ -2,8 +2,8 @@
 use Rattle.std.specs.Prelude.{◌≡◌, ◌⊎◌, ◌<◌, ℕ, List, [], length, IsFalse, Option, None, IsSomeAnd}
 use Rattle.tm_desk.specs.Causes.{Rose}
 use Rattle.tm_desk.specs.declared.desk.DeskError.TheVariants.{Failed, TooLong}
-use Rattle.tm_image.specs.declared.input.Role.{Role}
-use Rattle.tm_image.specs.declared.input.Role.TheVariants.{Output}
+use Rattle.tm_inputs.specs.declared.role.Role.{Role}
+use Rattle.tm_inputs.specs.declared.role.Role.TheVariants.{Output}
 use Rattle.tm_lines.specs.declared.fault.AnyFault.TheVariants.{Desk}
 use Rattle.tm_lines.specs.Lines.{fault_text, wants_memory}
 use Rattle.tm_owed.specs.declared.stop.Stop.{Stop}

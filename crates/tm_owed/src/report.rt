@@ -55,9 +55,9 @@ pub fn tell_stop<E: Sink>(alloc: Global, err: &mut E, stop: &Stop) -> u8
     requires { IsTellable stop.now }
     ensures { Reported stop.now (sink_change E.tells E.taken E.faults err.old err.new) result }
 {
-    match *stop {
-        Stop::Refused(role, fault) => say_fault(alloc, err, role, &fault, 3),
-        Stop::Failed(role) => say_fault(alloc, err, role, &AnyFault::Desk(DeskError::Failed), 5),
+    match stop {
+        Stop::Refused(role, fault) => say_fault(alloc, err, *role, fault, 3),
+        Stop::Failed(role) => say_fault(alloc, err, *role, &AnyFault::Desk(DeskError::Failed), 5),
         Stop::NoMemory => {
             say_no_memory(err);
             6

@@ -2,7 +2,7 @@
 use tm_lines::{AnyFault, Role};
 
 /// An input was refused, the outside failed at the file of a role, or there was no memory.
-#[derive(Clone, Copy, Debug, PartialEq, Eq)]
+#[derive(Drop)]
 pub enum Stop {
     Refused(Role, AnyFault),
     Failed(Role),

@@ -1,12 +1,18 @@
 -- The first fault of a build's two inputs, step by step.
 use Rattle.std.proofs.Common.{◌≡◌, ◌≤◌, ◌<◌, ◌∙◌, ap, sym, subst, refl, ℕ, List, Option, None, Some, Result, Ok, Err, IsTrue, length, arith, inl, inr}
 use Rattle.std.specs.Prelude.{IsSomeAnd}
-use Rattle.tm_table.specs.declared.instr.Instr.{Instr}
+use Rattle.tm_plan.specs.declared.admitted.Admitted.{Admitted}
 use Rattle.tm_desk.specs.Causes.{Files}
 use Rattle.tm_desk.specs.declared.desk.DeskError.TheVariants.{TooLong, Failed}
-use Rattle.tm_image.specs.declared.input.Role.TheVariants.{Topology, Template}
-use Rattle.tm_image.specs.declared.input.InputFault.{InputFault}
-use Rattle.tm_image.specs.Inputs.{topology_refusal, template_inputs, inputs}
+use Rattle.tm_inputs.specs.declared.role.Role.TheVariants.{Topology, Template}
+use Rattle.tm_inputs.specs.declared.fault.InputFault.{InputFault}
+use Rattle.tm_inputs.specs.Inputs.{topology_refusal, refusal_of as topology_refusal_of, behind_topology, inputs}
+use Rattle.tm_topo.specs.declared.system.Topology.{Topology as Topology_}
+use Rattle.tm_topo.specs.declared.system.TopoFault.{TopoFault}
+use Rattle.tm_topo.specs.Reading.{topology_of}
+use Rattle.tm_inputs.specs.declared.fault.InputFault.TheVariants.{Topo}
+use Rattle.tm_inputs.specs.Inputs.{IsNamed}
+use Rattle.tm_lines.proofs.Named.{input_calm}
 use Rattle.tm_image.specs.Built.{built, built_of}
 use Rattle.tm_lines.specs.declared.fault.AnyFault.{AnyFault}
 use Rattle.tm_lines.specs.declared.fault.AnyFault.TheVariants.{Input, Desk}
@@ -15,7 +21,7 @@ use Rattle.tm_owed.specs.declared.stop.Stop.TheVariants as stop
 use Rattle.tm_owed.specs.Words.{Build}
 use Rattle.tm_owed.specs.Words.Command.{to_build}
 use Rattle.tm_owed.proofs.Limits.{long, short}
-use Rattle.tm_owed.specs.Inputs.{topology_limit, template_limit, refusal_of, as_fault, refused_topology, refused_template, fault_of_topology, fault_of_template, first_fault}
+use Rattle.tm_owed.specs.Inputs.{topology_limit, template_limit, refusal_of, as_fault, text_of, role_of, refused_topology, refused_template, fault_of_topology, fault_of_template, first_fault}
 use Rattle.tm_owed.specs.Changes.{DeskChange, DeskFailed}
 use Rattle.tm_owed.specs.Owed.{IsRefusal, IsMadeOf, IsImageOf}
 use Rattle.tm_owed.specs.Owed.InputFailure.{unread, missing}
@@ -24,12 +30,12 @@ use Rattle.tm_top.specs.Steps.{IsTopology, ImageStop}
 
 -- ---- which fault is the first
 
-at_topology : (b : Build) (files : Files) (fault : AnyFault) → fault_of_topology b files ≡ Some fault → first_fault (to_build b) files ≡ Some (Topology, fault)
+at_topology : (b : Build) (files : Files) (fault : AnyFault) → fault_of_topology b files ≡ Some fault → first_fault (to_build b) files ≡ Some (role_of Topology fault, fault)
 unfolding first_fault
 at_topology b files fault is = rw is refl
 
 at_template : (b : Build) (files : Files) (fault : AnyFault) → fault_of_topology b files ≡ None → fault_of_template b files ≡ Some fault
-    → first_fault (to_build b) files ≡ Some (Template, fault)
+    → first_fault (to_build b) files ≡ Some (role_of Template fault, fault)
 unfolding first_fault
 at_template b files fault none is = rw (none, is) refl
 
@@ -66,14 +72,25 @@ topology_stop (stop.Failed by) b desk (role_is, inr (told, none)) =
     rw role_is (missing told (at_topology b desk.held _ (topology_missing b desk.held none)))
 topology_stop stop.NoMemory b desk h = tt
 
+-- the fault of a topology speaks of the topology
+topology_role : (r : Result Topology_ TopoFault) (refusal : InputFault) → Some refusal ≡ topology_refusal_of r → role_of Topology (Input refusal) ≡ Topology
+topology_role (Ok t) refusal h = absurd (cc)
+topology_role (Err e) refusal h = let same : refusal ≡ Topo e = cc in rw same refl
+
+its_role : (text : List ℕ) (refusal : InputFault) → Some refusal ≡ topology_refusal text → role_of Topology (Input refusal) ≡ Topology
+unfolding topology_refusal
+its_role text refusal h = topology_role (topology_of text) refusal h
+
 -- a topology that is refused
 pub topology_refused : (b : Build) (desk : DeskChange) (text : List ℕ) (refusal : InputFault)
-    → (IsTrue desk.tells → desk.held b.topo ≡ Some text) → length text ≤ topology_limit → Some refusal ≡ topology_refusal text
+    → (IsTrue desk.tells → desk.held b.topo ≡ Some text) → length text ≤ topology_limit → Some refusal ≡ topology_refusal text → IsNamed refusal
     → IsRefusal (to_build b) desk Topology (Input refusal)
-topology_refused b desk text refusal held h is = record {
+topology_refused b desk text refusal held h is named = record {
   status = refl;
-  has_line = refl;
-  first = λ told. at_topology b desk.held _ (topology_read b desk.held text (held told) h ∙ ap as_fault (sym is));
+  has_line = input_calm refusal named;
+  first = λ told.
+      at_topology b desk.held _ (topology_read b desk.held text (held told) h ∙ ap as_fault (sym is))
+      ∙ ap (λ role. Some (role, Input refusal)) (its_role text refusal is);
 }
 
 -- a topology that is accepted has no fault
@@ -90,12 +107,12 @@ template_missing b files is = rw is refl
 template_long : (b : Build) (files : Files) → IsSomeAnd (files b.template) (λ text. template_limit < length text)
     → fault_of_template b files ≡ Some (Desk (TooLong template_limit))
 unfolding fault_of_template
-template_long b files h = long template_limit refused_template (files b.template) h
+template_long b files h = long template_limit (refused_template (text_of (files b.topo))) (files b.template) h
 
-template_read : (b : Build) (files : Files) (text : List ℕ) → files b.template ≡ Some text → length text ≤ template_limit
-    → fault_of_template b files ≡ refused_template text
+template_read : (b : Build) (files : Files) (topo text : List ℕ) → files b.topo ≡ Some topo → files b.template ≡ Some text → length text ≤ template_limit
+    → fault_of_template b files ≡ refused_template topo text
 unfolding fault_of_template
-template_read b files text held h = rw held (short template_limit refused_template text h)
+template_read b files topo text first held h = rw (first, held) (short template_limit (refused_template topo) text h)
 
 -- a read of the template that stopped, behind a topology that is accepted
 pub template_stop : (s : Stop) (b : Build) (desk : DeskChange) (text : List ℕ) (there : Option (List ℕ)) (faults : ℕ)
@@ -117,43 +134,35 @@ template_stop stop.NoMemory b desk text there faults topology same later h = tt
 -- a template of which no image is built, behind a topology that is accepted
 pub image_stop : (s : Stop) (b : Build) (desk : DeskChange) (text template : List ℕ) → IsTopology b desk.tells desk.held text
     → (IsTrue desk.tells → desk.held b.template ≡ Some template) → length template ≤ template_limit
-    → ImageStop s (template_inputs template) → InputStop s (to_build b) desk
-image_stop (stop.Refused by fault) b desk text template topology there h (refusal, refused, role_is, fault_is) = rw (role_is, fault_is) (record {
+    → ImageStop s (inputs text template) → InputStop s (to_build b) desk
+image_stop (stop.Refused by fault) b desk text template topology there h (refusal, refused, role_is, fault_is, calm) = rw (role_is, fault_is) (record {
   status = refl;
-  has_line = refl;
+  has_line = calm;
   first = λ told. at_template b desk.held _ (topology_accepted b desk text topology told)
-      (template_read b desk.held template (there told) h ∙ ap (λ reading. as_fault (refusal_of reading)) refused);
+      (template_read b desk.held text template (topology.there told) (there told) h ∙ ap (λ reading. as_fault (refusal_of reading)) refused);
 })
 image_stop (stop.Failed by) b desk text template topology there h stopped = absurd stopped
 image_stop stop.NoMemory b desk text template topology there h stopped = tt
 
 -- ---- what is built
 
-refused_at : (r : Result (List Instr) InputFault) (topo template : List ℕ) (seed : ℕ) (refusal : InputFault)
+refused_at : (r : Result Admitted InputFault) (topo template : List ℕ) (seed : ℕ) (refusal : InputFault)
     → built_of topo template seed r ≡ Err refusal → r ≡ Err refusal
-refused_at (Ok stream) topo template seed refusal h = cc
+refused_at (Ok test) topo template seed refusal h = cc
 refused_at (Err fault) topo template seed refusal h = cc
 
-built_at : (r : Result (List Instr) InputFault) (topo template file : List ℕ) (seed : ℕ) → built_of topo template seed r ≡ Ok file → refusal_of r ≡ None
-built_at (Ok stream) topo template file seed h = refl
+built_at : (r : Result Admitted InputFault) (topo template file : List ℕ) (seed : ℕ) → built_of topo template seed r ≡ Ok file → refusal_of r ≡ None
+built_at (Ok test) topo template file seed h = refl
 built_at (Err fault) topo template file seed h = cc
 
-inputs_behind : (topo template : List ℕ) → topology_refusal topo ≡ None → inputs topo template ≡ template_inputs template
-unfolding inputs
-inputs_behind topo template accepted = rw accepted refl
-
--- behind a topology that is accepted, the fault is the template's
-pub image_refused : (topo template : List ℕ) (seed : ℕ) (refusal : InputFault) → topology_refusal topo ≡ None
-    → built topo template seed ≡ Err refusal → template_inputs template ≡ Err refusal
+-- the fault of two texts of which no image is built
+pub image_refused : (topo template : List ℕ) (seed : ℕ) (refusal : InputFault) → built topo template seed ≡ Err refusal → inputs topo template ≡ Err refusal
 unfolding built
-image_refused topo template seed refusal accepted h =
-    sym (inputs_behind topo template accepted) ∙ refused_at (inputs topo template) topo template seed refusal h
+image_refused topo template seed refusal h = refused_at (inputs topo template) topo template seed refusal h
 
-template_accepted : (topo template file : List ℕ) (seed : ℕ) → topology_refusal topo ≡ None → built topo template seed ≡ Ok file
-    → refusal_of (template_inputs template) ≡ None
+template_accepted : (topo template file : List ℕ) (seed : ℕ) → built topo template seed ≡ Ok file → refusal_of (inputs topo template) ≡ None
 unfolding built
-template_accepted topo template file seed accepted h =
-    ap refusal_of (sym (inputs_behind topo template accepted)) ∙ built_at (inputs topo template) topo template file seed h
+template_accepted topo template file seed h = built_at (inputs topo template) topo template file seed h
 
 -- where an image is built, neither input has a fault
 pub no_fault : (b : Build) (desk : DeskChange) (topo template file : List ℕ) → IsTopology b desk.tells desk.held topo
@@ -161,7 +170,7 @@ pub no_fault : (b : Build) (desk : DeskChange) (topo template file : List ℕ) �
     → IsTrue desk.tells → first_fault (to_build b) desk.held ≡ None
 no_fault b desk topo template file topology there h is_built told =
     at_none b desk.held (topology_accepted b desk topo topology told)
-    (template_read b desk.held template (there told) h ∙ ap as_fault (template_accepted topo template file b.seed topology.accepted is_built))
+    (template_read b desk.held topo template (topology.there told) (there told) h ∙ ap as_fault (template_accepted topo template file b.seed is_built))
 
 -- the image of two texts that are held and accepted
 pub image_of_held : (b : Build) (desk : DeskChange) (topo template file line : List ℕ) → IsTopology b desk.tells desk.held topo

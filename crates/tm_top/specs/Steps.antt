@@ -1,15 +1,16 @@
 -- What the steps of a build leave. Source: this project.
-use Rattle.std.specs.Prelude.{◌≡◌, ◌≤◌, ℕ, Bool, List, length, IsTrue, None, Some, Result, Ok, Err}
+use Rattle.std.specs.Prelude.{◌≡◌, ◌≤◌, ℕ, Bool, false, List, length, IsTrue, None, Some, Result, Err}
 use Rattle.tm_desk.specs.Causes.{Files}
-use Rattle.tm_table.specs.declared.instr.Instr.{Instr}
-use Rattle.tm_image.specs.declared.input.Role.TheVariants as roles
-use Rattle.tm_image.specs.declared.input.InputFault.{InputFault}
-use Rattle.tm_image.specs.Inputs.{topology_refusal}
+use Rattle.tm_plan.specs.declared.admitted.Admitted.{Admitted}
+use Rattle.tm_inputs.specs.declared.role.Role.TheVariants as roles
+use Rattle.tm_inputs.specs.declared.fault.InputFault.{InputFault}
+use Rattle.tm_inputs.specs.Inputs.{topology_refusal}
 use Rattle.tm_lines.specs.declared.fault.AnyFault.TheVariants.{Input}
 use Rattle.tm_owed.specs.declared.stop.Stop.{Stop}
 use Rattle.tm_owed.specs.declared.stop.Stop.TheVariants as stop
 use Rattle.tm_owed.specs.Words.{Build}
-use Rattle.tm_owed.specs.Inputs.{topology_limit}
+use Rattle.tm_lines.specs.Lines.{wants_memory}
+use Rattle.tm_owed.specs.Inputs.{topology_limit, role_of}
 
 -- The topology is held, within its limit and accepted.
 pub record IsTopology (b : Build) (tells : Bool) (held : Files) (text : List ℕ) : Type 0 where
@@ -17,8 +18,9 @@ pub record IsTopology (b : Build) (tells : Bool) (held : Files) (text : List ℕ
   pub short : length text ≤ topology_limit
   pub accepted : topology_refusal text ≡ None
 
--- why no image is built of a topology that is accepted
-abbrev pub ImageStop : Stop → Result (List Instr) InputFault → Type 0
-ImageStop (stop.Refused by fault) template = (refusal : InputFault) × (template ≡ Err refusal) × (by ≡ roles.Template) × (fault ≡ Input refusal)
-ImageStop (stop.Failed by) template = ⊥
-ImageStop stop.NoMemory template = Unit {0}
+-- why no image is built of two texts
+abbrev pub ImageStop : Stop → Result Admitted InputFault → Type 0
+ImageStop (stop.Refused by fault) reading =
+    (refusal : InputFault) × (reading ≡ Err refusal) × (by ≡ role_of roles.Template (Input refusal)) × (fault ≡ Input refusal) × (wants_memory (Input refusal) ≡ false)
+ImageStop (stop.Failed by) reading = ⊥
+ImageStop stop.NoMemory reading = Unit {0}

@@ -1,15 +1,18 @@
 // The image of a build's two texts.
-ghost use Rattle.std.specs.Prelude.{◌≡◌, ◌≤◌, IfOk, IfErr, length, None};
-ghost use Rattle.tm_image.specs.Inputs.{topology_refusal, template_inputs};
+ghost use Rattle.std.specs.Prelude.{◌≡◌, ◌≤◌, IfOk, IfErr, length};
+ghost use Rattle.tm_inputs.specs.Inputs.{inputs};
+ghost use Rattle.tm_inputs.specs.declared.role.Role.TheVariants as roles;
+ghost use Rattle.tm_lines.specs.declared.fault.AnyFault.TheVariants.{Input};
 ghost use Rattle.tm_owed.specs.Texts.{built_line};
-ghost use Rattle.tm_owed.specs.Inputs.{topology_limit, template_limit};
+ghost use Rattle.tm_owed.specs.Inputs.{topology_limit, template_limit, role_of as role_of_fault};
 ghost use Rattle.tm_owed.specs.Owed.{IsMadeOf};
 ghost use Rattle.tm_top.specs.Steps.{ImageStop};
 
 use crate::made::Made;
 use std::alloc::Global;
 use tm_base::{Bytes, NoMemory, Text, push_decimal};
-use tm_image::{BuildFault, build};
+use tm_image::build;
+use tm_inputs::{BuildFault, InputFault};
 use tm_lines::{AnyFault, Role};
 use tm_owed::Stop;
 use tm_plan::Program;
@@ -30,18 +33,27 @@ fn line_of(alloc: Global, program: &Program, file: &[u8]) -> Result<Text, NoMemo
     Ok(text)
 }
 
-/// Builds the image of two texts, of which the topology is accepted.
+// The role of the text that a fault speaks of, where the topology is accepted.
+fn role_of(fault: &InputFault) -> Role
+    ensures { result ≡ role_of_fault roles.Template (Input fault.now) }
+{
+    match fault {
+        InputFault::NotYet { file, line: _ } => *file,
+        InputFault::Topo(_) | InputFault::Tmpl(_) | InputFault::Rule(_) => Role::Template,
+    }
+}
+
+/// Builds the image of two texts.
 pub fn image_of(alloc: Global, topo: &Bytes, template: &Bytes, seed: u64) -> Result<Made, Stop>
     requires topo { length topo.now ≤ topology_limit }
-    requires accepted { topology_refusal topo.now ≡ None }
     requires template { length template.now ≤ template_limit }
     ensures ok { IfOk result (λ made. IsMadeOf topo.now template.now seed made.file made.line) }
-    ensures err { IfErr result (λ stop. ImageStop stop (template_inputs template.now)) }
+    ensures err { IfErr result (λ stop. ImageStop stop (inputs topo.now template.now)) }
 {
     let image = match build(alloc, topo.as_slice(), template.as_slice(), seed) {
         Ok(image) => image,
         Err(BuildFault::Input(fault)) => {
-            return Err(Stop::Refused(Role::Template, AnyFault::Input(fault)));
+            return Err(Stop::Refused(role_of(&fault), AnyFault::Input(fault)));
         }
         Err(BuildFault::NoMemory) => return Err(Stop::NoMemory),
     };

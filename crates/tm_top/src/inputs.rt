@@ -12,7 +12,7 @@ use crate::made::Made;
 use std::alloc::Global;
 use tm_base::Bytes;
 use tm_desk::Desk;
-use tm_image::topology_fault;
+use tm_inputs::topology_fault;
 use tm_lines::{AnyFault, Role};
 use tm_owed::{BuildWords, Stop, read_input};
 
@@ -23,7 +23,7 @@ const TOPOLOGY_LIMIT: u64 = 65_536;
 const TEMPLATE_LIMIT: u64 = 1_048_576;
 
 /// Reads the topology, and refuses it.
-fn read_topology<D: Desk>(b: &BuildWords<'_>, desk: &mut D) -> Result<Bytes, Stop>
+fn read_topology<D: Desk>(alloc: Global, b: &BuildWords<'_>, desk: &mut D) -> Result<Bytes, Stop>
     ensures ok { IfOk result (λ text. IsTopology (build_in b.now) D.tells (D.held desk.old) text) }
     ensures unchanged { IsTrue D.tells → D.held desk.new ≡ D.held desk.old }
     ensures later { D.faults desk.old ≤ D.faults desk.new }
@@ -34,9 +34,10 @@ fn read_topology<D: Desk>(b: &BuildWords<'_>, desk: &mut D) -> Result<Bytes, Sto
         Ok(text) => text,
         Err(stop) => return Err(stop),
     };
-    match topology_fault(text.as_slice()) {
-        Some(fault) => Err(Stop::Refused(Role::Topology, AnyFault::Input(fault))),
-        None => Ok(text),
+    match topology_fault(alloc, text.as_slice()) {
+        Ok(Some(fault)) => Err(Stop::Refused(Role::Topology, AnyFault::Input(fault))),
+        Ok(None) => Ok(text),
+        Err(_) => Err(Stop::NoMemory),
     }
 }
 
@@ -48,7 +49,7 @@ pub fn make_image<D: Desk>(alloc: Global, b: &BuildWords<'_>, desk: &mut D) -> R
     ensures cause { IfErr result (λ stop.
         InputStop stop (to_build (build_in b.now)) (desk_change D.tells D.held D.faults desk.old desk.new)) }
 {
-    let topo = match read_topology(b, desk) {
+    let topo = match read_topology(alloc, b, desk) {
         Ok(topo) => topo,
         Err(stop) => return Err(stop),
     };
