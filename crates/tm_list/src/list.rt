@@ -19,6 +19,7 @@ use tm_report::list_text;
 const IMAGE_LIMIT: u64 = 16_777_216;
 
 // The listing of an image's file, if the file is what is built of its plan.
+#[tactic(auto, using(tm_lines::proofs::Named::image_calm))]
 fn listing_of(alloc: Global, file: &Bytes) -> Result<Text, Stop>
     ensures ok { IfOk result (λ text. IsListingIn file.now text) }
     ensures err { IfErr result (λ stop. OpenStop stop (opened file.now)) }
