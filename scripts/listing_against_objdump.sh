@@ -41,6 +41,8 @@ compared = wrong = 0
 case = hart = None
 for line in open(f"{work}/listing"):
     words = line.split()
+    if not words:
+        continue
     if words[0] == "case":
         case = int(words[1])
     elif words[0] == "hart":
