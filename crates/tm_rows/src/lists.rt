@@ -17,6 +17,23 @@ enum Change {
     Longer,
 }
 
+/// A changed image of 21,592 bytes, and the fault that it is refused with. Its tables stand at 8192, with the first mask byte at
+/// 14592, its plan at 20736, and its section headers at 21080.
+const REFUSED: [(Change, &str); 12] = [
+    (Change::Cut(64), "Elf BadHeader 40"),
+    (Change::Cut(743), "Elf BadHeader 40"),
+    (Change::Cut(21591), "Elf BadHeader 40"),
+    (Change::Longer, "Elf BadHeader 40"),
+    (Change::Byte(3, 0), "Elf BadMagic"),
+    (Change::Byte(18, 62), "Elf NotRiscv 62"),
+    (Change::Byte(7, 1), "Elf BadHeader 7"),
+    (Change::Byte(96, 1), "Elf BadSegment 0"),
+    (Change::Byte(4096, 0xFF), "Differs 4096"),
+    (Change::Byte(14592, 0), "Differs 14592"),
+    (Change::Byte(20768, b'2'), "Inputs NotYet 1"),
+    (Change::Byte(21340, 3), "Elf NoPlan"),
+];
+
 fn changed(alloc: Global, file: &[u8], change: Change) -> Result<Bytes, NoMemory> {
     let mut out = Bytes::new(alloc);
     match change {
@@ -76,10 +93,15 @@ fn copied(alloc: Global, bytes: &[u8]) -> Result<Bytes, NoMemory> {
     Ok(copy)
 }
 
-// A file is refused with this line.
-fn refused(rt: &HostRuntime, file: &[u8], line: &[u8]) -> Result<bool, Fail> {
+// A file is refused with this fault.
+fn refused(rt: &HostRuntime, file: &[u8], fault: &str) -> Result<bool, Fail> {
     let listed = list(rt, file)?;
-    Ok(listed.status == 3 && listed.text.as_slice().is_empty() && listed.line.as_slice() == line)
+    let line = format!(in rt.alloc(); "threadmill: image: {fault}\n")?;
+    Ok(
+        listed.status == 3
+            && listed.text.as_slice().is_empty()
+            && listed.line.as_slice() == line.as_bytes(),
+    )
 }
 
 #[test]
@@ -91,79 +113,21 @@ fn an_image_is_listed(rt: HostRuntime) -> Result<(), Fail> {
     Ok(())
 }
 
-/// The image has 21,592 bytes. Its tables stand at 8192, with the first mask byte at 14592, its plan at 20736, and its section
-/// headers at 21080.
 #[test]
 fn other_files_are_refused(rt: HostRuntime) -> Result<(), Fail> {
     let alloc = rt.alloc();
     let image = built(&rt)?;
-    let rows = [
-        (
-            Change::Cut(64),
-            b"threadmill: image: Elf BadHeader 40\n".as_slice(),
-        ),
-        (
-            Change::Cut(743),
-            b"threadmill: image: Elf BadHeader 40\n".as_slice(),
-        ),
-        (
-            Change::Cut(21591),
-            b"threadmill: image: Elf BadHeader 40\n".as_slice(),
-        ),
-        (
-            Change::Byte(3, 0),
-            b"threadmill: image: Elf BadMagic\n".as_slice(),
-        ),
-        (
-            Change::Longer,
-            b"threadmill: image: Elf BadHeader 40\n".as_slice(),
-        ),
-        (
-            Change::Byte(18, 62),
-            b"threadmill: image: Elf NotRiscv 62\n".as_slice(),
-        ),
-        (
-            Change::Byte(7, 1),
-            b"threadmill: image: Elf BadHeader 7\n".as_slice(),
-        ),
-        (
-            Change::Byte(96, 1),
-            b"threadmill: image: Elf BadSegment 0\n".as_slice(),
-        ),
-        (
-            Change::Byte(4096, 0xFF),
-            b"threadmill: image: Differs 4096\n".as_slice(),
-        ),
-        (
-            Change::Byte(14592, 0),
-            b"threadmill: image: Differs 14592\n".as_slice(),
-        ),
-        (
-            Change::Byte(20768, b'2'),
-            b"threadmill: image: Inputs NotYet 1\n".as_slice(),
-        ),
-        (
-            Change::Byte(21340, 3),
-            b"threadmill: image: Elf NoPlan\n".as_slice(),
-        ),
-    ];
-    for (change, line) in rows {
+    for (change, fault) in REFUSED {
         let file = changed(alloc, image.as_slice(), change)?;
-        assert!(rt; refused(&rt, file.as_slice(), line)?);
+        assert!(rt; refused(&rt, file.as_slice(), fault)?, "{fault}");
     }
     for len in 0..64 {
         let file = changed(alloc, image.as_slice(), Change::Cut(len))?;
-        let line = format!(in alloc; "threadmill: image: Elf Short {len}\n")?;
-        assert!(rt; refused(&rt, file.as_slice(), line.as_bytes())?);
+        let fault = format!(in alloc; "Elf Short {len}")?;
+        assert!(rt; refused(&rt, file.as_slice(), fault.as_str())?, "{len}");
     }
     let long = filled(&rt, 0x7F, 16_777_217)?;
-    assert!(rt;
-        refused(
-            &rt,
-            long.as_slice(),
-            b"threadmill: image: TooLong 16777216\n"
-        )?
-    );
+    assert!(rt; refused(&rt, long.as_slice(), "TooLong 16777216")?);
     Ok(())
 }
 

@@ -1,5 +1,5 @@
 -- What the steps of a build leave. Source: this project.
-use Rattle.std.specs.Prelude.{◌≡◌, ◌≤◌, ℕ, Bool, List, length, IsTrue, None, Some, Result, Ok, Err}
+use Rattle.std.specs.Prelude.{◌≡◌, ◌≤◌, ℕ, Bool, List, length, IsTrue, None, Some, Result, Err}
 use Rattle.tm_desk.specs.Causes.{Files}
 use Rattle.tm_table.specs.declared.instr.Instr.{Instr}
 use Rattle.tm_image.specs.declared.input.Role.TheVariants as roles
