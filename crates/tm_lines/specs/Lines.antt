@@ -1,5 +1,5 @@
 -- The lines that tell of faults. Source: this project.
-use Rattle.std.specs.Prelude.{ℕ, Bool, true, false, List, [], ◌∷◌, ◌++◌, codes}
+use Rattle.std.specs.Prelude.{ℕ, Bool, true, false, List, [], ◌++◌, codes}
 use Rattle.tm_desk.specs.declared.desk.DeskError.{DeskError}
 use Rattle.tm_desk.specs.declared.desk.DeskError.TheVariants as desk
 use Rattle.tm_elf_head.specs.declared.fault.ElfFault.{ElfFault}

@@ -6,7 +6,7 @@ use Rattle.tm_desk.specs.declared.desk.DeskError.TheVariants.{TooLong, Failed}
 use Rattle.tm_inputs.specs.declared.role.Role.TheVariants as roles
 use Rattle.tm_open.specs.Opened.{opened}
 use Rattle.tm_lines.specs.declared.fault.AnyFault.{AnyFault}
-use Rattle.tm_lines.specs.declared.fault.AnyFault.TheVariants.{Desk, Image}
+use Rattle.tm_lines.specs.declared.fault.AnyFault.TheVariants.{Desk}
 use Rattle.tm_owed.specs.declared.stop.Stop.{Stop}
 use Rattle.tm_owed.specs.declared.stop.Stop.TheVariants as stop
 use Rattle.tm_owed.specs.Words.Command.{to_list}

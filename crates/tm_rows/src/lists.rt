@@ -14,61 +14,34 @@ const LISTING: &[u8] =
 enum Change {
     Cut(usize),
     Byte(usize, u8),
+    Longer,
 }
 
-/// A changed image of 21,592 bytes, and the line that it is refused with. Its tables stand at 8192, with the first mask byte
-/// at 14592, its plan at 20736, and its section headers at 21080.
-const REFUSED: [(Change, &[u8]); 11] = [
-    (
-        Change::Cut(64),
-        b"threadmill: image: Elf BadHeader 40\n".as_slice(),
-    ),
-    (
-        Change::Cut(743),
-        b"threadmill: image: Elf BadHeader 40\n".as_slice(),
-    ),
-    (
-        Change::Cut(21591),
-        b"threadmill: image: Elf BadHeader 40\n".as_slice(),
-    ),
-    (
-        Change::Byte(3, 0),
-        b"threadmill: image: Elf BadMagic\n".as_slice(),
-    ),
-    (
-        Change::Byte(18, 62),
-        b"threadmill: image: Elf NotRiscv 62\n".as_slice(),
-    ),
-    (
-        Change::Byte(7, 1),
-        b"threadmill: image: Elf BadHeader 7\n".as_slice(),
-    ),
-    (
-        Change::Byte(96, 1),
-        b"threadmill: image: Elf BadSegment 0\n".as_slice(),
-    ),
-    (
-        Change::Byte(4096, 0xFF),
-        b"threadmill: image: Differs 4096\n".as_slice(),
-    ),
-    (
-        Change::Byte(14592, 0),
-        b"threadmill: image: Differs 14592\n".as_slice(),
-    ),
-    (
-        Change::Byte(20768, b'2'),
-        b"threadmill: image: Inputs NotYet 1\n".as_slice(),
-    ),
-    (
-        Change::Byte(21340, 3),
-        b"threadmill: image: Elf NoPlan\n".as_slice(),
-    ),
+/// A changed image of 21,592 bytes, and the fault that it is refused with. Its tables stand at 8192, with the first mask byte at
+/// 14592, its plan at 20736, and its section headers at 21080.
+const REFUSED: [(Change, &str); 12] = [
+    (Change::Cut(64), "Elf BadHeader 40"),
+    (Change::Cut(743), "Elf BadHeader 40"),
+    (Change::Cut(21591), "Elf BadHeader 40"),
+    (Change::Longer, "Elf BadHeader 40"),
+    (Change::Byte(3, 0), "Elf BadMagic"),
+    (Change::Byte(18, 62), "Elf NotRiscv 62"),
+    (Change::Byte(7, 1), "Elf BadHeader 7"),
+    (Change::Byte(96, 1), "Elf BadSegment 0"),
+    (Change::Byte(4096, 0xFF), "Differs 4096"),
+    (Change::Byte(14592, 0), "Differs 14592"),
+    (Change::Byte(20768, b'2'), "Inputs NotYet 1"),
+    (Change::Byte(21340, 3), "Elf NoPlan"),
 ];
 
 fn changed(alloc: Global, file: &[u8], change: Change) -> Result<Bytes, NoMemory> {
     let mut out = Bytes::new(alloc);
     match change {
         Change::Cut(len) => out.append(file.get(..len).unwrap_or(file))?,
+        Change::Longer => {
+            out.append(file)?;
+            out.push(0)?;
+        }
         Change::Byte(place, new) => {
             out.append(file.get(..place).unwrap_or(file))?;
             out.push(new)?;
@@ -91,14 +64,15 @@ fn built(rt: &HostRuntime) -> Result<Bytes, Fail> {
     Ok(desk.read("a.elf", 16_777_216)?)
 }
 
-// The file is listed with this status, and these texts on the output and on the error sink.
-fn lists(
-    rt: &HostRuntime,
-    file: &[u8],
+/// The bytes that the two sinks took, and the status.
+#[derive(Drop)]
+struct Listed {
     status: u8,
-    text: &[u8],
-    line: &[u8],
-) -> Result<(), Fail> {
+    text: Bytes,
+    line: Bytes,
+}
+
+fn list(rt: &HostRuntime, file: &[u8]) -> Result<Listed, Fail> {
     let alloc = rt.alloc();
     let words = words_of(rt, "list a.elf")?;
     let mut desk = CalmDesk::new(alloc);
@@ -106,48 +80,55 @@ fn lists(
     let mut out = CalmSink::new(alloc);
     let mut err = CalmSink::new(alloc);
     let outcome = still(alloc, &words, &mut desk, &mut out, &mut err);
-    assert_eq!(rt; outcome.status, status);
-    assert_eq!(rt; out.taken(), text);
-    assert_eq!(rt; err.taken(), line);
-    assert_eq!(rt; desk.read("a.elf", 16_777_217)?.as_slice(), file);
+    Ok(Listed {
+        status: outcome.status,
+        text: copied(alloc, out.taken())?,
+        line: copied(alloc, err.taken())?,
+    })
+}
+
+fn copied(alloc: Global, bytes: &[u8]) -> Result<Bytes, NoMemory> {
+    let mut copy = Bytes::new(alloc);
+    copy.append(bytes)?;
+    Ok(copy)
+}
+
+// A file is refused with this fault.
+fn refused(rt: &HostRuntime, file: &[u8], fault: &str) -> Result<bool, Fail> {
+    let listed = list(rt, file)?;
+    let line = format!(in rt.alloc(); "threadmill: image: {fault}\n")?;
+    Ok(
+        listed.status == 3
+            && listed.text.as_slice().is_empty()
+            && listed.line.as_slice() == line.as_bytes(),
+    )
+}
+
+#[test]
+fn an_image_is_listed(rt: HostRuntime) -> Result<(), Fail> {
+    let listed = list(&rt, built(&rt)?.as_slice())?;
+    assert_eq!(rt; listed.status, 0);
+    assert_eq!(rt; listed.text.as_slice(), LISTING);
+    assert_eq!(rt; listed.line.as_slice(), b"".as_slice());
     Ok(())
 }
 
 #[test]
-fn images_are_listed_or_refused(rt: HostRuntime) -> Result<(), Fail> {
+fn other_files_are_refused(rt: HostRuntime) -> Result<(), Fail> {
     let alloc = rt.alloc();
     let image = built(&rt)?;
-    let file = image.as_slice();
-    lists(&rt, file, 0, LISTING, b"")?;
-    for (change, line) in REFUSED {
-        lists(&rt, changed(alloc, file, change)?.as_slice(), 3, b"", line)?;
+    for (change, fault) in REFUSED {
+        let file = changed(alloc, image.as_slice(), change)?;
+        assert!(rt; refused(&rt, file.as_slice(), fault)?, "{fault}");
     }
     for len in 0..64 {
-        let line = format!(in alloc; "threadmill: image: Elf Short {len}\n")?;
-        lists(
-            &rt,
-            changed(alloc, file, Change::Cut(len))?.as_slice(),
-            3,
-            b"",
-            line.as_bytes(),
-        )?;
+        let file = changed(alloc, image.as_slice(), Change::Cut(len))?;
+        let fault = format!(in alloc; "Elf Short {len}")?;
+        assert!(rt; refused(&rt, file.as_slice(), fault.as_str())?, "{len}");
     }
-    let mut longer = changed(alloc, file, Change::Cut(file.len()))?;
-    longer.push(0)?;
-    lists(
-        &rt,
-        longer.as_slice(),
-        3,
-        b"",
-        b"threadmill: image: Elf BadHeader 40\n",
-    )?;
-    lists(
-        &rt,
-        filled(&rt, 0x7F, 16_777_217)?.as_slice(),
-        3,
-        b"",
-        b"threadmill: image: TooLong 16777216\n",
-    )
+    let long = filled(&rt, 0x7F, 16_777_217)?;
+    assert!(rt; refused(&rt, long.as_slice(), "TooLong 16777216")?);
+    Ok(())
 }
 
 /// The desk fails at its first call, the image isn't held, or the output sink takes five bytes and then fails.

@@ -89,11 +89,12 @@ const WAY: [Mark; 9] = [
     Mark::Halt,
 ];
 
-/// What was seen of a run to halt.
+/// What was seen of a run to halt; `ends` counts the ends of the stream.
 #[derive(Drop)]
 struct Story {
     marks: Vec<Mark>,
     verdicts: Vec<u64>,
+    ends: u32,
 }
 
 // The mark that has this address.
@@ -139,32 +140,58 @@ fn turned(machine: &mut Machine<'_>, turn: Turn) -> Result<(), Fail> {
     }
 }
 
+// What is written to the verdict cell is noted.
+fn note_write(story: &mut Story, write: Option<(u64, u64)>) -> Result<(), Fail> {
+    if let Some((VERDICT, value)) = write {
+        story.verdicts.push(value)?;
+    }
+    Ok(())
+}
+
+// The hart comes to a mark: the registers are looked at where a stream is entered, and the row's turn is made where it ends.
+fn come_to(machine: &mut Machine<'_>, story: &mut Story, mark: Mark, row: Row) -> Result<(), Fail> {
+    story.marks.push(mark)?;
+    match mark {
+        Mark::Exit | Mark::Halt => Ok(()),
+        Mark::Enter => first_registers(machine),
+        Mark::End => {
+            let pass = story.ends;
+            story.ends = pass.wrapping_add(1);
+            if pass != row.pass {
+                return Ok(());
+            }
+            turned(machine, row.turn)
+        }
+    }
+}
+
+// One step, and whether it comes to halt.
+fn step(
+    machine: &mut Machine<'_>,
+    story: &mut Story,
+    program: &Program,
+    row: Row,
+) -> Result<bool, Fail> {
+    let write = machine.step()?;
+    note_write(story, write)?;
+    let Some(mark) = mark_at(program, machine.pc()) else {
+        return Ok(false);
+    };
+    come_to(machine, story, mark, row)?;
+    Ok(mark == Mark::Halt)
+}
+
 // Runs to halt, in at most so many steps as work is.
 fn run(alloc: Global, program: &Program, row: Row) -> Result<Story, Fail> {
     let mut machine = Machine::load(alloc, program)?;
     let mut story = Story {
         marks: Vec::new(alloc),
         verdicts: Vec::new(alloc),
+        ends: 0,
     };
-    let mut ends = 0u32;
     for _step in 0..WORK {
-        if let Some((VERDICT, value)) = machine.step()? {
-            story.verdicts.push(value)?;
-        }
-        let Some(mark) = mark_at(program, machine.pc()) else {
-            continue;
-        };
-        story.marks.push(mark)?;
-        match mark {
-            Mark::Exit => (),
-            Mark::Enter => first_registers(&machine)?,
-            Mark::End => {
-                if ends == row.pass {
-                    turned(&mut machine, row.turn)?;
-                }
-                ends = ends.wrapping_add(1);
-            }
-            Mark::Halt => return Ok(story),
+        if step(&mut machine, &mut story, program, row)? {
+            return Ok(story);
         }
     }
     Err(Fail::new("no halt within work"))

@@ -1,0 +1,58 @@
+#!/usr/bin/env bash
+# Compares a listing with GNU objdump: builds an image, lists it, and looks for each slot's word and op name at its address in the
+# disassembly. It isn't part of the gate. Debian has objdump in binutils-riscv64-linux-gnu; where there is none, this says so and ends with 0.
+set -euo pipefail
+
+objdump=$(command -v riscv64-linux-gnu-objdump || command -v riscv64-unknown-elf-objdump || true)
+if [ -z "$objdump" ]; then
+    echo "no objdump for riscv64 is installed: nothing was compared"
+    exit 0
+fi
+
+work=$(mktemp -d)
+trap 'rm -rf "$work"' EXIT
+printf 'cores = 1\nthreads = 1\nline = 64\n' > "$work/a.toml"
+printf '%s\n' 'template t' 'passes 2' 'window 0 true 1' 'case a' 'body all' \
+    'emit addi x6, x5, 1' 'emit addi x27, x0, -2048' 'emit add x7, x6, x6' 'emit xor x8, x7, x27' > "$work/a.tm"
+
+cd "$(dirname "$0")/../crates/threadmill"
+rt run -- build "$work/a.toml" "$work/a.tm" "$work/a.elf" --seed 1
+rt run -- list "$work/a.elf" > "$work/listing"
+"$objdump" -t "$work/a.elf" > "$work/symbols"
+"$objdump" -d -M no-aliases,numeric "$work/a.elf" > "$work/code"
+
+python3 - "$work" <<'PYTHON'
+import re
+import sys
+
+work = sys.argv[1]
+starts = {}
+for line in open(f"{work}/symbols"):
+    found = re.match(r"([0-9a-f]+) .* tm_s_(\d+)_(\d+)$", line)
+    if found:
+        starts[int(found[2]), int(found[3])] = int(found[1], 16)
+code = {}
+for line in open(f"{work}/code"):
+    found = re.match(r"\s*([0-9a-f]+):\s+([0-9a-f]{8})\s+(\S+)", line)
+    if found:
+        code[int(found[1], 16)] = found[2], found[3]
+
+compared = wrong = 0
+case = hart = None
+for line in open(f"{work}/listing"):
+    words = line.split()
+    if not words:
+        continue
+    if words[0] == "case":
+        case = int(words[1])
+    elif words[0] == "hart":
+        hart = int(words[1])
+    elif words[0].isdigit():
+        compared += 1
+        at = starts[hart, case] + 4 * int(words[0])
+        if code.get(at) != (words[1], words[2]):
+            wrong += 1
+            print(f"hart {hart} case {case} slot {words[0]}: listed {words[1:3]}, objdump has {code.get(at)}")
+print(f"compared {compared} slots, {wrong} differ")
+sys.exit(1 if wrong or not compared else 0)
+PYTHON
