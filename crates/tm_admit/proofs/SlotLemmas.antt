@@ -132,7 +132,7 @@ written-ruled topo windows whom len h has before (d ∷ ds) none m s at =
     elim (joined-at (slots_of d.what) (written_out ds) m s at) [
       | inl here ↦ statement-slots topo windows whom len h (total_slots before) d.what has fault m s here
       | inr later ↦
-        let more = written-ruled topo windows whom len h has (before ++ d ∷ []) ds both.1 later.0 s later.2 in
-        let same : total_slots (before ++ d ∷ []) + later.0 ≡ total_slots before + m = omega (arith, total-push before d, statement-count d.what, later.1) in
-        subst (λ k. IsRuledSlot (shared topo windows) windows h len k s) same more
+          let more = written-ruled topo windows whom len h has (before ++ d ∷ []) ds both.1 later.0 s later.2 in
+          let same : total_slots (before ++ d ∷ []) + later.0 ≡ total_slots before + m = omega (arith, total-push before d, statement-count d.what, later.1) in
+          subst (λ k. IsRuledSlot (shared topo windows) windows h len k s) same more
     ]
