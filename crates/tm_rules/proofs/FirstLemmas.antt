@@ -1,6 +1,5 @@
 -- What the first broken check of a list is.
 use Rattle.std.proofs.Common.{◌≡◌, ◌≢◌, ◌<◌, ℕ, zero, suc, List, [], ◌∷◌, ◌++◌, Option, Some, None, slice_get, refl, ap, arith}
-use Rattle.std.specs.Prelude.{◌↔◌}
 use Rattle.tm_base.specs.declared.Pos.{Pos}
 use Rattle.tm_checks.specs.declared.fault.RuleFault.{RuleFault}
 use Rattle.tm_checks.specs.Slots.{first}

@@ -1,5 +1,5 @@
 -- The checks of one statement, from the fault that its rules give.
-use Rattle.std.proofs.Common.{◌≡◌, ◌+◌, ◌<◌, ℕ, List, [], ◌++◌, Option, Some, None, length, get_or, take, refl, sym}
+use Rattle.std.proofs.Common.{◌≡◌, ◌+◌, ◌<◌, ℕ, List, [], Option, Some, None, length, get_or, take, refl, sym}
 use Rattle.tm_checks.specs.declared.fault.RuleFault.{RuleFault}
 use Rattle.tm_checks.specs.Slots.{first}
 use Rattle.tm_plan.specs.declared.cases.Window.{Window}
@@ -9,7 +9,6 @@ use Rattle.tm_tmpl.specs.declared.template.BodyDecl.{BodyDecl}
 use Rattle.tm_tmpl.specs.declared.template.CaseDecl.{CaseDecl}
 use Rattle.tm_tmpl.specs.declared.template.Selector.{Selector}
 use Rattle.tm_topo.specs.declared.system.Topology.{Topology}
-use Rattle.tm_rules.specs.declared.fault.RuleAt.{RuleAt}
 use Rattle.tm_rules.specs.Rules.{first_of, in_turn, window_rules, window_checks, total_slots, slot_count, slot_fault, slot_checks, body_rules, body_checks, case_rules, case_checks}
 use Rattle.tm_rules.proofs.TurnLemmas.{rest_of, rest-more, rest-broken}
 use Rattle.tm_rules.proofs.FirstLemmas.{at_place, first-passes, first-stops, put-passes, put-stops, one-passes, one-stops}

@@ -1,4 +1,4 @@
-use Rattle.std.proofs.Common.{◌≡◌, ◌∙◌, List, None, length, sym, ap}
+use Rattle.std.proofs.Common.{◌≡◌, ◌∙◌, List, None, sym, ap}
 use Rattle.std.proofs.lemmas.Bool.{eqb-true, eqb-false}
 use Rattle.tm_tmpl.specs.declared.template.WindowDecl.{WindowDecl}
 use Rattle.tm_rules.specs.Windows.{windows_of, shape_of}
@@ -17,7 +17,7 @@ pub returns-in-Some-cases_broken : goal.returns-in-Some-cases_broken
 returns-in-Some-cases_broken c =
     let silent : first_of (in_windows c.args.topo.now c.args.t.now) ≡ None = sym (rw c.as_slice.ensures at c.in_default.ensures) in
     let shape : c.placement-p.result.shape ≡ shape_of (windows_of c.args.t.now.windows) =
-        c.placement-p.ensures.shape ∙ ap (λ (ws : List WindowDecl). shape_of (windows_of ws)) c.as_slice-2.ensures in
+    c.placement-p.ensures.shape ∙ ap (λ (ws : List WindowDecl). shape_of (windows_of ws)) c.as_slice-2.ensures in
     sym (cases-stop c.args.topo.now c.args.t.now c.in-Some-cases_broken.broken (sym c.if-not-are_passes.ensures) silent
     (sym (rw (shape, c.as_slice-cases.ensures) at c.in-Some-cases_broken.ensures)))
 
@@ -25,7 +25,7 @@ pub returns-then-is_empty : goal.returns-then-is_empty
 returns-then-is_empty c =
     let silent : first_of (in_windows c.args.topo.now c.args.t.now) ≡ None = sym (rw c.as_slice.ensures at c.in_default.ensures) in
     let shape : c.placement-p.result.shape ≡ shape_of (windows_of c.args.t.now.windows) =
-        c.placement-p.ensures.shape ∙ ap (λ (ws : List WindowDecl). shape_of (windows_of ws)) c.as_slice-2.ensures in
+    c.placement-p.ensures.shape ∙ ap (λ (ws : List WindowDecl). shape_of (windows_of ws)) c.as_slice-2.ensures in
     let quiet : first_of (in_cases c.args.topo.now c.args.t.now) ≡ None = sym (rw (shape, c.as_slice-cases.ensures) at c.in_default-cases_broken.ensures) in
     sym (end-stops c.args.topo.now c.args.t.now (sym c.if-not-are_passes.ensures) silent quiet (eqb-true _ _ (sym (rw c.as_slice-cases.ensures at c.if-is_empty.ensures))))
 
@@ -33,6 +33,6 @@ pub returns : goal.returns
 returns c =
     let silent : first_of (in_windows c.args.topo.now c.args.t.now) ≡ None = sym (rw c.as_slice.ensures at c.in_default.ensures) in
     let shape : c.placement-p.result.shape ≡ shape_of (windows_of c.args.t.now.windows) =
-        c.placement-p.ensures.shape ∙ ap (λ (ws : List WindowDecl). shape_of (windows_of ws)) c.as_slice-2.ensures in
+    c.placement-p.ensures.shape ∙ ap (λ (ws : List WindowDecl). shape_of (windows_of ws)) c.as_slice-2.ensures in
     let quiet : first_of (in_cases c.args.topo.now c.args.t.now) ≡ None = sym (rw (shape, c.as_slice-cases.ensures) at c.in_default-cases_broken.ensures) in
     sym (nothing-stops c.args.topo.now c.args.t.now (sym c.if-not-are_passes.ensures) silent quiet (eqb-false _ _ (sym (rw c.as_slice-cases.ensures at c.if-is_empty.ensures))))
