@@ -1,7 +1,7 @@
-use Rattle.std.proofs.Common.{◌≡◌, ◌∙◌, Some, get_or, sym, ap}
+use Rattle.std.proofs.Common.{◌≡◌, ◌∙◌, Some, sym, ap}
 use Rattle.std.specs.Prelude.{find}
 use Rattle.tm_checks.specs.Teams.{in_team}
-use Rattle.tm_rules.proofs.FindLemmas.{found-at, none-more, none-all}
+use Rattle.tm_rules.proofs.FindLemmas.{found-at, none-more}
 use Rattle.tm_admit.specs.Admitting.{hart_slots}
 use Rattle.tm_admit.proofs.bodies.hart_slots.Goals as goal
 
