@@ -20,7 +20,8 @@ use Rattle.tm_checks.specs.Teams.{IsSystem, harts_of, in_team}
 use Rattle.tm_checks.proofs.Ruling.{emit-ruled, mix-ruled}
 use Rattle.tm_rules.specs.Windows.{windows_of, numbered, shape_of}
 use Rattle.tm_rules.specs.Rules.{first_of, in_turn, window_checks, slots_in, total_slots, slot_fault, slot_checks}
-use Rattle.tm_rules.proofs.FirstLemmas.{first-both, one-none}
+use Rattle.tm_checks.proofs.Checking.{first-none}
+use Rattle.tm_rules.proofs.FirstLemmas.{first-both, put-none}
 use Rattle.tm_rules.proofs.SoundLemmas.{numbered-sound}
 use Rattle.tm_admit.specs.Admitting.{or_nothing, slots_of, written_out}
 use Rattle.tm_admit.proofs.EachLemmas.{joined-at, replicated-at}
@@ -123,7 +124,7 @@ unfolding in_turn slot_checks written_out
 written-ruled topo windows whom len h has before [] none m s at = cc
 written-ruled topo windows whom len h has before (d ∷ ds) none m s at =
     let both = first-both (slot_checks topo (shape_of windows) whom len before d) (in_turn (slot_checks topo (shape_of windows) whom len) (before ++ d ∷ []) ds) none in
-    let fault = one-none d.at (slot_fault topo (shape_of windows) whom len (total_slots before) d.what) both.0 in
+    let fault = (first-none _ [] (put-none d.at (slot_fault topo (shape_of windows) whom len (total_slots before) d.what ∷ []) both.0)).0 in
     elim (joined-at (slots_of d.what) (written_out ds) m s at) [
       | inl here ↦ statement-slots topo windows whom len h (total_slots before) d.what has fault m s here
       | inr later ↦

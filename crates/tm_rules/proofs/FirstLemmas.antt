@@ -50,19 +50,6 @@ put-none p [] none = refl
 put-none p (None ∷ rules) none = put-none p rules none
 put-none p (Some f ∷ rules) none = cc
 
-pub one-passes : (p : Pos) → first_of ((p, None) ∷ []) ≡ None
-unfolding first_of
-one-passes p = refl
-
-pub one-stops : (p : Pos) (f : RuleFault) → first_of ((p, Some f) ∷ []) ≡ Some (at_place p f)
-unfolding first_of
-one-stops p f = refl
-
-pub one-none : (p : Pos) (o : Option RuleFault) → first_of ((p, o) ∷ []) ≡ None → o ≡ None
-unfolding first_of
-one-none p None none = refl
-one-none p (Some f) none = cc
-
 -- ---- in the words of the law
 
 fault_in : Option Check → Option RuleFault
