@@ -1,4 +1,4 @@
-use Rattle.tm_checks.proofs.Systems.{topology-system}
+use Rattle.tm_ruled.proofs.Systems.{topology-system}
 use Rattle.tm_admit.proofs.tests.shown.Goals as goal
 
 pub admit-requires : goal.admit-requires

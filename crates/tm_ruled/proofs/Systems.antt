@@ -1,5 +1,5 @@
 -- What a text states is a system within the limits.
-use Rattle.std.proofs.Common.{◌≡◌, ℕ, ◌*◌, Bool, true, false, ◌&&◌, nat_le, ℤ, pos, negsuc, List, Option, Some, None, Result, Ok, Err, refl, inl, inr, subst}
+use Rattle.std.proofs.Common.{◌≡◌, ℕ, ◌*◌, true, nat_le, ℤ, pos, negsuc, List, Option, Some, None, Result, Ok, Err, refl, inl, inr, subst}
 use Rattle.std.proofs.lemmas.Bool.{cases_Bool, and_parts, leb-true}
 use Rattle.toml.specs.Data.{Data, Members, get_member, as_integer}
 use Rattle.tm_topo.specs.declared.system.Topology.{Topology}

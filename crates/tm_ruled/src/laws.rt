@@ -1,0 +1,18 @@
+ghost use Rattle.tm_ruled.specs.Laws.{LinesPass, WeightsPass, StatesSystem};
+
+use tm_place::Placement;
+
+/// What may run isn't refused: ruled lines and ruled weights have no fault.
+pub fn ruled_slots_pass(p: &Placement)
+    ensures lines { LinesPass p.now }
+    ensures weights { WeightsPass p.now }
+{
+    let _ = &p.part;
+}
+
+/// The topology that a text states is a system within the limits.
+pub fn stated_systems(text: &[u8])
+    ensures { StatesSystem text.now }
+{
+    let _ = text.len();
+}
