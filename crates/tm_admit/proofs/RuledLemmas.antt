@@ -1,7 +1,6 @@
 -- A template that breaks no rule is admitted in a form that is ruled.
-use Rattle.std.proofs.Common.{◌≡◌, ◌≢◌, ◌+◌, ◌*◌, ◌<◌, ◌≤◌, ◌==◌, ℕ, zero, suc, Bool, true, false, List, [], ◌∷◌, ◌++◌, map, length, get_or, take, Option, Some, None, slice_get, IsTrue, pos, refl, sym, ap, ◌∙◌, subst, arith, rules, inl, inr}
-use Rattle.std.specs.Prelude.{find, All, AllPairs}
-use Rattle.std.specs.List.{list_any}
+use Rattle.std.proofs.Common.{◌≡◌, ◌≢◌, ◌+◌, ◌<◌, ◌==◌, ℕ, zero, suc, List, [], ◌∷◌, map, length, take, Option, Some, None, slice_get, refl, sym, ◌∙◌, subst, arith, rules}
+use Rattle.std.specs.Prelude.{find, AllPairs}
 use Rattle.std.specs.Str.{bytes_eq}
 use Rattle.std.proofs.lemmas.Bool.{leb-true, eq-eqb, and_parts, true≢false}
 use Rattle.std.proofs.lemmas.List.{length-map, length-take-le}
@@ -11,7 +10,6 @@ use Rattle.tm_plan.specs.Collected.{count_from}
 use Rattle.tm_plan.specs.declared.cases.Window.{Window}
 use Rattle.tm_plan.specs.declared.admitted.Slot.{Slot}
 use Rattle.tm_plan.specs.declared.admitted.Slot.TheVariants as slot
-use Rattle.tm_plan.specs.declared.admitted.AdmittedCase.{AdmittedCase}
 use Rattle.tm_place.specs.Ruled.{IsRuledEmit, IsRuledSlot, AreRuledSlots, IsRuledCase, IsRuledWindow, IsRuled}
 use Rattle.tm_place.proofs.AllowedLemmas.{Shown}
 use Rattle.tm_tmpl.specs.declared.template.BodyDecl.{BodyDecl}
@@ -22,7 +20,7 @@ use Rattle.tm_topo.specs.declared.system.Topology.{Topology}
 use Rattle.tm_checks.specs.Teams.{IsSystem, harts_of, in_team}
 use Rattle.tm_checks.specs.Slots.{first}
 use Rattle.tm_rules.specs.Windows.{window_of, windows_of, shape_of}
-use Rattle.tm_rules.specs.Rules.{first_of, in_turn, are_passes, window_checks, slot_count, slot_checks, body_rules, body_checks, case_rules, case_checks, broken_rule}
+use Rattle.tm_rules.specs.Rules.{first_of, in_turn, window_checks, slot_count, slot_checks, body_rules, body_checks, case_rules, case_checks, broken_rule}
 use Rattle.tm_rules.proofs.FirstLemmas.{first-both, put-none}
 use Rattle.tm_rules.proofs.TurnLemmas.{turn-each}
 use Rattle.tm_rules.proofs.FindLemmas.{found-in}

@@ -1,18 +1,14 @@
 -- The slots that statements without a fault stand for.
-use Rattle.std.proofs.Common.{◌≡◌, ◌≢◌, ◌+◌, ◌*◌, ◌<◌, ◌≤◌, ◌==◌, ℕ, zero, suc, Bool, true, false, List, [], ◌∷◌, ◌++◌, map, replicate, length, get_or, take, Option, Some, None, Ok, slice_get, IsTrue, pos, refl, sym, ap, ◌∙◌, subst, arith, inl, inr}
-use Rattle.std.specs.Prelude.{find}
+use Rattle.std.proofs.Common.{◌≡◌, ◌+◌, ◌<◌, ◌≤◌, ℕ, zero, suc, true, List, [], ◌∷◌, ◌++◌, length, get_or, Option, Some, None, slice_get, refl, ◌∙◌, subst, arith, inl, inr}
 use Rattle.std.proofs.lemmas.List.{length-append, length-replicate}
-use Rattle.tm_table.specs.Words.{Fits}
-use Rattle.tm_table.specs.declared.instr.Instr.{Instr}
 use Rattle.tm_asm.specs.Reading.{line_of}
 use Rattle.tm_plan.specs.declared.cases.Window.{Window}
 use Rattle.tm_plan.specs.declared.admitted.Slot.{Slot}
 use Rattle.tm_plan.specs.declared.admitted.Slot.TheVariants as slot
 use Rattle.tm_place.specs.Numbers.{part_size}
 use Rattle.tm_place.specs.Sharing.{Sharing}
-use Rattle.tm_place.specs.Ruled.{IsRuledEmit, IsRuledMix, IsRuledSlot, AreRuledSlots}
+use Rattle.tm_place.specs.Ruled.{IsRuledSlot}
 use Rattle.tm_place.proofs.AllowedLemmas.{Shown}
-use Rattle.tm_place.proofs.SpotLemmas.{Sound}
 use Rattle.tm_place.proofs.PartLemmas.{line_size-cases, part_size-some}
 use Rattle.tm_tmpl.specs.declared.template.SlotText.{SlotText}
 use Rattle.tm_tmpl.specs.declared.template.SlotText.TheVariants as said
@@ -21,13 +17,13 @@ use Rattle.tm_tmpl.specs.declared.template.WindowDecl.{WindowDecl}
 use Rattle.tm_tmpl.specs.declared.template.Selector.{Selector}
 use Rattle.tm_topo.specs.declared.system.Topology.{Topology}
 use Rattle.tm_checks.specs.Teams.{IsSystem, harts_of, in_team}
-use Rattle.tm_checks.specs.Laws.{HasWindow}
 use Rattle.tm_checks.proofs.Ruling.{emit-ruled, mix-ruled}
 use Rattle.tm_rules.specs.Windows.{windows_of, numbered, shape_of}
-use Rattle.tm_rules.specs.Rules.{first_of, in_turn, window_checks, slots_in, total_slots, slot_count, slot_fault, slot_checks}
-use Rattle.tm_rules.proofs.FirstLemmas.{first-both, one-none}
+use Rattle.tm_rules.specs.Rules.{first_of, in_turn, window_checks, slots_in, total_slots, slot_fault, slot_checks}
+use Rattle.tm_checks.proofs.Checking.{first-none}
+use Rattle.tm_rules.proofs.FirstLemmas.{first-both, put-none}
 use Rattle.tm_rules.proofs.SoundLemmas.{numbered-sound}
-use Rattle.tm_admit.specs.Admitting.{nothing, or_nothing, slots_of, written_out}
+use Rattle.tm_admit.specs.Admitting.{or_nothing, slots_of, written_out}
 use Rattle.tm_admit.proofs.EachLemmas.{joined-at, replicated-at}
 
 -- how a system shares windows
@@ -128,11 +124,11 @@ unfolding in_turn slot_checks written_out
 written-ruled topo windows whom len h has before [] none m s at = cc
 written-ruled topo windows whom len h has before (d ∷ ds) none m s at =
     let both = first-both (slot_checks topo (shape_of windows) whom len before d) (in_turn (slot_checks topo (shape_of windows) whom len) (before ++ d ∷ []) ds) none in
-    let fault = one-none d.at (slot_fault topo (shape_of windows) whom len (total_slots before) d.what) both.0 in
+    let fault = (first-none _ [] (put-none d.at (slot_fault topo (shape_of windows) whom len (total_slots before) d.what ∷ []) both.0)).0 in
     elim (joined-at (slots_of d.what) (written_out ds) m s at) [
       | inl here ↦ statement-slots topo windows whom len h (total_slots before) d.what has fault m s here
       | inr later ↦
-        let more = written-ruled topo windows whom len h has (before ++ d ∷ []) ds both.1 later.0 s later.2 in
-        let same : total_slots (before ++ d ∷ []) + later.0 ≡ total_slots before + m = omega (arith, total-push before d, statement-count d.what, later.1) in
-        subst (λ k. IsRuledSlot (shared topo windows) windows h len k s) same more
+          let more = written-ruled topo windows whom len h has (before ++ d ∷ []) ds both.1 later.0 s later.2 in
+          let same : total_slots (before ++ d ∷ []) + later.0 ≡ total_slots before + m = omega (arith, total-push before d, statement-count d.what, later.1) in
+          subst (λ k. IsRuledSlot (shared topo windows) windows h len k s) same more
     ]

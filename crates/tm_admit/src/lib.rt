@@ -3,6 +3,10 @@
 
 mod bodies;
 mod form;
+pub mod laws;
 mod slots;
 
 pub use form::{AdmitFault, admit};
+
+#[cfg(test)]
+mod tests;

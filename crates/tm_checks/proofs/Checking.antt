@@ -26,9 +26,6 @@ unbroken false f e = refl
 
 -- ---- four groups of checks, of which the first has one
 
-pub stops-first : (c : Option RuleFault) (rs xs ts : List (Option RuleFault)) (f : RuleFault) → c ≡ Some f → Some f ≡ first ((c ∷ []) ++ rs ++ xs ++ ts)
-stops-first c rs xs ts f e = rw e refl
-
 pub stops-second : (c : Option RuleFault) (rs xs ts : List (Option RuleFault)) (f : RuleFault) → c ≡ None → first rs ≡ Some f → Some f ≡ first ((c ∷ []) ++ rs ++ xs ++ ts)
 stops-second c rs xs ts f e g = rw e (sym (first-stops (rs ++ xs) ts f (first-stops rs xs f g)))
 

@@ -2,6 +2,5 @@ pub mod Finding
 pub mod Checking
 pub mod Reading
 pub mod Ruling
-pub mod Passing
-pub mod Systems
 mod Rows
+pub mod Systems

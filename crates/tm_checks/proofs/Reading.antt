@@ -1,5 +1,5 @@
 -- What a line spells fits.
-use Rattle.std.proofs.Common.{◌≡◌, ◌<◌, ℕ, ◌+◌, ◌*◌, ◌%◌, ◌==◌, Bool, T, true, false, ◌&&◌, not, nat_lt, ℤ, pos, negsuc, List, [], ◌∷◌, length, if◌then◌else◌, Option, Some, None, IfSome, Result, Ok, Err, refl, ap, subst, inl, inr, arith}
+use Rattle.std.proofs.Common.{lit≤, ◌≡◌, ◌<◌, ◌≤◌, ℕ, ◌+◌, ◌*◌, ◌%◌, ◌==◌, Bool, T, true, false, ◌&&◌, not, nat_lt, ℤ, pos, negsuc, List, [], ◌∷◌, length, if◌then◌else◌, Option, Some, None, IfSome, Result, Ok, Err, refl, ap, subst, inl, inr, arith}
 use Rattle.std.specs.Prelude.{slice_index, int_le, unsigned_abs, ◌⊎◌}
 use Rattle.std.specs.Char.{is_digit, digit_value}
 use Rattle.std.proofs.lemmas.Bool.{cases_Bool, and_parts, ltb-true, eqb-true}
@@ -139,11 +139,8 @@ even-of : (first last z : ℤ) → is_in (record { first = first; last = last; e
 unfolding is_in
 even-of first last z h = eqb-true _ _ (and_parts (int_le first z && int_le z last) (unsigned_abs z % 2 == 0) h).1
 
-wider-branch : (z : ℤ) → From (negsuc 4095) (pos 4094) z → From (negsuc 4095) (pos 4095) z
-wider-branch z h = (h.0, omega (arith, ints, h.1))
-
-wider-jump : (z : ℤ) → From (negsuc 1048575) (pos 1048574) z → From (negsuc 1048575) (pos 1048575) z
-wider-jump z h = (h.0, omega (arith, ints, h.1))
+wider : (first last more : ℕ) (z : ℤ) → last ≤ more → From (negsuc first) (pos last) z → From (negsuc first) (pos more) z
+wider first last more z few h = (h.0, omega (arith, ints, h.1))
 
 -- two sets of four bits
 sets-in : (n m : ℕ) → n < 16 → m < 16 → From (pos 0) (pos 255) (pos (16 * set_before (pos (16 * n + 0 % 16)) + m))
@@ -175,9 +172,9 @@ IsLaid op l i = (i.op ≡ op) × FitsAs l i
 shape-after : (s : Shape) (op : Op) → After (pieces_of s) (IsLaid op (layout_of s)) (bare op)
 unfolding pieces_of
 shape-after Upper op = λ rd a z t. (refl, (a, refl, refl, in-range _ _ z _ t))
-shape-after Jump op = λ rd a z t. (refl, (a, refl, refl, wider-jump z (in-range _ _ z _ t), even-low 21 z (inr refl) (even-of _ _ z t)))
+shape-after Jump op = λ rd a z t. (refl, (a, refl, refl, wider _ _ _ z (lit≤ tt) (in-range _ _ z _ t), even-low 21 z (inr refl) (even-of _ _ z t)))
 shape-after Memory op = λ rd a z t rs1 b. (refl, (a, b, refl, in-range _ _ z _ t))
-shape-after Branch op = λ rs1 a rs2 b z t. (refl, (refl, a, b, wider-branch z (in-range _ _ z _ t), even-low 13 z (inl refl) (even-of _ _ z t)))
+shape-after Branch op = λ rs1 a rs2 b z t. (refl, (refl, a, b, wider _ _ _ z (lit≤ tt) (in-range _ _ z _ t), even-low 13 z (inl refl) (even-of _ _ z t)))
 shape-after Store op = λ rs2 a z t rs1 b. (refl, (refl, b, a, in-range _ _ z _ t))
 shape-after Immediate op = λ rd a rs1 b z t. (refl, (a, b, refl, in-range _ _ z _ t))
 shape-after Shift64 op = λ rd a rs1 b z t. (refl, (a, b, refl, in-range _ _ z _ t))

@@ -30,7 +30,7 @@ use Rattle.tm_checks.specs.Teams.{harts_of, in_team, team}
 use Rattle.tm_checks.specs.Slots.{first, broken, barred, within_registers, is_source, source_fault, window_fault, is_placed, width_of, place_fault, may_access, owner_fault, is_forward, target_fault, register_checks, access_checks, emit_checks, fault_of, emit_fault, weight_fault, any_window_fault, mix_fault}
 use Rattle.tm_checks.specs.Laws.{IsRuledLine, HasWindow, AreRuledWeights}
 use Rattle.tm_checks.proofs.Finding.{team-fails}
-use Rattle.tm_checks.proofs.Checking.{first-none, unbroken, stops-first, stops-second, stops-third, comes-last, only-check}
+use Rattle.tm_checks.proofs.Checking.{first-none, unbroken, stops-second, stops-third, comes-last, only-check}
 use Rattle.tm_checks.proofs.Reading.{line-fits}
 
 -- a rule that asks something where a test holds, and isn't broken
@@ -130,8 +130,7 @@ allowed i t = rw t refl
 pub emit-barred : (line part : ℕ) (shape : List (Option Window)) (topo : Topology) (whom : Selector) (n len : ℕ) (i : Instr) → is_barred i.op ≡ true
     → Some (NotAllowed i.op) ≡ Found line part shape topo whom n len i
 unfolding emit_checks
-emit-barred line part shape topo whom n len i t =
-    stops-first (barred i) (register_checks i) (access_checks line part shape topo whom i) (target_fault n len i ∷ []) (NotAllowed i.op) (rw t refl)
+emit-barred line part shape topo whom n len i t = rw t refl
 
 pub emit-register : (line part : ℕ) (shape : List (Option Window)) (topo : Topology) (whom : Selector) (n len : ℕ) (i : Instr) (f : RuleFault) → is_barred i.op ≡ false
     → first (register_checks i) ≡ Some f → Some f ≡ Found line part shape topo whom n len i
@@ -172,11 +171,8 @@ owner-allows line part shape topo whom i e t h less among =
     let none = parted-none _ _ found in
     not-false _ (team-fails topo whom (λ g. not (may_access (harts_of topo) line part shape i g)) none h less among)
 
-some-access : (op : Op) → load_width op ≢ 0 → is_access op ≡ true
+some-access : (op : Op) → load_width op + store_width op ≢ 0 → is_access op ≡ true
 some-access op some = lt-ltb 0 (load_width op + store_width op) (omega arith)
-
-store-access : (op : Op) → store_width op ≢ 0 → is_access op ≡ true
-store-access op some = lt-ltb 0 (load_width op + store_width op) (omega arith)
 
 access-load : (harts line part : ℕ) (shape : List (Option Window)) (i : Instr) (h : ℕ) → may_access harts line part shape i h ≡ true → load_width i.op ≢ 0
     → may_load_at harts line part shape h (slot_addr i) (load_width i.op) ≡ true
@@ -267,10 +263,10 @@ instr-ruled s shape topo whom n len i shown harts fits e h less among =
       place = λ t. based-at s shape i shown (get_or shape (i.rs1 - 28) None) refl (held (is_access i.op) _ _ (j.0) t);
       loads = λ some.
           (load-computed s shape h (slot_addr i) (load_width i.op) shown (load-wide i.op some)).0
-          (access-load s.harts s.line s.part shape i h (allows (some-access i.op some)) some);
+          (access-load s.harts s.line s.part shape i h (allows (some-access i.op (λ e. some (omega arith)))) some);
       stores = λ some.
           (store-computed s shape h (slot_addr i) (store_width i.op) shown (store-wide i.op some)).0
-          (access-store s.harts s.line s.part shape i h (allows (store-access i.op some)) some);
+          (access-store s.harts s.line s.part shape i h (allows (some-access i.op (λ e. some (omega arith)))) some);
       target = λ t. goes-forward n len i.imm (fits-below i fits) (held (is_jump i.op) (is_forward n len i.imm) _ (l.0) t);
     }
 

@@ -15,10 +15,6 @@ pub record IsRuledLine (s : Sharing) (topo : Topology) (whom : Selector) (len n 
   pub read : line_of text ≡ Ok instr
   pub each : (h : ℕ) → h < harts_of topo → IsTrue (in_team topo whom h) → IsRuledEmit s h len n instr
 
--- a body is for some hart
-abbrev pub HasHart : Topology → Selector → Type 0
-HasHart topo whom = (h : ℕ) × (h < harts_of topo) × IsTrue (in_team topo whom h)
-
 -- some window stands in a shape
 abbrev pub HasWindow : List (Option Window) → Type 0
 HasWindow shape = (w : ℕ) × (v : Window) × (slice_get shape w ≡ Some (Some v))

@@ -2,7 +2,7 @@ ghost use Rattle.std.specs.Prelude.{◌≡◌, ◌≤◌, ◌<◌, None};
 ghost use Rattle.tm_place.specs.Placed.{sharing_of};
 ghost use Rattle.tm_checks.specs.Teams.{IsSystem, harts_of};
 ghost use Rattle.tm_checks.specs.Slots as rules;
-ghost use Rattle.tm_checks.specs.Laws.{HasHart, IsRuledLine};
+ghost use Rattle.tm_checks.specs.Laws.{IsRuledLine};
 
 use crate::access::access_fault;
 use crate::fault::RuleFault;
@@ -31,7 +31,6 @@ pub fn emit_fault(
     requires slots { slots ≤ 256 }
     ensures fault { result ≡ rules.emit_fault p.now.line p.now.part p.now.shape topo.now whom slot slots line.now }
     ensures ruled { result ≡ None → IsRuledLine (sharing_of p.now) topo.now whom slots slot line.now }
-    ensures passes { HasHart topo.now whom → IsRuledLine (sharing_of p.now) topo.now whom slots slot line.now → result ≡ None }
 {
     match parse_line(line) {
         Ok(i) => instr_fault(p, topo, whom, slot, slots, i),

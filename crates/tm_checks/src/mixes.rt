@@ -11,7 +11,6 @@ use tm_place::Placement;
 pub fn mix_fault(p: &Placement, alu: u32, load: u32, store: u32, branch: u32) -> Option<RuleFault>
     ensures fault { result ≡ rules.mix_fault p.now.shape alu load store branch }
     ensures ruled { result ≡ None → AreRuledWeights p.now.shape alu load store branch }
-    ensures passes { AreRuledWeights p.now.shape alu load store branch → result ≡ None }
 {
     let accesses = u64::from(load) + u64::from(store);
     let sum = u64::from(alu) + accesses + u64::from(branch);

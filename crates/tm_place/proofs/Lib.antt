@@ -2,7 +2,6 @@ pub mod PartLemmas
 pub mod SpotLemmas
 pub mod AccessLemmas
 pub mod AllowedLemmas
-pub mod AlikeLemmas
 pub mod ApartLemmas
 pub mod PlacementLemmas
 mod Rows

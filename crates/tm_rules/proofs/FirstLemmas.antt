@@ -1,6 +1,5 @@
 -- What the first broken check of a list is.
 use Rattle.std.proofs.Common.{◌≡◌, ◌≢◌, ◌<◌, ℕ, zero, suc, List, [], ◌∷◌, ◌++◌, Option, Some, None, slice_get, refl, ap, arith}
-use Rattle.std.specs.Prelude.{◌↔◌}
 use Rattle.tm_base.specs.declared.Pos.{Pos}
 use Rattle.tm_checks.specs.declared.fault.RuleFault.{RuleFault}
 use Rattle.tm_checks.specs.Slots.{first}
@@ -50,19 +49,6 @@ unfolding first_of
 put-none p [] none = refl
 put-none p (None ∷ rules) none = put-none p rules none
 put-none p (Some f ∷ rules) none = cc
-
-pub one-passes : (p : Pos) → first_of ((p, None) ∷ []) ≡ None
-unfolding first_of
-one-passes p = refl
-
-pub one-stops : (p : Pos) (f : RuleFault) → first_of ((p, Some f) ∷ []) ≡ Some (at_place p f)
-unfolding first_of
-one-stops p f = refl
-
-pub one-none : (p : Pos) (o : Option RuleFault) → first_of ((p, o) ∷ []) ≡ None → o ≡ None
-unfolding first_of
-one-none p None none = refl
-one-none p (Some f) none = cc
 
 -- ---- in the words of the law
 

@@ -1,12 +1,11 @@
 -- What statements are that break no rule.
-use Rattle.std.proofs.Common.{◌≡◌, ◌≢◌, ◌+◌, ◌*◌, ◌<◌, ◌≤◌, ◌==◌, ℕ, zero, suc, Bool, true, false, ◌&&◌, List, [], ◌∷◌, ◌++◌, map, length, get_or, take, Option, Some, None, slice_get, refl, sym, ap, ◌∙◌, subst, arith}
-use Rattle.std.specs.Prelude.{find}
+use Rattle.std.proofs.Common.{◌≡◌, ◌≢◌, ◌*◌, ◌≤◌, ◌==◌, ℕ, zero, suc, Bool, true, false, List, [], ◌∷◌, map, length, take, Some, None, slice_get, refl, sym, ◌∙◌, subst}
 use Rattle.std.specs.List.{list_any}
 use Rattle.std.specs.Str.{bytes_eq}
-use Rattle.std.proofs.lemmas.Bool.{cases_Bool, leb-true, ltb-true, eq-eqb, eqb-true, not-true, and_parts, true≢false}
+use Rattle.std.proofs.lemmas.Bool.{leb-true, ltb-true, eq-eqb, eqb-true, not-true, and_parts, true≢false}
 use Rattle.std.proofs.Math.Nat.{mul-le-mul}
 use Rattle.tm_checks.specs.declared.fault.RuleFault.{RuleFault}
-use Rattle.tm_checks.specs.Teams.{IsSystem, harts_of, team}
+use Rattle.tm_checks.specs.Teams.{IsSystem, harts_of}
 use Rattle.tm_checks.specs.Slots.{first}
 use Rattle.tm_checks.proofs.Checking.{first-none}
 use Rattle.tm_plan.specs.declared.cases.Window.{Window}
@@ -21,7 +20,7 @@ use Rattle.tm_tmpl.specs.declared.template.CaseDecl.{CaseDecl}
 use Rattle.tm_tmpl.specs.declared.template.Selector.{Selector}
 use Rattle.tm_topo.specs.declared.system.Topology.{Topology}
 use Rattle.tm_rules.specs.Windows.{kind_of, window_of, windows_of, numbered}
-use Rattle.tm_rules.specs.Rules.{unless, first_of, in_turn, has_each, has_lines, window_rules, window_checks, is_there, has_body, twice_fault, body_rules, case_rules}
+use Rattle.tm_rules.specs.Rules.{unless, first_of, in_turn, has_each, window_rules, window_checks, is_there, twice_fault, body_rules, case_rules}
 use Rattle.tm_rules.proofs.FirstLemmas.{put-none}
 use Rattle.tm_rules.proofs.TurnLemmas.{turn-each}
 use Rattle.tm_rules.proofs.FindLemmas.{found-in}
@@ -46,13 +45,15 @@ window-sound topo before w none =
     let a = first-none _ _ none in
     let b = first-none _ _ a.1 in
     let lines = and_parts _ _ (unless-true _ _ (first-none _ _ b.1).0) in
-    let number = and_parts _ _ lines.0 in
-    (record {
-      number = ltb-true w.number 3 (unless-true _ _ a.0);
-      some = leb-true 1 w.lines number.0;
-      few = leb-true (w.lines * topo.line) 2048 number.1;
-      each = own-lines w.kind (harts_of topo) w.lines lines.1;
-    }, not-true _ (unless-true _ _ b.0))
+    let number = and_parts _ _ lines.0 in (
+      record {
+        number = ltb-true w.number 3 (unless-true _ _ a.0);
+        some = leb-true 1 w.lines number.0;
+        few = leb-true (w.lines * topo.line) 2048 number.1;
+        each = own-lines w.kind (harts_of topo) w.lines lines.1;
+      },
+      not-true _ (unless-true _ _ b.0),
+    )
 
 pub windows-sound : (topo : Topology) (ws : List WindowDecl) → first_of (in_turn (window_checks topo) [] ws) ≡ None → (k : ℕ) (w : WindowDecl) → slice_get ws k ≡ Some w
     → IsRuledWindow (harts_of topo) topo.line (window_of w) × (list_any (λ v. v.number == w.number) (take k ws) ≡ false)

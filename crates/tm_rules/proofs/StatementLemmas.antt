@@ -1,5 +1,5 @@
 -- The checks of one statement, from the fault that its rules give.
-use Rattle.std.proofs.Common.{◌≡◌, ◌+◌, ◌<◌, ℕ, List, [], ◌++◌, Option, Some, None, length, get_or, take, refl, sym}
+use Rattle.std.proofs.Common.{◌≡◌, ◌+◌, ◌<◌, ℕ, List, [], ◌∷◌, Option, Some, None, length, get_or, take, refl, sym}
 use Rattle.tm_checks.specs.declared.fault.RuleFault.{RuleFault}
 use Rattle.tm_checks.specs.Slots.{first}
 use Rattle.tm_plan.specs.declared.cases.Window.{Window}
@@ -9,10 +9,9 @@ use Rattle.tm_tmpl.specs.declared.template.BodyDecl.{BodyDecl}
 use Rattle.tm_tmpl.specs.declared.template.CaseDecl.{CaseDecl}
 use Rattle.tm_tmpl.specs.declared.template.Selector.{Selector}
 use Rattle.tm_topo.specs.declared.system.Topology.{Topology}
-use Rattle.tm_rules.specs.declared.fault.RuleAt.{RuleAt}
 use Rattle.tm_rules.specs.Rules.{first_of, in_turn, window_rules, window_checks, total_slots, slot_count, slot_fault, slot_checks, body_rules, body_checks, case_rules, case_checks}
 use Rattle.tm_rules.proofs.TurnLemmas.{rest_of, rest-more, rest-broken}
-use Rattle.tm_rules.proofs.FirstLemmas.{at_place, first-passes, first-stops, put-passes, put-stops, one-passes, one-stops}
+use Rattle.tm_rules.proofs.FirstLemmas.{at_place, first-passes, first-stops, put-passes, put-stops}
 
 -- ---- windows
 
@@ -33,14 +32,14 @@ pub slots-more : (topo : Topology) (shape : List (Option Window)) (whom : Select
     → rest_of (slot_checks topo shape whom len) ds k ≡ rest_of (slot_checks topo shape whom len) ds (k + 1)
 unfolding slot_checks
 slots-more topo shape whom len n ds k d within is count none =
-    rest-more (slot_checks topo shape whom len) ds k d d within is (rw (← count, ← none) (one-passes d.at))
+    rest-more (slot_checks topo shape whom len) ds k d d within is (rw (← count, ← none) (put-passes d.at (None ∷ []) refl))
 
 pub slots-broken : (topo : Topology) (shape : List (Option Window)) (whom : Selector) (len n : ℕ) (ds : List SlotDecl) (k : ℕ) (d : SlotDecl) (f : RuleFault) → k < length ds → d ≡ get_or ds k d
     → n ≡ total_slots (take k ds) → Some f ≡ slot_fault topo shape whom len n d.what
     → rest_of (slot_checks topo shape whom len) ds k ≡ Some (at_place d.at f)
 unfolding slot_checks
 slots-broken topo shape whom len n ds k d f within is count some =
-    rest-broken (slot_checks topo shape whom len) ds k d d within is _ (rw (← count, ← some) (one-stops d.at f))
+    rest-broken (slot_checks topo shape whom len) ds k d d within is _ (rw (← count, ← some) (put-stops d.at (Some f ∷ []) f refl))
 
 -- ---- bodies and cases
 

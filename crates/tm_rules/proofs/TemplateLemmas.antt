@@ -1,15 +1,15 @@
 -- The first broken rule of a template, from those of its parts.
-use Rattle.std.proofs.Common.{◌≡◌, ◌==◌, ℕ, Bool, true, false, not, List, [], ◌∷◌, ◌++◌, length, Option, Some, None, refl, sym, ap, ◌∙◌}
+use Rattle.std.proofs.Common.{◌≡◌, ◌==◌, true, false, not, List, [], ◌∷◌, ◌++◌, length, Some, None, refl, sym, ◌∙◌}
 use Rattle.std.proofs.lemmas.Bool.{eq-eqb, ne_eqb, not-true, true≢false}
 use Rattle.tm_checks.specs.declared.fault.RuleFault.TheVariants.{Cases, Passes}
-use Rattle.tm_checks.specs.declared.fault.RuleFault.{RuleFault}
 use Rattle.tm_tmpl.specs.declared.template.Template.{Template}
 use Rattle.tm_topo.specs.declared.system.Topology.{Topology}
 use Rattle.tm_rules.specs.declared.fault.RuleAt.{RuleAt}
 use Rattle.tm_rules.specs.Windows.{windows_of, shape_of}
 use Rattle.tm_rules.specs.Rules.{Check, unless, first_of, in_turn, are_passes, window_checks, case_checks, checks_of, broken_rule}
+use Rattle.tm_checks.proofs.Checking.{first-none}
 use Rattle.tm_rules.proofs.SoundLemmas.{unless-true}
-use Rattle.tm_rules.proofs.FirstLemmas.{at_place, first-passes, first-stops, first-both, one-passes, one-stops, one-none}
+use Rattle.tm_rules.proofs.FirstLemmas.{at_place, first-passes, first-stops, first-both, put-passes, put-stops, put-none}
 
 -- the checks of a template's windows, of its cases, and of its end
 abbrev pub in_windows : Topology → Template → List Check
@@ -46,11 +46,11 @@ behind-cases topo t right none silent = behind-windows topo t right none ∙ fir
 
 pub end-stops : (topo : Topology) (t : Template) → are_passes t.passes ≡ true → first_of (in_windows topo t) ≡ None → first_of (in_cases topo t) ≡ None
     → length t.cases ≡ 0 → broken_rule topo t ≡ Some (at_place t.end (Cases 0))
-end-stops topo t right none silent empty = behind-cases topo t right none silent ∙ rw (eq-eqb _ _ empty) (one-stops t.end (Cases 0))
+end-stops topo t right none silent empty = behind-cases topo t right none silent ∙ rw (eq-eqb _ _ empty) (put-stops t.end (Some (Cases 0) ∷ []) (Cases 0) refl)
 
 pub nothing-stops : (topo : Topology) (t : Template) → are_passes t.passes ≡ true → first_of (in_windows topo t) ≡ None → first_of (in_cases topo t) ≡ None
     → (length t.cases ≡ 0 → ⊥) → broken_rule topo t ≡ None
-nothing-stops topo t right none silent some = behind-cases topo t right none silent ∙ rw (ne_eqb _ _ some) (one-passes t.end)
+nothing-stops topo t right none silent some = behind-cases topo t right none silent ∙ rw (ne_eqb _ _ some) (put-passes t.end (None ∷ []) refl)
 
 -- a template that breaks no rule: its passes, its windows, its cases, and that there is one
 pub parts-none : (topo : Topology) (t : Template) → broken_rule topo t ≡ None
@@ -60,5 +60,5 @@ parts-none topo t none =
     let a = first-both ((t.passes_at, unless (are_passes t.passes) (Passes t.passes)) ∷ []) (in_windows topo t ++ (in_cases topo t ++ at_end t)) none in
     let b = first-both (in_windows topo t) (in_cases topo t ++ at_end t) a.1 in
     let c = first-both (in_cases topo t) (at_end t) b.1 in
-    let some = not-true _ (unless-true _ _ (one-none t.end _ c.1)) in
-    (unless-true _ _ (one-none t.passes_at _ a.0), b.0, c.0, λ empty. true≢false (sym (eq-eqb _ _ empty) ∙ some))
+    let some = not-true _ (unless-true _ _ (first-none _ [] (put-none t.end (unless (not (length t.cases == 0)) (Cases 0) ∷ []) c.1)).0) in
+    (unless-true _ _ (first-none _ [] (put-none t.passes_at (unless (are_passes t.passes) (Passes t.passes) ∷ []) a.0)).0, b.0, c.0, λ empty. true≢false (sym (eq-eqb _ _ empty) ∙ some))

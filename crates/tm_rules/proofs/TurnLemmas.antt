@@ -1,5 +1,5 @@
 -- Checks in turn, as a walk over the statements meets them.
-use Rattle.std.proofs.Common.{◌≡◌, ◌+◌, ◌<◌, ◌≤◌, ℕ, zero, suc, List, [], ◌∷◌, ◌++◌, Option, Some, None, length, get_or, take, drop, slice_get, refl, sym, ap, ◌∙◌, add-one, append-nil, append_assoc, arith}
+use Rattle.std.proofs.Common.{◌≡◌, ◌+◌, ◌<◌, ◌≤◌, ℕ, zero, suc, List, [], ◌∷◌, ◌++◌, Option, Some, None, length, get_or, take, drop, slice_get, refl, sym, ap, ◌∙◌, add-one, append-nil, append_assoc}
 use Rattle.std.proofs.Math.Seq.{drop-cons}
 use Rattle.std.proofs.Math.ListN.{drop_of_length-le}
 use Rattle.std.proofs.lemmas.List.{take_more}
@@ -43,7 +43,7 @@ pub turn-each : {A : Type 0} (checks : List A → A → List Check) (before xs :
     → (k : ℕ) (x : A) → slice_get xs k ≡ Some x → first_of (checks (before ++ take k xs) x) ≡ None
 unfolding in_turn
 turn-each checks before [] none k x at = cc
-turn-each checks before (y ∷ xs) none zero x at = 
+turn-each checks before (y ∷ xs) none zero x at =
     let here : first_of (checks before y) ≡ None = (first-both _ _ none).0 in
     let same : y ≡ x = cc in
     rw (append-nil, ← same) here

@@ -51,19 +51,12 @@ fn body_broken(
 
 // The first rule that a body of `len` slots breaks behind those before it.
 #[tactic(auto, unfolding(crate::specs::Rules::body_rules, crate::specs::Rules::twice_fault))]
-fn body_fault(
-    topo: &Topology,
-    before: &[BodyDecl],
-    whom: Selector,
-    len: u64,
-) -> Option<RuleFault>
+fn body_fault(topo: &Topology, before: &[BodyDecl], whom: Selector, len: u64) -> Option<RuleFault>
     requires { IsSystem topo.now }
     ensures { result ≡ first (rules.body_rules topo.now before.now whom len) }
 {
     if !is_there(topo, whom) {
-        return Some(RuleFault::NoHart {
-            n: number_in(whom),
-        });
+        return Some(RuleFault::NoHart { n: number_in(whom) });
     }
     if let Some(h) = first_twice(topo, before, whom) {
         return Some(RuleFault::TwiceBody { h });

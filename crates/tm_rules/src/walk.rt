@@ -23,10 +23,11 @@ pub fn first_broken(t: &Template, topo: &Topology) -> Option<RuleAt>
             fault: RuleFault::Passes { n: t.passes },
         });
     }
-    if let Some(broken) = windows_broken(topo, t.windows.as_slice()) {
+    let windows = t.windows.as_slice();
+    if let Some(broken) = windows_broken(topo, windows) {
         return Some(broken);
     }
-    let p = placement(topo, t.windows.as_slice());
+    let p = placement(topo, windows);
     let cases = t.cases.as_slice();
     if let Some(broken) = cases_broken(&p, topo, cases) {
         return Some(broken);

@@ -1,7 +1,7 @@
-use Rattle.std.proofs.Common.{◌≡◌, ◌∙◌, Some, get_or, sym, ap}
+use Rattle.std.proofs.Common.{◌≡◌, ◌∙◌, Some, sym, ap}
 use Rattle.std.specs.Prelude.{find}
 use Rattle.tm_checks.specs.Teams.{in_team}
-use Rattle.tm_rules.proofs.FindLemmas.{found-at, none-more, none-all}
+use Rattle.tm_rules.proofs.FindLemmas.{found-at, none-more}
 use Rattle.tm_admit.specs.Admitting.{hart_slots}
 use Rattle.tm_admit.proofs.bodies.hart_slots.Goals as goal
 
@@ -10,7 +10,7 @@ unfolding hart_slots
 returns-then-is_in_team c =
     let found = found-at (λ b. in_team c.args.topo.now b.whom c.args.h) c.args.bodies.now c.loop-body.body-index c.body-item.result c.loop-body-test.true c.loop-body.invariant in
     let first : find (λ b. in_team c.args.topo.now b.whom c.args.h) c.args.bodies.now ≡ Some c.body-item.result =
-        found (rw (← c.body-item.is) (sym c.if-is_in_team.ensures)) ∙ ap Some (sym c.body-item.is) in
+    found (rw (← c.body-item.is) (sym c.if-is_in_team.ensures)) ∙ ap Some (sym c.body-item.is) in
     rw first (rw c.as_slice.ensures at c.written_out.ensures)
 
 pub loop-body-preserved : goal.loop-body-preserved

@@ -1,4 +1,4 @@
-use Rattle.std.proofs.Common.{◌≡◌, ◌∙◌, ◌++◌, sym, ap, List}
+use Rattle.std.proofs.Common.{◌∙◌, ◌++◌, sym, ap, List}
 use Rattle.tm_plan.specs.declared.admitted.Slot.{Slot}
 use Rattle.tm_admit.specs.Admitting.{slots_of}
 use Rattle.tm_admit.proofs.WrittenLemmas.{written-none, written-more}

@@ -2,7 +2,6 @@ use Rattle.std.proofs.Common.{sym, ◌∙◌}
 use Rattle.tm_place.specs.Placed.{sharing_of}
 use Rattle.tm_place.proofs.AllowedLemmas.{shown-of}
 use Rattle.tm_checks.proofs.Ruling.{instr-ruled}
-use Rattle.tm_checks.proofs.Passing.{read-fault, line-passes}
 use Rattle.tm_checks.proofs.Reading.{line-fits}
 use Rattle.tm_checks.proofs.emits.emit_fault.Goals as goal
 
@@ -15,12 +14,3 @@ returns-in-Ok-clause-ruled c = λ e.
       each = instr-ruled (sharing_of c.args.p.now) c.args.p.now.shape c.args.topo.now c.args.whom c.args.slot c.args.slots c.in-Ok.i (shown-of c.args.p.now) c.requires.harts
           (line-fits c.args.line.now c.in-Ok.i read) (sym c.instr_fault.ensures ∙ e);
     }
-
-pub returns-in-Ok-clause-passes : goal.returns-in-Ok-clause-passes
-returns-in-Ok-clause-passes c = λ some line.
-    c.instr_fault.ensures
-    ∙ (read-fault c.args.p.now.line c.args.p.now.part c.args.p.now.shape c.args.topo.now c.args.whom c.args.slot c.args.slots c.args.line.now c.in-Ok.i (sym c.parse_line.ensures ∙ c.in-Ok.is)
-      ∙ line-passes (sharing_of c.args.p.now) c.args.p.now.shape c.args.topo.now c.args.whom c.args.slot c.args.slots c.args.line.now (shown-of c.args.p.now) c.requires.harts c.requires.slots some line)
-
-pub returns-in-Err-clause-passes : goal.returns-in-Err-clause-passes
-returns-in-Err-clause-passes c = λ some line. let wrong = sym (sym c.parse_line.ensures ∙ c.in-Err.is) ∙ line.read in cc

@@ -1,5 +1,4 @@
 use Rattle.std.proofs.Common.{◌+◌, arith, sym, ◌∙◌}
-use Rattle.tm_checks.proofs.Passing.{windows-pass}
 use Rattle.tm_checks.proofs.Ruling.{mix-passed, mix-ruled}
 use Rattle.tm_checks.proofs.mixes.mix_fault.Goals as goal
 
@@ -9,7 +8,3 @@ returns-clause-ruled c = λ e.
     (mix-passed c.args.p.now.shape c.args.alu c.args.load c.args.store c.args.branch (c.from-3.result + (c.from.result + c.from-2.result) + c.from-4.result) (c.from.result + c.from-2.result)
     (sym c.weight_fault.ensures ∙ c.in_default.is) (sym c.any_window_fault.ensures ∙ e)
     (omega arith) (omega arith))
-
-pub returns-clause-passes : goal.returns-clause-passes
-returns-clause-passes c = λ m.
-    c.any_window_fault.ensures ∙ windows-pass c.args.p.now.shape c.args.alu c.args.load c.args.store c.args.branch (c.from.result + c.from-2.result) m (omega arith)

@@ -1,4 +1,4 @@
-use Rattle.std.proofs.Common.{◌≡◌, ◌∙◌, ◌≤◌, sym, ap, arith}
+use Rattle.std.proofs.Common.{◌≡◌, ◌∙◌, sym, ap, arith}
 use Rattle.tm_rules.specs.Rules.{slot_count}
 use Rattle.tm_rules.proofs.SoundLemmas.{body-sound}
 use Rattle.tm_rules.proofs.StatementLemmas.{body-stops, body-goes}

@@ -12,10 +12,10 @@ returns-then-has_body c =
 pub loop-h-preserved : goal.loop-h-preserved
 loop-h-preserved c =
     let here : (in_team c.args.topo.now c.args.whom c.loop-h.h && has_body c.args.topo.now c.args.before.now c.loop-h.h) ≡ false =
-        elim c.else-is_in_team.branch [
-          | else-is_in_team-via-then-is_in_team+else-has_body w ↦ rw (← w.if-is_in_team.ensures, ← w.if-has_body.ensures) refl
-          | else-is_in_team-via-else-is_in_team w ↦ rw (← w.if-is_in_team.ensures) refl
-        ] in
+    elim c.else-is_in_team.branch [
+      | else-is_in_team-via-then-is_in_team+else-has_body w ↦ rw (← w.if-is_in_team.ensures, ← w.if-has_body.ensures) refl
+      | else-is_in_team-via-else-is_in_team w ↦ rw (← w.if-is_in_team.ensures) refl
+    ] in
     below_more _ _ c.loop-h.invariant here
 
 pub returns : goal.returns

@@ -1,4 +1,4 @@
-use Rattle.std.proofs.Common.{◌≡◌, ◌∙◌, sym}
+use Rattle.std.proofs.Common.{◌∙◌, sym}
 use Rattle.tm_rules.proofs.StatementLemmas.{case-stops, case-goes}
 use Rattle.tm_rules.proofs.cases.case_broken.Goals as goal
 

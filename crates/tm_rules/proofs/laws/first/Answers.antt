@@ -1,6 +1,5 @@
 use Rattle.tm_rules.specs.Rules.{broken_rule, checks_of}
 use Rattle.tm_rules.proofs.FirstLemmas.{is-first, first-is, none-broken, first-none}
-use Rattle.tm_rules.proofs.TurnLemmas.{rest-all}
 use Rattle.tm_rules.proofs.laws.first.Goals as goal
 
 pub returns-clause-some : goal.returns-clause-some

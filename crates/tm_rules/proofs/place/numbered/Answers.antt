@@ -1,5 +1,4 @@
-use Rattle.std.proofs.Common.{◌≡◌, ◌∙◌, ◌==◌, None, Some, option_map, sym, ap}
-use Rattle.std.specs.Prelude.{find}
+use Rattle.std.proofs.Common.{◌∙◌, ◌==◌, Some, option_map, sym, ap}
 use Rattle.std.proofs.lemmas.Bool.{eq-eqb, ne_eqb}
 use Rattle.tm_rules.specs.Windows.{window_of}
 use Rattle.tm_rules.proofs.FindLemmas.{found-at, none-more, none-all, find-map}
@@ -9,7 +8,7 @@ pub returns-then-window-number : goal.returns-then-window-number
 returns-then-window-number c =
     let same = eq-eqb _ _ c.if-window-number.true in
     ap Some c.window_of.ensures ∙ sym (find-map (λ w. w.number == c.args.number) window_of c.args.windows.now
-      ∙ ap (option_map window_of) (found-at (λ w. w.number == c.args.number) c.args.windows.now c.loop-window.window-index _ c.loop-window-test.true c.loop-window.invariant same))
+    ∙ ap (option_map window_of) (found-at (λ w. w.number == c.args.number) c.args.windows.now c.loop-window.window-index _ c.loop-window-test.true c.loop-window.invariant same))
 
 pub loop-window-preserved : goal.loop-window-preserved
 loop-window-preserved c =

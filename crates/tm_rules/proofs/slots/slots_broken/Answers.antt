@@ -1,5 +1,5 @@
-use Rattle.std.proofs.Common.{◌≡◌, ◌∙◌, ◌≤◌, ◌+◌, sym, arith}
-use Rattle.tm_rules.specs.Rules.{slots_in, slot_checks}
+use Rattle.std.proofs.Common.{◌∙◌, sym, arith}
+use Rattle.tm_rules.specs.Rules.{slot_checks}
 use Rattle.tm_rules.proofs.CountLemmas.{total-none, total-more, total-within, count-small}
 use Rattle.tm_rules.proofs.TurnLemmas.{rest-none, rest-all}
 use Rattle.tm_rules.proofs.StatementLemmas.{slots-more, slots-broken}
@@ -27,9 +27,10 @@ overflow_add-at c =
 
 pub loop-slot-preserved : goal.loop-slot-preserved
 loop-slot-preserved c = (
-    omega (arith, total-more c.args.slots.now c.loop-slot.slot-index c.slot-item.result c.loop-slot-test.true c.slot-item.is),
-    c.loop-slot.invariant.1 ∙ slots-more c.args.topo.now c.args.p.now.shape c.args.whom c.args.len c.loop-slot.at c.args.slots.now c.loop-slot.slot-index c.slot-item.result
-    c.loop-slot-test.true c.slot-item.is c.loop-slot.invariant.0 c.in_default.ensures)
+  omega (arith, total-more c.args.slots.now c.loop-slot.slot-index c.slot-item.result c.loop-slot-test.true c.slot-item.is),
+  c.loop-slot.invariant.1 ∙ slots-more c.args.topo.now c.args.p.now.shape c.args.whom c.args.len c.loop-slot.at c.args.slots.now c.loop-slot.slot-index c.slot-item.result
+      c.loop-slot-test.true c.slot-item.is c.loop-slot.invariant.0 c.in_default.ensures,
+)
 
 pub returns : goal.returns
 returns c = sym (c.loop-slot.invariant.1 ∙ rest-all (slot_checks c.args.topo.now c.args.p.now.shape c.args.whom c.args.len) c.args.slots.now c.loop-slot.slot-index c.loop-slot-test.false)

@@ -1,18 +1,16 @@
 -- A line that each hart of its body may run has no fault.
-use Rattle.std.proofs.Common.{◌≡◌, ◌≢◌, ◌≤◌, ◌<◌, ℕ, zero, suc, ◌+◌, ◌-◌, ◌*◌, ◌/◌, ◌%◌, ◌^◌, ◌==◌, Bool, true, false, ◌&&◌, not, nat_lt, nat_le, ℤ, pos, negsuc, ◌≤ℤ◌, List, [], ◌∷◌, get_or, slice_get, is_some, Option, Some, None, Result, Ok, refl, sym, ◌∙◌, ap, subst, inl, inr, arith}
+use Rattle.std.proofs.Common.{◌≡◌, ◌≢◌, ◌≤◌, ◌<◌, ℕ, zero, suc, ◌+◌, ◌-◌, ◌*◌, ◌/◌, ◌%◌, ◌^◌, true, false, ◌&&◌, not, ℤ, pos, negsuc, ◌≤ℤ◌, List, [], ◌∷◌, get_or, slice_get, is_some, Option, Some, None, refl, sym, ◌∙◌, ap, subst, inl, inr, arith}
 use Rattle.std.specs.List.{list_any}
-use Rattle.std.proofs.lemmas.Bool.{cases_Bool, cases_eq, and_from, not_from_true, lt-ltb, le-ltb, le-leb, eq-eqb, ltb-true}
+use Rattle.std.proofs.lemmas.Bool.{cases_Bool, cases_eq, and_from, lt-ltb, le-ltb, le-leb, eq-eqb, ltb-true}
 use Rattle.std.proofs.lemmas.Int.{ints}
 use Rattle.std.proofs.Math.Nat.{mod-eq_of_lt, mul-le-mul_right}
 use Rattle.tm_table.specs.declared.instr.Op.{Op}
-use Rattle.tm_table.specs.declared.instr.Op.TheVariants.{Lb, Lh, Lw, Ld, Lbu, Lhu, Lwu, Sb, Sh, Sw, Sd}
+use Rattle.tm_table.specs.declared.instr.Op.TheVariants.{Lb, Lh, Lw, Ld, Lbu, Lhu, Lwu}
 use Rattle.tm_table.specs.declared.instr.Instr.{Instr}
 use Rattle.tm_table.specs.declared.table.Layout.{Layout}
 use Rattle.tm_table.specs.declared.table.Layout.TheVariants.{R, I, S, B, U, J, Shift6, Shift5, Order, Whole}
 use Rattle.tm_table.specs.Table.{row_of}
 use Rattle.tm_table.specs.Words.{low, Fits, FitsAs}
-use Rattle.tm_asm.specs.declared.fault.AsmFault.{AsmFault}
-use Rattle.tm_asm.specs.Reading.{line_of}
 use Rattle.tm_topo.specs.declared.system.Topology.{Topology}
 use Rattle.tm_tmpl.specs.declared.template.Selector.{Selector}
 use Rattle.tm_plan.specs.declared.cases.Window.{Window}
@@ -21,10 +19,10 @@ use Rattle.tm_plan.specs.Slots.{is_access, is_jump, load_width, store_width, slo
 use Rattle.tm_place.specs.Sharing.{Sharing, StandsAt}
 use Rattle.tm_place.specs.Ruled.{IsBased, IsRuledEmit}
 use Rattle.tm_place.proofs.AllowedLemmas.{Shown, store-computed, load-computed}
-use Rattle.tm_checks.specs.declared.fault.RuleFault.{RuleFault}
-use Rattle.tm_checks.specs.Teams.{harts_of, in_team, team}
-use Rattle.tm_checks.specs.Slots.{first, is_source, base_window, is_placed, width_of, may_access, is_forward, target_fault, register_checks, access_checks, emit_checks, fault_of, emit_fault, any_window_fault}
-use Rattle.tm_checks.specs.Laws.{IsRuledLine, HasHart, AreRuledWeights}
+use Rattle.tm_checks.specs.Teams.{harts_of, in_team}
+use Rattle.tm_checks.specs.Slots.{first, is_source, is_placed, width_of, may_access, is_forward, target_fault, register_checks, access_checks, emit_fault, mix_fault}
+use Rattle.tm_checks.specs.Laws.{IsRuledLine, AreRuledWeights}
+use Rattle.tm_ruled.specs.Laws.{HasHart}
 use Rattle.tm_checks.proofs.Finding.{team-none}
 use Rattle.tm_checks.proofs.Ruling.{load-wide, store-wide, fits-below, access-none, access-owned, emit-target}
 
@@ -168,12 +166,6 @@ line-passes s shape topo whom n len text shown harts few some line =
     let last = emit-target s.line s.part shape topo whom n len i m.allowed (registers-pass s (some.0) len n i m) (access-passes s shape topo whom len n i (some.0) shown harts line.each m) in
     rw read (sym last ∙ target-passes s (some.0) len n i few m)
 
--- the fault of a line that is read as an instruction
-pub read-fault : (line part : ℕ) (shape : List (Option Window)) (topo : Topology) (whom : Selector) (n len : ℕ) (text : List ℕ) (i : Instr) → line_of text ≡ Ok i
-    → first (emit_checks line part shape topo whom n len i) ≡ emit_fault line part shape topo whom n len text
-unfolding emit_fault
-read-fault line part shape topo whom n len text i read = rw read refl
-
 -- ---- weights
 
 any-found : (shape : List (Option Window)) (w : ℕ) (v : Window) → slice_get shape w ≡ Some (Some v) → list_any is_some shape ≡ true
@@ -182,14 +174,17 @@ any-found (Some u ∷ shape) w v e = refl
 any-found (None ∷ shape) zero v e = cc
 any-found (None ∷ shape) (suc w) v e = any-found shape w v e
 
--- ruled weights have the windows that they want
-pub windows-pass : (shape : List (Option Window)) (alu load store branch accesses : ℕ) → AreRuledWeights shape alu load store branch → accesses ≡ load + store
-    → any_window_fault shape accesses ≡ None
-windows-pass shape alu load store branch accesses m e = elim (cases_eq accesses 0) [
-  | inl none ↦ rw none refl
-  | inr some ↦
-      let place = m.places (omega arith) in
-      let found = any-found shape (place.0) (place.1) (place.2) in
-      let test = lt-ltb 0 accesses (omega arith) in
-      rw (test, found) refl
-]
+-- ruled weights have no fault
+pub weights-pass : (shape : List (Option Window)) (alu load store branch : ℕ) → AreRuledWeights shape alu load store branch → mix_fault shape alu load store branch ≡ None
+unfolding mix_fault
+weights-pass shape alu load store branch m =
+    let a = le-leb 1 (alu + load + store + branch) m.some in
+    let b = le-leb (alu + load + store + branch) 1000000 m.few in
+    elim (cases_eq (load + store) 0) [
+      | inl none ↦ rw (a, b, none) refl
+      | inr some ↦
+          let place = m.places some in
+          let found = any-found shape (place.0) (place.1) (place.2) in
+          let test = lt-ltb 0 (load + store) (omega arith) in
+          rw (a, b, test, found) refl
+    ]
