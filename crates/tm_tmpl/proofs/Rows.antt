@@ -1,6 +1,5 @@
 -- Worked rows of the definitions, computed.
 use Rattle.std.proofs.Common.{◌≡◌, List, [], ◌∷◌, ◌++◌, ℕ, Ok, Err, codes, refl}
-use Rattle.std.specs.Fmt.{digits}
 use Rattle.tm_base.specs.Numbers.{number_of, place_value, value_of, reading_at, digits_reading}
 use Rattle.tm_lex.specs.Lexing.{tokens_of, is_word, is_separator, words, spans, line_fault, line_tokens, lines_reading}
 use Rattle.tm_lex.specs.declared.token.LexFault.TheVariants.{BadByte}
@@ -11,7 +10,6 @@ use Rattle.tm_tmpl.specs.declared.template.Selector.TheVariants.{All}
 use Rattle.tm_tmpl.specs.declared.template.SlotText.TheVariants.{Emit}
 use Rattle.tm_tmpl.specs.declared.template.Template.{Template}
 use Rattle.tm_tmpl.specs.Grammar.{template_of, choice, token_lines, statements, put_all}
-use Rattle.tm_tmpl.specs.Printed.{printed, lines_of, line_of, words_of}
 
 -- six lines, with what stands for the first and the last
 abbrev t0 : List ℕ → List ℕ → List ℕ
@@ -38,10 +36,6 @@ t = record {
 good : template_of (t0 (codes "template t") (codes "emit addi x6, x5, 1\n")) ≡ Ok t
 unfolding template_of choice token_lines statements put_all tokens_of lines_reading line_fault line_tokens spans words is_word is_separator number_of digits_reading reading_at value_of place_value
 good = refl
-
-print : printed t ≡ t0 (codes "template t") (codes "emit addi x6, x5, 1\n")
-unfolding printed lines_of line_of words_of digits
-print = refl
 
 nothing : template_of [] ≡ Err (Early want.Template)
 unfolding template_of choice token_lines statements put_all tokens_of lines_reading line_fault line_tokens spans words is_word is_separator
