@@ -48,31 +48,38 @@ words_of (slot what) = slot_words what
 unfoldable pub line_of : Statement → List ℕ
 line_of s = spaced (words_of s) ++ 10 ∷ []
 
+-- the lines of statements, one behind the other
 unfoldable pub lines_of : List At → List ℕ
 lines_of [] = []
 lines_of (s ∷ ss) = line_of s.1 ++ lines_of ss
 
 -- ---- templates apart from their places
 
+-- the place that stands for each place where places do not count
 abbrev pub nowhere : Pos
 nowhere = record { line = 1; col = 1 }
 
+-- windows without their places
 abbrev pub bare_windows : List WindowDecl → List WindowDecl
 bare_windows [] = []
 bare_windows (w ∷ ws) = record w { at = nowhere } ∷ bare_windows ws
 
+-- slots without their places
 abbrev pub bare_slots : List SlotDecl → List SlotDecl
 bare_slots [] = []
 bare_slots (d ∷ ds) = record d { at = nowhere } ∷ bare_slots ds
 
+-- bodies without their places
 abbrev pub bare_bodies : List BodyDecl → List BodyDecl
 bare_bodies [] = []
 bare_bodies (b ∷ bs) = (record { at = nowhere; whom = b.whom; slots = bare_slots b.slots }) ∷ bare_bodies bs
 
+-- cases without their places
 abbrev pub bare_cases : List CaseDecl → List CaseDecl
 bare_cases [] = []
 bare_cases (c ∷ cs) = (record { at = nowhere; name = c.name; bodies = bare_bodies c.bodies }) ∷ bare_cases cs
 
+-- a template without its places
 unfoldable pub without_places : Template → Template
 without_places t = record {
   name = t.name;

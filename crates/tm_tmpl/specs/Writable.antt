@@ -29,12 +29,14 @@ HaveAsm (x ∷ xs) = (is_raw x.0.kind ≡ true → IsAsm x.1) × HaveAsm xs
 abbrev pub IsSmall : ℕ → Type 0
 IsSmall n = n < 2 ^ 32
 
+-- whom a body is for, with a number of a template
 abbrev pub IsWhom : Selector → Type 0
 IsWhom whose.All = Unit {0}
 IsWhom (whose.Hart n) = IsSmall n
 IsWhom (whose.Core n) = IsSmall n
 IsWhom (whose.Thread n) = IsSmall n
 
+-- a body's statement with an assembler line, or with numbers of a template
 abbrev pub IsSlot : SlotText → Type 0
 IsSlot (Emit asm) = IsAsm asm
 IsSlot (Mix n alu load store branch) = IsSmall n × IsSmall alu × IsSmall load × IsSmall store × IsSmall branch
@@ -48,6 +50,7 @@ IsSayable (case_of name) = is_name name ≡ true
 IsSayable (body whom) = IsWhom whom
 IsSayable (slot what) = IsSlot what
 
+-- statements that lines spell
 abbrev pub AreSayable : List At → Type 0
 AreSayable [] = Unit {0}
 AreSayable (s ∷ ss) = IsSayable s.1 × AreSayable ss
