@@ -2,15 +2,15 @@
 use Rattle.std.proofs.Common.{◌≡◌, List, [], ◌∷◌, ◌++◌, true, refl, ap, subst, ◌∙◌}
 use Rattle.tm_base.specs.declared.Pos.{Pos}
 use Rattle.tm_lex.specs.Lexing.{tokens_of}
-use Rattle.tm_tmpl.specs.declared.template.Template.{Template}
-use Rattle.tm_tmpl.specs.Readings.{lexemes, Statement, template, passes, window, case_of, body, slot}
-use Rattle.tm_tmpl.specs.Grammar.{Before, start, At, Parts, put, put_all, no_parts, place_after, template_of}
+use Rattle.tm_form.specs.declared.template.Template.{Template}
+use Rattle.tm_form.specs.Readings.{lexemes, Statement, template, passes, window, case_of, body, slot, At}
+use Rattle.tm_tmpl.specs.Grammar.{Before, start, Parts, put, put_all, no_parts, place_after, template_of}
 use Rattle.tm_tmpl.specs.Steps.{windows_at, cases_at}
 use Rattle.tm_print.specs.Printed.{lines_of, printed, nowhere, bare_windows, bare_slots, bare_bodies, bare_cases, without_places, ReadsBack}
 use Rattle.tm_print.proofs.PrintLemmas.{lines-join}
 use Rattle.tm_tmpl.specs.Spelled.{statements_of}
 use Rattle.tm_tmpl.specs.Writable.{AreSayable, IsWritable}
-use Rattle.tm_tmpl.proofs.StatementLemmas.{head_of}
+use Rattle.tm_form.proofs.StatementLemmas.{head_of}
 use Rattle.tm_tmpl.proofs.LineLemmas.{may}
 use Rattle.tm_tmpl.proofs.TextLemmas.{AreAllowed, text-complete}
 use Rattle.tm_tmpl.proofs.TreeLemmas.{all-allowed}

@@ -2,7 +2,7 @@
 use Rattle.std.proofs.Common.{◌≡◌, ◌<◌, ℕ, ◌+◌, List, [], ◌∷◌, ◌++◌, length, take, get_or, Result, Ok, Err, OnOk, refl, sym, ap, ◌∙◌, append-nil, append_assoc}
 use Rattle.std.proofs.lemmas.List.{take_more}
 use Rattle.tm_base.specs.declared.lists.NoMemory.{NoMemory}
-use Rattle.tm_tmpl.specs.Grammar.{At}
+use Rattle.tm_form.specs.Readings.{At}
 use Rattle.tm_print.specs.Printed.{line_of, lines_of}
 
 pub lines-join : (ss us : List At) → lines_of (ss ++ us) ≡ lines_of ss ++ lines_of us

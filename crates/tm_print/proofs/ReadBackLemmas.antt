@@ -14,15 +14,15 @@ use Rattle.tm_lex.specs.declared.token.TokenKind.TheVariants.{Word, Raw, LineEnd
 use Rattle.tm_lex.specs.declared.token.Token.{Token}
 use Rattle.tm_lex.specs.Lexing.{Span, is_word, words, spans, line_fault, line_tokens, lines_reading, token_at, as_words, with_end}
 use Rattle.tm_lex.specs.Tiling.{may_stand}
-use Rattle.tm_tmpl.specs.declared.template.Kind.{Kind}
-use Rattle.tm_tmpl.specs.declared.template.Kind.TheVariants.{True, False, Own}
-use Rattle.tm_tmpl.specs.declared.template.Selector.TheVariants as whose
-use Rattle.tm_tmpl.specs.declared.template.SlotText.TheVariants.{Emit, Mix}
-use Rattle.tm_tmpl.specs.Readings.{Lexeme, lexemes, Statement, template, passes, window, case_of, body, slot}
-use Rattle.tm_tmpl.specs.Grammar.{At}
-use Rattle.tm_tmpl.specs.Spelled.{kind_word, pieces_of, all_pieces, AreFit}
+use Rattle.tm_form.specs.declared.template.Kind.{Kind}
+use Rattle.tm_form.specs.declared.template.Kind.TheVariants.{True, False, Own}
+use Rattle.tm_form.specs.declared.template.Selector.TheVariants as whose
+use Rattle.tm_form.specs.declared.template.SlotText.TheVariants.{Emit, Mix}
+use Rattle.tm_form.specs.Readings.{Lexeme, lexemes, Statement, template, passes, window, case_of, body, slot, At}
+use Rattle.tm_form.specs.Pieces.{kind_word, pieces_of, AreFit}
+use Rattle.tm_tmpl.specs.Spelled.{all_pieces}
 use Rattle.tm_tmpl.specs.Writable.{IsAsm, IsSayable, AreSayable}
-use Rattle.tm_tmpl.proofs.PieceLemmas.{fit-join}
+use Rattle.tm_form.proofs.PieceLemmas.{fit-join}
 use Rattle.tm_tmpl.proofs.LexemeLemmas.{lexemes-join, tokens-join}
 use Rattle.tm_print.specs.Printed.{spaced, words_of, line_of, lines_of}
 use Rattle.tm_print.proofs.SpacedLemmas.{IsPlain, ArePlain, name-plain, number-plain, spans_from, spans-plain, spans-emit, plain-stands, emit-stands, content-whole, no-bad-byte, no-line-end, plain-short, emit-short, lexeme, word_lexemes, lexeme-at, lexemes-words}

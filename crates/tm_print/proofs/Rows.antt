@@ -1,10 +1,10 @@
 -- A worked row of the printed form, computed.
 use Rattle.std.proofs.Common.{◌≡◌, [], ◌∷◌, codes, refl}
 use Rattle.std.specs.Fmt.{digits}
-use Rattle.tm_tmpl.specs.declared.template.Kind.TheVariants.{True}
-use Rattle.tm_tmpl.specs.declared.template.Selector.TheVariants.{All}
-use Rattle.tm_tmpl.specs.declared.template.SlotText.TheVariants.{Emit}
-use Rattle.tm_tmpl.specs.declared.template.Template.{Template}
+use Rattle.tm_form.specs.declared.template.Kind.TheVariants.{True}
+use Rattle.tm_form.specs.declared.template.Selector.TheVariants.{All}
+use Rattle.tm_form.specs.declared.template.SlotText.TheVariants.{Emit}
+use Rattle.tm_form.specs.declared.template.Template.{Template}
 use Rattle.tm_print.specs.Printed.{nowhere, printed, lines_of, line_of, words_of}
 
 abbrev t : Template

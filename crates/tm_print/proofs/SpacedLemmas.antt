@@ -17,7 +17,7 @@ use Rattle.tm_lex.specs.declared.token.TokenKind.TheVariants.{Word, Raw}
 use Rattle.tm_lex.specs.Lexing.{Span, is_word, is_separator, words, spans, text_of, trimmed, as_words, with_kinds, content, bad_byte, long_part, token_at}
 use Rattle.tm_lex.specs.Tiling.{may_stand}
 use Rattle.tm_lex.proofs.WordLemmas.{words-run}
-use Rattle.tm_tmpl.specs.Readings.{is_name_byte, is_name, Lexeme, lexemes}
+use Rattle.tm_form.specs.Readings.{is_name_byte, is_name, Lexeme, lexemes}
 use Rattle.tm_tmpl.specs.Writable.{IsAsm}
 use Rattle.tm_print.specs.Printed.{spaced}
 

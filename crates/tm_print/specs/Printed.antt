@@ -2,18 +2,18 @@
 use Rattle.std.specs.Prelude.{ℕ, ◌≡◌, List, [], ◌∷◌, ◌++◌, Ok, codes}
 use Rattle.std.specs.Fmt.{decimal}
 use Rattle.tm_base.specs.declared.Pos.{Pos}
-use Rattle.tm_tmpl.specs.declared.template.SlotDecl.{SlotDecl}
-use Rattle.tm_tmpl.specs.declared.template.BodyDecl.{BodyDecl}
-use Rattle.tm_tmpl.specs.declared.template.CaseDecl.{CaseDecl}
-use Rattle.tm_tmpl.specs.declared.template.WindowDecl.{WindowDecl}
-use Rattle.tm_tmpl.specs.declared.template.Selector.{Selector}
-use Rattle.tm_tmpl.specs.declared.template.Selector.TheVariants as whose
-use Rattle.tm_tmpl.specs.declared.template.SlotText.{SlotText}
-use Rattle.tm_tmpl.specs.declared.template.SlotText.TheVariants.{Emit, Mix}
-use Rattle.tm_tmpl.specs.declared.template.Template.{Template}
-use Rattle.tm_tmpl.specs.Readings.{Statement, template, passes, window, case_of, body, slot}
-use Rattle.tm_tmpl.specs.Grammar.{At, template_of}
-use Rattle.tm_tmpl.specs.Spelled.{kind_word}
+use Rattle.tm_form.specs.declared.template.SlotDecl.{SlotDecl}
+use Rattle.tm_form.specs.declared.template.BodyDecl.{BodyDecl}
+use Rattle.tm_form.specs.declared.template.CaseDecl.{CaseDecl}
+use Rattle.tm_form.specs.declared.template.WindowDecl.{WindowDecl}
+use Rattle.tm_form.specs.declared.template.Selector.{Selector}
+use Rattle.tm_form.specs.declared.template.Selector.TheVariants as whose
+use Rattle.tm_form.specs.declared.template.SlotText.{SlotText}
+use Rattle.tm_form.specs.declared.template.SlotText.TheVariants.{Emit, Mix}
+use Rattle.tm_form.specs.declared.template.Template.{Template}
+use Rattle.tm_form.specs.Readings.{Statement, template, passes, window, case_of, body, slot, At}
+use Rattle.tm_tmpl.specs.Grammar.{template_of}
+use Rattle.tm_form.specs.Pieces.{kind_word}
 use Rattle.tm_tmpl.specs.Steps.{windows_at, cases_at}
 
 -- words with single spaces between them

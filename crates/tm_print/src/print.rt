@@ -2,8 +2,8 @@
 ghost use Rattle.std.specs.Prelude.{◌≡◌, ◌++◌, ◌∷◌, [], OnOk, IfOk, codes};
 ghost use Rattle.std.specs.Fmt.{decimal};
 ghost use Rattle.tm_print.specs.Printed as printed;
-ghost use Rattle.tm_tmpl.specs.Readings as readings;
-ghost use Rattle.tm_tmpl.specs.Spelled.{kind_word};
+ghost use Rattle.tm_form.specs.Readings as readings;
+ghost use Rattle.tm_form.specs.Pieces.{kind_word};
 ghost use Rattle.tm_tmpl.specs.Steps as steps;
 ghost use Rattle.tm_tmpl.specs.Writable.{IsWritable};
 

@@ -4,22 +4,23 @@ use Rattle.tm_base.specs.declared.Pos.{Pos}
 use Rattle.tm_lex.specs.declared.token.Token.{Token}
 use Rattle.tm_lex.specs.declared.token.LexFault.{LexFault}
 use Rattle.tm_lex.specs.Lexing.{tokens_of}
-use Rattle.tm_tmpl.specs.declared.template.Want.{Want}
-use Rattle.tm_tmpl.specs.declared.template.Template.{Template}
-use Rattle.tm_tmpl.specs.declared.template.TmplFault.{TmplFault}
-use Rattle.tm_tmpl.specs.declared.template.TmplFault.TheVariants.{Lex, Early, Expected, NoMemory}
-use Rattle.tm_tmpl.specs.Readings.{Lexeme, lexemes, template, passes}
+use Rattle.tm_form.specs.declared.template.Want.{Want}
+use Rattle.tm_form.specs.declared.template.Template.{Template}
+use Rattle.tm_form.specs.declared.template.TmplFault.{TmplFault}
+use Rattle.tm_form.specs.declared.template.TmplFault.TheVariants.{Lex, Early, Expected, NoMemory}
+use Rattle.tm_form.specs.Readings.{Lexeme, lexemes, template, passes, At}
 use Rattle.tm_tmpl.specs.Steps.{windows_at, cases_at}
-use Rattle.tm_tmpl.specs.Grammar.{start, At, token_lines, statements, put_all, no_parts, end_of, made_of, of_tokens, template_of, IsStatedFault}
+use Rattle.tm_tmpl.specs.Grammar.{start, token_lines, statements, put_all, no_parts, end_of, made_of, of_tokens, template_of, IsStatedFault}
 use Rattle.tm_tmpl.proofs.MadeLemmas.{made-is}
-use Rattle.tm_tmpl.specs.Spelled.{Piece, all_pieces, statements_of, AreFit, Spells, IsSpelled, GoesOn, Wants, Leaves, Stops, IsFaultOf, IsOrNoMemory}
+use Rattle.tm_form.specs.Pieces.{Piece, AreFit}
+use Rattle.tm_tmpl.specs.Spelled.{all_pieces, statements_of, Spells, IsSpelled, GoesOn, Wants, Leaves, Stops, IsFaultOf, IsOrNoMemory}
 use Rattle.tm_tmpl.specs.Writable.{IsWritable}
 use Rattle.tm_lex.proofs.FaultLemmas.{tokens-are}
 use Rattle.tm_tmpl.proofs.LexemeLemmas.{are-lines}
 use Rattle.tm_tmpl.proofs.RawLemmas.{tokens-asm}
 use Rattle.tm_tmpl.proofs.WritableLemmas.{writable}
-use Rattle.tm_tmpl.proofs.PieceLemmas.{cut-pieces}
-use Rattle.tm_tmpl.proofs.FormLemmas.{Stuck, StuckAt, Bars}
+use Rattle.tm_form.proofs.PieceLemmas.{cut-pieces}
+use Rattle.tm_form.proofs.FormLemmas.{Stuck, StuckAt, Bars}
 use Rattle.tm_tmpl.proofs.TextLemmas.{AreLines, Texts, Blames, text-sound, text-complete, text-blames}
 use Rattle.tm_tmpl.proofs.TreeLemmas.{tree, all-allowed}
 

@@ -8,11 +8,11 @@ use Rattle.tm_lex.specs.declared.token.TokenKind.TheVariants.{Word, LineEnd}
 use Rattle.tm_lex.specs.declared.token.Token.{Token}
 use Rattle.tm_lex.specs.Lexing.{Span, content, text_of, token_at, with_end, as_words, as_raw}
 use Rattle.tm_lex.specs.Tiling.{AreParts, AreKinds, HaveTokens, AreTokens, lines_of}
-use Rattle.tm_tmpl.specs.Readings.{Lexeme, lexemes, is_line_end}
+use Rattle.tm_form.specs.Readings.{Lexeme, lexemes, is_line_end}
 use Rattle.tm_tmpl.specs.Grammar.{token_lines}
-use Rattle.tm_tmpl.proofs.PieceLemmas.{ends_line, EndsOnce, first-line-of}
+use Rattle.tm_form.proofs.PieceLemmas.{ends_line, EndsOnce}
 use Rattle.tm_tmpl.proofs.LineLemmas.{IsLine}
-use Rattle.tm_tmpl.proofs.TextLemmas.{AreLines, line-ends}
+use Rattle.tm_tmpl.proofs.TextLemmas.{AreLines, line-ends, first-line-of}
 
 pub lexemes-join : (text : List ℕ) (ts us : List Token) → lexemes text (ts ++ us) ≡ lexemes text ts ++ lexemes text us
 lexemes-join text [] us = refl

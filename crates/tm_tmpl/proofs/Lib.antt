@@ -1,9 +1,5 @@
 pub mod StepLemmas
 pub mod MadeLemmas
-pub mod PieceLemmas
-pub mod TokenLemmas
-pub mod FormLemmas
-pub mod StatementLemmas
 pub mod LineLemmas
 pub mod TextLemmas
 pub mod TreeLemmas

@@ -5,19 +5,19 @@ use Rattle.std.proofs.lemmas.Bool.{cases_Bool, true≢false}
 use Rattle.std.proofs.lemmas.Slice.Eq.{bytes_eq-Decides}
 use Rattle.tm_base.specs.declared.Pos.{Pos}
 use Rattle.tm_lex.specs.declared.token.TokenKind.TheVariants.{Word}
-use Rattle.tm_tmpl.specs.declared.template.Want.{Want}
-use Rattle.tm_tmpl.specs.declared.template.Want.TheVariants as want
-use Rattle.tm_tmpl.specs.declared.template.Selector.TheVariants.{All, Hart, Core, Thread}
-use Rattle.tm_tmpl.specs.declared.template.SlotText.TheVariants.{Emit, Mix}
-use Rattle.tm_tmpl.specs.declared.template.TmplFault.{TmplFault}
-use Rattle.tm_tmpl.specs.declared.template.TmplFault.TheVariants.{Lex, Early, Expected, NoMemory}
-use Rattle.tm_tmpl.specs.Readings.{Lexeme, Reading, Statement, template, passes, window, case_of, body, slot}
-use Rattle.tm_tmpl.specs.Grammar.{Before, start, head, windows, cases, slots, At, choice, placed, line_reading}
-use Rattle.tm_tmpl.specs.Spelled.{Piece, opening, want_of, pieces_of, Fits, AreFit}
-use Rattle.tm_tmpl.proofs.PieceLemmas.{is_end, ends_line, EndsOnce, ends-fit, same-front}
-use Rattle.tm_tmpl.proofs.TokenLemmas.{token_of}
-use Rattle.tm_tmpl.proofs.FormLemmas.{Stuck, Bars, Blamed, Said}
-use Rattle.tm_tmpl.proofs.StatementLemmas.{Head, template_head, passes_head, window_head, case_head, body_head, emit_head, mix_head, head_of, form_of, tail_of, Of, form-exact}
+use Rattle.tm_form.specs.declared.template.Want.{Want}
+use Rattle.tm_form.specs.declared.template.Want.TheVariants as want
+use Rattle.tm_form.specs.declared.template.Selector.TheVariants.{All, Hart, Core, Thread}
+use Rattle.tm_form.specs.declared.template.SlotText.TheVariants.{Emit, Mix}
+use Rattle.tm_form.specs.declared.template.TmplFault.{TmplFault}
+use Rattle.tm_form.specs.declared.template.TmplFault.TheVariants.{Lex, Early, Expected, NoMemory}
+use Rattle.tm_form.specs.Readings.{Lexeme, Reading, Statement, template, passes, window, case_of, body, slot, At}
+use Rattle.tm_tmpl.specs.Grammar.{Before, start, head, windows, cases, slots, choice, placed, line_reading}
+use Rattle.tm_form.specs.Pieces.{Piece, opening, want_of, pieces_of, Fits, AreFit}
+use Rattle.tm_form.proofs.PieceLemmas.{is_end, ends_line, EndsOnce, ends-fit, same-front}
+use Rattle.tm_form.proofs.TokenLemmas.{token_of}
+use Rattle.tm_form.proofs.FormLemmas.{Stuck, Bars, Blamed, Said}
+use Rattle.tm_form.proofs.StatementLemmas.{Head, template_head, passes_head, window_head, case_head, body_head, emit_head, mix_head, head_of, form_of, tail_of, Of, form-exact}
 
 -- ---- first words
 

@@ -3,12 +3,12 @@ use Rattle.std.proofs.Common.{◌≡◌, List, [], ◌∷◌, ◌++◌, ℕ, Ok,
 use Rattle.tm_base.specs.Numbers.{number_of, place_value, value_of, reading_at, digits_reading}
 use Rattle.tm_lex.specs.Lexing.{tokens_of, is_word, is_separator, words, spans, line_fault, line_tokens, lines_reading}
 use Rattle.tm_lex.specs.declared.token.LexFault.TheVariants.{BadByte}
-use Rattle.tm_tmpl.specs.declared.template.Want.TheVariants as want
-use Rattle.tm_tmpl.specs.declared.template.TmplFault.TheVariants.{Lex, Early, Expected}
-use Rattle.tm_tmpl.specs.declared.template.Kind.TheVariants.{True}
-use Rattle.tm_tmpl.specs.declared.template.Selector.TheVariants.{All}
-use Rattle.tm_tmpl.specs.declared.template.SlotText.TheVariants.{Emit}
-use Rattle.tm_tmpl.specs.declared.template.Template.{Template}
+use Rattle.tm_form.specs.declared.template.Want.TheVariants as want
+use Rattle.tm_form.specs.declared.template.TmplFault.TheVariants.{Lex, Early, Expected}
+use Rattle.tm_form.specs.declared.template.Kind.TheVariants.{True}
+use Rattle.tm_form.specs.declared.template.Selector.TheVariants.{All}
+use Rattle.tm_form.specs.declared.template.SlotText.TheVariants.{Emit}
+use Rattle.tm_form.specs.declared.template.Template.{Template}
 use Rattle.tm_tmpl.specs.Grammar.{template_of, choice, token_lines, statements, put_all}
 
 -- six lines, with what stands for the first and the last

@@ -7,15 +7,15 @@ use Rattle.std.proofs.lemmas.Slice.Eq.{bytes_eq-Decides}
 use Rattle.std.proofs.lemmas.Grind.{common_steps}
 use Rattle.tm_lex.specs.declared.token.Token.{Token}
 use Rattle.tm_lex.specs.declared.token.TokenKind.TheVariants.{Word}
-use Rattle.tm_tmpl.specs.declared.template.Want.TheVariants as want
-use Rattle.tm_tmpl.specs.declared.template.TmplFault.{TmplFault}
-use Rattle.tm_tmpl.specs.declared.template.TmplFault.TheVariants.{Early, Expected}
-use Rattle.tm_tmpl.specs.Readings.{Lexeme, lexemes, is_line_end, Statement, Reading, template_line, passes_line, window_line, case_line, body_line, emit_line, mix_line}
-use Rattle.tm_tmpl.specs.Grammar.{Before, start, head, windows, cases, slots, At, token_lines, statements, choice, place_after, more, then_more, line_reading}
-use Rattle.tm_tmpl.specs.declared.template.SlotDecl.{SlotDecl}
-use Rattle.tm_tmpl.specs.declared.template.BodyDecl.{BodyDecl}
-use Rattle.tm_tmpl.specs.declared.template.CaseDecl.{CaseDecl}
-use Rattle.tm_tmpl.specs.declared.template.WindowDecl.{WindowDecl}
+use Rattle.tm_form.specs.declared.template.Want.TheVariants as want
+use Rattle.tm_form.specs.declared.template.TmplFault.{TmplFault}
+use Rattle.tm_form.specs.declared.template.TmplFault.TheVariants.{Early, Expected}
+use Rattle.tm_form.specs.Readings.{Lexeme, lexemes, is_line_end, Statement, Reading, template_line, passes_line, window_line, case_line, body_line, emit_line, mix_line, At}
+use Rattle.tm_tmpl.specs.Grammar.{Before, start, head, windows, cases, slots, token_lines, statements, choice, place_after, more, then_more, line_reading}
+use Rattle.tm_form.specs.declared.template.SlotDecl.{SlotDecl}
+use Rattle.tm_form.specs.declared.template.BodyDecl.{BodyDecl}
+use Rattle.tm_form.specs.declared.template.CaseDecl.{CaseDecl}
+use Rattle.tm_form.specs.declared.template.WindowDecl.{WindowDecl}
 use Rattle.tm_tmpl.specs.Steps.{line_len, opens_with, first_at, follows, case_next, body_next, more_all, windows_at, window_at, slots_at, slot_at, bodies_at, body_at, cases_at, case_at}
 
 -- the bytes of a token

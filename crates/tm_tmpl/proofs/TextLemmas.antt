@@ -5,17 +5,18 @@ use Rattle.std.proofs.lemmas.Bool.{cases_Bool}
 use Rattle.tm_base.specs.declared.Pos.{Pos}
 use Rattle.tm_base.proofs.PrintLemmas.{decimal_reads_back}
 use Rattle.tm_lex.specs.declared.token.TokenKind.TheVariants.{Word, LineEnd}
-use Rattle.tm_tmpl.specs.declared.template.Want.{Want}
-use Rattle.tm_tmpl.specs.declared.template.Want.TheVariants as want
-use Rattle.tm_tmpl.specs.declared.template.TmplFault.{TmplFault}
-use Rattle.tm_tmpl.specs.declared.template.TmplFault.TheVariants.{Lex, Early, Expected, NoMemory}
-use Rattle.tm_tmpl.specs.Readings.{Lexeme, Statement, template, passes, window, case_of, body, slot, is_line_end}
-use Rattle.tm_tmpl.specs.Grammar.{Before, start, head, windows, cases, slots, At, early, at_end, more, then_more, place_after, line_reading, token_lines, onto_first, statements, IsStatedFault}
-use Rattle.tm_tmpl.specs.Spelled.{Piece, opening, want_of, pieces_of, all_pieces, AreFit}
-use Rattle.tm_tmpl.proofs.PieceLemmas.{is_end, ends_line, EndsOnce, IsOpen, cut-tokens, cut-pieces, fit-join, same-front, within-front, open-front, ends-not-open, ends-fit, ends-back, open-back, first-line-of}
-use Rattle.tm_tmpl.proofs.TokenLemmas.{token_of}
-use Rattle.tm_tmpl.proofs.FormLemmas.{Stuck, StuckAt, Bars, Blamed}
-use Rattle.tm_tmpl.proofs.StatementLemmas.{head_of, tail_of}
+use Rattle.tm_form.specs.declared.template.Want.{Want}
+use Rattle.tm_form.specs.declared.template.Want.TheVariants as want
+use Rattle.tm_form.specs.declared.template.TmplFault.{TmplFault}
+use Rattle.tm_form.specs.declared.template.TmplFault.TheVariants.{Lex, Early, Expected, NoMemory}
+use Rattle.tm_form.specs.Readings.{Lexeme, Statement, template, passes, window, case_of, body, slot, is_line_end, At}
+use Rattle.tm_tmpl.specs.Grammar.{Before, start, head, windows, cases, slots, early, at_end, more, then_more, place_after, line_reading, token_lines, onto_first, statements, IsStatedFault}
+use Rattle.tm_form.specs.Pieces.{Piece, opening, want_of, pieces_of, AreFit}
+use Rattle.tm_tmpl.specs.Spelled.{all_pieces}
+use Rattle.tm_form.proofs.PieceLemmas.{is_end, ends_line, EndsOnce, IsOpen, cut-tokens, cut-pieces, fit-join, same-front, within-front, open-front, ends-not-open, ends-fit, ends-back, open-back}
+use Rattle.tm_form.proofs.TokenLemmas.{token_of}
+use Rattle.tm_form.proofs.FormLemmas.{Stuck, StuckAt, Bars, Blamed}
+use Rattle.tm_form.proofs.StatementLemmas.{head_of, tail_of}
 use Rattle.tm_tmpl.proofs.LineLemmas.{at_or, want_at, word_of, may, wanted, Lines, IsLine, pieces-are, ends-pieces, first-wanted, opens, line-complete, line-sound, line-blames}
 
 -- statements that may stand behind what stands before them, up to the end of a text
@@ -55,6 +56,13 @@ pub line-ends : (line : List Lexeme) → IsLine line → EndsOnce ends_line line
 line-ends [] h = h
 line-ends (x ∷ []) h = absurd h.1
 line-ends (x ∷ y ∷ ys) h = (rw h.0, h.1)
+
+-- a line in front of others
+pub first-line-of : (line rest : List Lexeme) → EndsOnce ends_line line → token_lines (line ++ rest) ≡ line ∷ token_lines rest
+unfolding token_lines
+first-line-of [] rest h = absurd h
+first-line-of (x ∷ []) rest h = rw h
+first-line-of (x ∷ y ∷ ys) rest h = rw (h.0, first-line-of (y ∷ ys) rest h.1)
 
 -- ---- what is read of lines
 

@@ -2,18 +2,18 @@
 use Rattle.std.proofs.Common.{◌≡◌, ℕ, true, List, [], ◌∷◌, ◌++◌, refl, sym, ap, ◌∙◌, append_assoc}
 use Rattle.std.proofs.lemmas.Bool.{true≢false}
 use Rattle.tm_base.specs.declared.Pos.{Pos}
-use Rattle.tm_tmpl.specs.declared.template.SlotDecl.{SlotDecl}
-use Rattle.tm_tmpl.specs.declared.template.BodyDecl.{BodyDecl}
-use Rattle.tm_tmpl.specs.declared.template.CaseDecl.{CaseDecl}
-use Rattle.tm_tmpl.specs.declared.template.WindowDecl.{WindowDecl}
-use Rattle.tm_tmpl.specs.declared.template.SlotText.{SlotText}
-use Rattle.tm_tmpl.specs.declared.template.SlotText.TheVariants.{Emit, Mix}
-use Rattle.tm_tmpl.specs.declared.template.Template.{Template}
-use Rattle.tm_tmpl.specs.Readings.{Statement, template, passes, window, case_of, body, slot}
-use Rattle.tm_tmpl.specs.Grammar.{Before, start, head, windows, cases, slots, At, place_after}
+use Rattle.tm_form.specs.declared.template.SlotDecl.{SlotDecl}
+use Rattle.tm_form.specs.declared.template.BodyDecl.{BodyDecl}
+use Rattle.tm_form.specs.declared.template.CaseDecl.{CaseDecl}
+use Rattle.tm_form.specs.declared.template.WindowDecl.{WindowDecl}
+use Rattle.tm_form.specs.declared.template.SlotText.{SlotText}
+use Rattle.tm_form.specs.declared.template.SlotText.TheVariants.{Emit, Mix}
+use Rattle.tm_form.specs.declared.template.Template.{Template}
+use Rattle.tm_form.specs.Readings.{Statement, template, passes, window, case_of, body, slot, At}
+use Rattle.tm_tmpl.specs.Grammar.{Before, start, head, windows, cases, slots, place_after}
 use Rattle.tm_tmpl.specs.Steps.{windows_at, slots_at, bodies_at, cases_at}
 use Rattle.tm_tmpl.specs.Spelled.{statements_of}
-use Rattle.tm_tmpl.proofs.StatementLemmas.{head_of}
+use Rattle.tm_form.proofs.StatementLemmas.{head_of}
 use Rattle.tm_tmpl.proofs.LineLemmas.{may}
 use Rattle.tm_tmpl.proofs.TextLemmas.{AreAllowed}
 

@@ -1,12 +1,12 @@
 -- What tokens spell, some line spells.
 use Rattle.std.proofs.Common.{◌≡◌, true, List, [], ◌∷◌, ◌++◌, subst}
-use Rattle.tm_tmpl.specs.declared.template.Selector.TheVariants.{All, Hart, Core, Thread}
-use Rattle.tm_tmpl.specs.declared.template.SlotText.TheVariants.{Emit, Mix}
-use Rattle.tm_tmpl.specs.declared.template.Template.{Template}
-use Rattle.tm_tmpl.specs.Readings.{Lexeme, is_raw, is_name, template, passes, window, case_of, body, slot}
-use Rattle.tm_tmpl.specs.Grammar.{At}
+use Rattle.tm_form.specs.declared.template.Selector.TheVariants.{All, Hart, Core, Thread}
+use Rattle.tm_form.specs.declared.template.SlotText.TheVariants.{Emit, Mix}
+use Rattle.tm_form.specs.declared.template.Template.{Template}
+use Rattle.tm_form.specs.Readings.{Lexeme, is_raw, is_name, template, passes, window, case_of, body, slot, At}
 use Rattle.tm_tmpl.specs.Steps.{windows_at, cases_at}
-use Rattle.tm_tmpl.specs.Spelled.{Piece, opening, fixed, a_name, a_number, asm_line, the_end, pieces_of, all_pieces, statements_of, Fits, AreFit, Spells}
+use Rattle.tm_form.specs.Pieces.{Piece, opening, fixed, a_name, a_number, asm_line, the_end, pieces_of, Fits, AreFit}
+use Rattle.tm_tmpl.specs.Spelled.{all_pieces, statements_of, Spells}
 use Rattle.tm_tmpl.specs.Writable.{IsAsm, HaveAsm, IsSmall, IsSayable, AreSayable, IsWritable}
 
 abbrev IsGood : Piece → Type 0

@@ -6,14 +6,14 @@ use Rattle.tm_base.specs.declared.Pos.{Pos}
 use Rattle.tm_lex.specs.Lexing.{tokens_of}
 use Rattle.tm_lex.specs.declared.token.Token.{Token}
 use Rattle.tm_lex.specs.declared.token.LexFault.{LexFault}
-use Rattle.tm_tmpl.specs.Readings.{Lexeme, lexemes, is_line_end, Reading, Statement, template, passes, window, case_of, body, slot, template_line, passes_line, window_line, case_line, body_line, emit_line, mix_line}
-use Rattle.tm_tmpl.specs.declared.template.Want.TheVariants as want
-use Rattle.tm_tmpl.specs.declared.template.TmplFault.{TmplFault}
-use Rattle.tm_tmpl.specs.declared.template.TmplFault.TheVariants.{Lex, Early, Expected}
-use Rattle.tm_tmpl.specs.declared.template.SlotDecl.{SlotDecl}
-use Rattle.tm_tmpl.specs.declared.template.BodyDecl.{BodyDecl}
-use Rattle.tm_tmpl.specs.declared.template.WindowDecl.{WindowDecl}
-use Rattle.tm_tmpl.specs.declared.template.Template.{Template}
+use Rattle.tm_form.specs.Readings.{Lexeme, lexemes, is_line_end, Reading, Statement, At, template, passes, window, case_of, body, slot, template_line, passes_line, window_line, case_line, body_line, emit_line, mix_line}
+use Rattle.tm_form.specs.declared.template.Want.TheVariants as want
+use Rattle.tm_form.specs.declared.template.TmplFault.{TmplFault}
+use Rattle.tm_form.specs.declared.template.TmplFault.TheVariants.{Lex, Early, Expected}
+use Rattle.tm_form.specs.declared.template.SlotDecl.{SlotDecl}
+use Rattle.tm_form.specs.declared.template.BodyDecl.{BodyDecl}
+use Rattle.tm_form.specs.declared.template.WindowDecl.{WindowDecl}
+use Rattle.tm_form.specs.declared.template.Template.{Template}
 
 -- ---- which statement may follow which
 
@@ -51,10 +51,6 @@ abbrev pub early : Before → Option TmplFault
 early start = Some (Early want.Template)
 early head = Some (Early want.Passes)
 early _ = None
-
--- a statement with the place of its first word
-abbrev pub At : Type 0
-At = Pos × Statement
 
 -- a statement that was read, with the place of its line's first word
 abbrev pub placed : Pos → Reading Statement → Result At TmplFault

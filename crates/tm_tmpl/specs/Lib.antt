@@ -1,4 +1,3 @@
-pub mod Readings
 pub mod Grammar
 pub mod Steps
 pub mod Spelled

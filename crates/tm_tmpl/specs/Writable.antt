@@ -3,13 +3,12 @@ use Rattle.std.specs.Prelude.{ℕ, ◌≡◌, ◌<◌, ◌≤◌, ◌-◌, ◌^�
 use Rattle.std.specs.List.{list_all}
 use Rattle.tm_lex.specs.Lexing.{is_separator}
 use Rattle.tm_lex.specs.Tiling.{may_stand}
-use Rattle.tm_tmpl.specs.declared.template.Selector.{Selector}
-use Rattle.tm_tmpl.specs.declared.template.Selector.TheVariants as whose
-use Rattle.tm_tmpl.specs.declared.template.SlotText.{SlotText}
-use Rattle.tm_tmpl.specs.declared.template.SlotText.TheVariants.{Emit, Mix}
-use Rattle.tm_tmpl.specs.declared.template.Template.{Template}
-use Rattle.tm_tmpl.specs.Readings.{Lexeme, is_raw, is_name, Statement, template, passes, window, case_of, body, slot}
-use Rattle.tm_tmpl.specs.Grammar.{At}
+use Rattle.tm_form.specs.declared.template.Selector.{Selector}
+use Rattle.tm_form.specs.declared.template.Selector.TheVariants as whose
+use Rattle.tm_form.specs.declared.template.SlotText.{SlotText}
+use Rattle.tm_form.specs.declared.template.SlotText.TheVariants.{Emit, Mix}
+use Rattle.tm_form.specs.declared.template.Template.{Template}
+use Rattle.tm_form.specs.Readings.{Lexeme, is_raw, is_name, Statement, template, passes, window, case_of, body, slot, At}
 use Rattle.tm_tmpl.specs.Steps.{windows_at, cases_at}
 
 -- an assembler line: at most 64 bytes that may stand in a line, without separators at its ends

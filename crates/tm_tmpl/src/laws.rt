@@ -1,8 +1,8 @@
 // Laws over the definition of reading, as the contract of a function that does nothing.
 ghost use Rattle.std.specs.Prelude.{◌≡◌, ◌≢◌, ◌↔◌, Ok, Err};
-ghost use Rattle.tm_tmpl.specs.declared.template.Template.{Template};
-ghost use Rattle.tm_tmpl.specs.declared.template.TmplFault.{TmplFault};
-ghost use Rattle.tm_tmpl.specs.declared.template.TmplFault.TheVariants.{NoMemory};
+ghost use Rattle.tm_form.specs.declared.template.Template.{Template};
+ghost use Rattle.tm_form.specs.declared.template.TmplFault.{TmplFault};
+ghost use Rattle.tm_form.specs.declared.template.TmplFault.TheVariants.{NoMemory};
 ghost use Rattle.tm_tmpl.specs.Grammar.{template_of};
 ghost use Rattle.tm_tmpl.specs.Spelled.{IsSpelled, IsFaultOf};
 

@@ -2,14 +2,11 @@
 #![tactic(auto)]
 
 pub mod laws;
-mod lines;
 mod parse;
 mod read;
-mod template;
 mod tokens;
-mod words;
 
 pub use parse::parse_template;
-pub use template::{
+pub use tm_form::{
     BodyDecl, CaseDecl, Kind, Selector, SlotDecl, SlotText, Template, TmplFault, Want, WindowDecl,
 };

@@ -1,6 +1,6 @@
 ghost use Rattle.std.specs.Prelude.{◌≡◌, ◌≢◌, ◌^◌, ◌<◌, ◌≤◌, ◌+◌, ◌==◌, Ok, Err, IfOk, IfErr, All, length, count_by, not};
 ghost use Rattle.std.specs.List.{suffix_len};
-ghost use Rattle.tm_tmpl.specs.Readings as readings;
+ghost use Rattle.tm_form.specs.Readings as readings;
 ghost use Rattle.tm_tmpl.specs.Grammar as grammar;
 ghost use Rattle.tm_tmpl.specs.Spelled as spelled;
 ghost use Rattle.tm_tmpl.specs.Writable.{IsWritable};

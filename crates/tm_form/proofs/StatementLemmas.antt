@@ -1,16 +1,16 @@
 -- Each form of statement reads exactly its statements.
 use Rattle.std.proofs.Common.{◌≡◌, List, [], ◌∷◌, ◌++◌, drop, codes, ℕ, Ok, Err, refl, sym, ap, subst, ◌∙◌}
-use Rattle.tm_tmpl.specs.declared.template.Want.TheVariants as want
-use Rattle.tm_tmpl.specs.declared.template.Selector.TheVariants.{All, Hart, Core, Thread}
-use Rattle.tm_tmpl.specs.declared.template.SlotText.TheVariants.{Emit, Mix}
-use Rattle.tm_tmpl.specs.declared.words.Whom.{Whom}
-use Rattle.tm_tmpl.specs.declared.words.Whom.TheVariants as whose
-use Rattle.tm_tmpl.specs.declared.template.TmplFault.{TmplFault}
-use Rattle.tm_tmpl.specs.declared.template.TmplFault.TheVariants.{Early, Expected}
-use Rattle.tm_tmpl.specs.Readings.{Lexeme, keyword, name, number, kind, whom, asm, line_end, Reading, ◌>>=◌, one, Statement, template, passes, window, case_of, body, slot, ended, last_number, weight, after_whom, template_line, passes_line, window_line, case_line, body_line, emit_line, mix_line}
-use Rattle.tm_tmpl.specs.Spelled.{Piece, fixed, a_name, a_number, asm_line, the_end, kind_word, pieces_of, AreFit}
-use Rattle.tm_tmpl.proofs.TokenLemmas.{name-reads, number-reads, kind-reads, whom_word, whom-reads, keyword-reads, asm-reads, end-reads}
-use Rattle.tm_tmpl.proofs.FormLemmas.{Blamed, Said, Exact, Then, exact-one}
+use Rattle.tm_form.specs.declared.template.Want.TheVariants as want
+use Rattle.tm_form.specs.declared.template.Selector.TheVariants.{All, Hart, Core, Thread}
+use Rattle.tm_form.specs.declared.template.SlotText.TheVariants.{Emit, Mix}
+use Rattle.tm_form.specs.declared.words.Whom.{Whom}
+use Rattle.tm_form.specs.declared.words.Whom.TheVariants as whose
+use Rattle.tm_form.specs.declared.template.TmplFault.{TmplFault}
+use Rattle.tm_form.specs.declared.template.TmplFault.TheVariants.{Early, Expected}
+use Rattle.tm_form.specs.Readings.{Lexeme, keyword, name, number, kind, whom, asm, line_end, Reading, ◌>>=◌, one, Statement, template, passes, window, case_of, body, slot, ended, last_number, weight, after_whom, template_line, passes_line, window_line, case_line, body_line, emit_line, mix_line}
+use Rattle.tm_form.specs.Pieces.{Piece, fixed, a_name, a_number, asm_line, the_end, kind_word, pieces_of, AreFit}
+use Rattle.tm_form.proofs.TokenLemmas.{name-reads, number-reads, kind-reads, whom_word, whom-reads, keyword-reads, asm-reads, end-reads}
+use Rattle.tm_form.proofs.FormLemmas.{Blamed, Said, Exact, Then, exact-one}
 
 -- ---- a reader that reads alike, and a language with other words
 

@@ -3,22 +3,23 @@ use Rattle.std.specs.Prelude.{ℕ, ◌≡◌, ◌≤◌, ◌+◌, ◌-◌, ◌==
 use Rattle.std.specs.List.{list_all}
 use Rattle.std.specs.Str.{bytes_eq}
 use Rattle.tm_base.specs.Numbers.{number_of}
+use Rattle.tm_base.specs.declared.Pos.{Pos}
 use Rattle.tm_base.specs.declared.numbers.NumberFault.{NumberFault}
 use Rattle.tm_lex.specs.declared.token.Token.{Token}
 use Rattle.tm_lex.specs.declared.token.TokenKind.{TokenKind}
 use Rattle.tm_lex.specs.declared.token.TokenKind.TheVariants.{Word, Raw, LineEnd}
-use Rattle.tm_tmpl.specs.declared.template.Want.{Want}
-use Rattle.tm_tmpl.specs.declared.template.Want.TheVariants as want
-use Rattle.tm_tmpl.specs.declared.template.TmplFault.{TmplFault}
-use Rattle.tm_tmpl.specs.declared.template.TmplFault.TheVariants.{Early, Expected}
-use Rattle.tm_tmpl.specs.declared.template.Kind.{Kind}
-use Rattle.tm_tmpl.specs.declared.template.Kind.TheVariants.{True, False, Own}
-use Rattle.tm_tmpl.specs.declared.template.Selector.{Selector}
-use Rattle.tm_tmpl.specs.declared.template.Selector.TheVariants.{All, Hart, Core, Thread}
-use Rattle.tm_tmpl.specs.declared.words.Whom.{Whom}
-use Rattle.tm_tmpl.specs.declared.words.Whom.TheVariants as whose
-use Rattle.tm_tmpl.specs.declared.template.SlotText.{SlotText}
-use Rattle.tm_tmpl.specs.declared.template.SlotText.TheVariants.{Emit, Mix}
+use Rattle.tm_form.specs.declared.template.Want.{Want}
+use Rattle.tm_form.specs.declared.template.Want.TheVariants as want
+use Rattle.tm_form.specs.declared.template.TmplFault.{TmplFault}
+use Rattle.tm_form.specs.declared.template.TmplFault.TheVariants.{Early, Expected}
+use Rattle.tm_form.specs.declared.template.Kind.{Kind}
+use Rattle.tm_form.specs.declared.template.Kind.TheVariants.{True, False, Own}
+use Rattle.tm_form.specs.declared.template.Selector.{Selector}
+use Rattle.tm_form.specs.declared.template.Selector.TheVariants.{All, Hart, Core, Thread}
+use Rattle.tm_form.specs.declared.words.Whom.{Whom}
+use Rattle.tm_form.specs.declared.words.Whom.TheVariants as whose
+use Rattle.tm_form.specs.declared.template.SlotText.{SlotText}
+use Rattle.tm_form.specs.declared.template.SlotText.TheVariants.{Emit, Mix}
 
 -- ---- what a token can be read as
 
@@ -125,6 +126,10 @@ pub data Statement : Type 0 where
   case_of : List ℕ → Statement
   body : Selector → Statement
   slot : SlotText → Statement
+
+-- a statement with the place of its first word
+abbrev pub At : Type 0
+At = Pos × Statement
 
 -- a whole statement, behind which its line ends
 abbrev pub ended : {A : Type 0} → A → List Lexeme → Reading A

@@ -1,9 +1,8 @@
 -- Tokens that stand for pieces, cut at the ends of lines.
 use Rattle.std.proofs.Common.{◌≡◌, Bool, true, false, List, [], ◌∷◌, ◌++◌, refl, sym, ap, ◌∙◌}
 use Rattle.std.proofs.lemmas.Bool.{true≢false}
-use Rattle.tm_tmpl.specs.Readings.{Lexeme, is_line_end}
-use Rattle.tm_tmpl.specs.Grammar.{token_lines}
-use Rattle.tm_tmpl.specs.Spelled.{Piece, opening, fixed, a_name, a_number, asm_line, the_end, Fits, AreFit}
+use Rattle.tm_form.specs.Readings.{Lexeme, is_line_end}
+use Rattle.tm_form.specs.Pieces.{Piece, opening, fixed, a_name, a_number, asm_line, the_end, Fits, AreFit}
 
 abbrev pub is_end : Piece → Bool
 is_end the_end = true
@@ -126,11 +125,3 @@ pub open-back : (qs : List Piece) (xs : List Lexeme) → AreFit qs xs → IsOpen
 open-back [] xs h k = tt
 open-back (q ∷ qs) [] h k = absurd h
 open-back (q ∷ qs) (x ∷ xs) h k = (sym (fit-end q x h.0) ∙ k.0, open-back qs xs h.1 k.1)
-
--- ---- lines
-
-pub first-line-of : (line rest : List Lexeme) → EndsOnce ends_line line → token_lines (line ++ rest) ≡ line ∷ token_lines rest
-unfolding token_lines
-first-line-of [] rest h = absurd h
-first-line-of (x ∷ []) rest h = rw h
-first-line-of (x ∷ y ∷ ys) rest h = rw (h.0, first-line-of (y ∷ ys) rest h.1)

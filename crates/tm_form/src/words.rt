@@ -1,7 +1,7 @@
 // What the tokens of a line are read as.
 ghost use Rattle.std.specs.Prelude.{◌≡◌, ◌≤◌, ◌+◌, ◌-◌, Ok, Err, Some, IfOk, IfErr, length, All, take, drop, codes};
 ghost use Rattle.std.specs.List.{list_all};
-ghost use Rattle.tm_tmpl.specs.Readings as readings;
+ghost use Rattle.tm_form.specs.Readings as readings;
 
 use crate::{Kind, TmplFault, Want};
 use tm_base::read_number;

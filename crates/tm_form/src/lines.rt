@@ -1,6 +1,6 @@
 // The form of each statement, behind its first word.
 ghost use Rattle.std.specs.Prelude.{◌≡◌, ◌+◌, Ok, Err, IfOk, IfErr, All, drop, codes, ◌≤◌};
-ghost use Rattle.tm_tmpl.specs.Readings as readings;
+ghost use Rattle.tm_form.specs.Readings as readings;
 
 use crate::words::{Whom, asm_at, class_at, end_at, kind_at, name_at, number_at, whom_at};
 use crate::{Kind, Selector, SlotText, TmplFault};

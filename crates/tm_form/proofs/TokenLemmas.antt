@@ -11,14 +11,14 @@ use Rattle.tm_base.specs.declared.numbers.NumberFault.{NumberFault}
 use Rattle.tm_base.proofs.PrintLemmas.{decimal_reads_back}
 use Rattle.tm_lex.specs.declared.token.TokenKind.{TokenKind}
 use Rattle.tm_lex.specs.declared.token.TokenKind.TheVariants.{Word, Raw, LineEnd}
-use Rattle.tm_tmpl.specs.declared.template.Want.{Want}
-use Rattle.tm_tmpl.specs.declared.template.Want.TheVariants as want
-use Rattle.tm_tmpl.specs.declared.template.Kind.{Kind}
-use Rattle.tm_tmpl.specs.declared.template.Kind.TheVariants.{True, False, Own}
-use Rattle.tm_tmpl.specs.declared.words.Whom.{Whom}
-use Rattle.tm_tmpl.specs.declared.words.Whom.TheVariants as whose
-use Rattle.tm_tmpl.specs.Readings.{Lexeme, is_word, is_raw, is_line_end, keyword, is_name, name, small_number, number, kind, whom, asm, line_end}
-use Rattle.tm_tmpl.specs.Spelled.{Piece, fixed, a_name, a_number, asm_line, the_end, want_of, kind_word, Fits}
+use Rattle.tm_form.specs.declared.template.Want.{Want}
+use Rattle.tm_form.specs.declared.template.Want.TheVariants as want
+use Rattle.tm_form.specs.declared.template.Kind.{Kind}
+use Rattle.tm_form.specs.declared.template.Kind.TheVariants.{True, False, Own}
+use Rattle.tm_form.specs.declared.words.Whom.{Whom}
+use Rattle.tm_form.specs.declared.words.Whom.TheVariants as whose
+use Rattle.tm_form.specs.Readings.{Lexeme, is_word, is_raw, is_line_end, keyword, is_name, name, small_number, number, kind, whom, asm, line_end}
+use Rattle.tm_form.specs.Pieces.{Piece, fixed, a_name, a_number, asm_line, the_end, want_of, kind_word, Fits}
 
 -- a reader of one token, the pieces that it reads, and one that some token stands for
 pub record Reads (A : Type 0) (w : Want) (read : Lexeme → Option A) (piece : A → Piece) : Type 0 where

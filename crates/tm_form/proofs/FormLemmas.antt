@@ -1,13 +1,13 @@
 -- A statement's form reads exactly what stands for its pieces, and fails at the first token that doesn't.
 use Rattle.std.proofs.Common.{◌≡◌, false, List, [], ◌∷◌, ◌++◌, Option, None, Some, Ok, Err, refl, ap, subst, ◌∙◌}
 use Rattle.tm_base.specs.declared.Pos.{Pos}
-use Rattle.tm_tmpl.specs.declared.template.Want.{Want}
-use Rattle.tm_tmpl.specs.declared.template.TmplFault.{TmplFault}
-use Rattle.tm_tmpl.specs.declared.template.TmplFault.TheVariants.{Lex, Early, Expected, NoMemory}
-use Rattle.tm_tmpl.specs.Readings.{Lexeme, Reading, ◌>>=◌, fitting, one, Statement}
-use Rattle.tm_tmpl.specs.Spelled.{Piece, want_of, Fits, AreFit}
-use Rattle.tm_tmpl.proofs.PieceLemmas.{is_end, ends_line, IsOpen, fit-end}
-use Rattle.tm_tmpl.proofs.TokenLemmas.{Reads}
+use Rattle.tm_form.specs.declared.template.Want.{Want}
+use Rattle.tm_form.specs.declared.template.TmplFault.{TmplFault}
+use Rattle.tm_form.specs.declared.template.TmplFault.TheVariants.{Lex, Early, Expected, NoMemory}
+use Rattle.tm_form.specs.Readings.{Lexeme, Reading, ◌>>=◌, fitting, one, Statement}
+use Rattle.tm_form.specs.Pieces.{Piece, want_of, Fits, AreFit}
+use Rattle.tm_form.proofs.PieceLemmas.{is_end, ends_line, IsOpen, fit-end}
+use Rattle.tm_form.proofs.TokenLemmas.{Reads}
 
 -- what may stand behind tokens, in words of a language of pieces: something does, and each piece that may is called so and has a property
 pub record Stuck (Lang : List Piece → Type 0) (before : List Lexeme) (w : Want) (P : Piece → Type 0) : Type 0 where
