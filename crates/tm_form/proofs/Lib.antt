@@ -2,3 +2,4 @@ pub mod PieceLemmas
 pub mod TokenLemmas
 pub mod FormLemmas
 pub mod StatementLemmas
+pub mod Rows

@@ -6,7 +6,7 @@ use crate::words::{Whom, asm_at, class_at, end_at, kind_at, name_at, number_at, 
 use crate::{Kind, Selector, SlotText, TmplFault};
 use tm_lex::Token;
 
-/// The name behind `template`.
+/// The name behind `template`: 1 to 16 bytes.
 pub fn template_line<'a>(text: &'a [u8], line: &[Token]) -> Result<&'a [u8], TmplFault>
     requires { All (readings.IsSpan text.now) line.now }
     ensures ok { IfOk result (λ name. readings.template_line (readings.lexemes text.now (drop 1 line.now)) ≡ Ok (readings.template name.now, readings.lexemes text.now (drop 3 line.now))) }
@@ -17,7 +17,7 @@ pub fn template_line<'a>(text: &'a [u8], line: &[Token]) -> Result<&'a [u8], Tmp
     Ok(name)
 }
 
-/// The number behind `passes`.
+/// The number behind `passes`, as it is written.
 pub fn passes_line(text: &[u8], line: &[Token]) -> Result<u32, TmplFault>
     requires { All (readings.IsSpan text.now) line.now }
     ensures ok { IfOk result (λ n. readings.passes_line (readings.lexemes text.now (drop 1 line.now)) ≡ Ok (readings.passes n, readings.lexemes text.now (drop 3 line.now))) }
@@ -26,7 +26,7 @@ pub fn passes_line(text: &[u8], line: &[Token]) -> Result<u32, TmplFault>
     last_number(text, line, 1)
 }
 
-/// The number, kind and lines of a window.
+/// The number, the kind and the lines of a window, as they are written.
 pub fn window_line(text: &[u8], line: &[Token]) -> Result<(u32, Kind, u32), TmplFault>
     requires { All (readings.IsSpan text.now) line.now }
     ensures ok { IfOk result (λ w. readings.window_line (readings.lexemes text.now (drop 1 line.now)) ≡ Ok (readings.window w.0 w.1 w.2, readings.lexemes text.now (drop 5 line.now))) }
@@ -38,7 +38,7 @@ pub fn window_line(text: &[u8], line: &[Token]) -> Result<(u32, Kind, u32), Tmpl
     Ok((number, kind, lines))
 }
 
-/// The name behind `case`.
+/// The name behind `case`: 1 to 16 bytes.
 pub fn case_line<'a>(text: &'a [u8], line: &[Token]) -> Result<&'a [u8], TmplFault>
     requires { All (readings.IsSpan text.now) line.now }
     ensures ok { IfOk result (λ name. readings.case_line (readings.lexemes text.now (drop 1 line.now)) ≡ Ok (readings.case_of name.now, readings.lexemes text.now (drop 3 line.now))) }
@@ -49,7 +49,7 @@ pub fn case_line<'a>(text: &'a [u8], line: &[Token]) -> Result<&'a [u8], TmplFau
     Ok(name)
 }
 
-/// Whom a body is for.
+/// Whom the body is for, behind `body`.
 pub fn body_line(text: &[u8], line: &[Token]) -> Result<Selector, TmplFault>
     requires { All (readings.IsSpan text.now) line.now }
     ensures ok { IfOk result (λ whom. readings.body_line (readings.lexemes text.now (drop 1 line.now)) ≡ Ok (readings.body whom, readings.lexemes text.now (drop (readings.body_len whom) line.now))) }
@@ -66,7 +66,7 @@ pub fn body_line(text: &[u8], line: &[Token]) -> Result<Selector, TmplFault>
     }
 }
 
-/// The assembler line behind `emit`.
+/// The assembler line behind `emit`: the raw token, not read further.
 pub fn emit_line<'a>(text: &'a [u8], line: &[Token]) -> Result<&'a [u8], TmplFault>
     requires { All (readings.IsSpan text.now) line.now }
     ensures ok { IfOk result (λ asm. readings.emit_line (readings.lexemes text.now (drop 1 line.now)) ≡ Ok (readings.slot (SlotText.Emit asm.now), readings.lexemes text.now (drop 3 line.now))) }
@@ -77,7 +77,7 @@ pub fn emit_line<'a>(text: &'a [u8], line: &[Token]) -> Result<&'a [u8], TmplFau
     Ok(asm)
 }
 
-/// The number of slots and the weights behind `mix`.
+/// The number of slots and the weights behind `mix`, as they are written.
 pub fn mix_line(text: &[u8], line: &[Token]) -> Result<SlotText, TmplFault>
     requires { All (readings.IsSpan text.now) line.now }
     ensures ok { IfOk result (λ mix. readings.mix_line (readings.lexemes text.now (drop 1 line.now)) ≡ Ok (readings.slot mix, readings.lexemes text.now (drop 11 line.now))) }
