@@ -1,8 +1,8 @@
 -- Worked rows of pieces and of the tokens that stand for them, computed.
-use Rattle.std.proofs.Common.{◌≡◌, true, false, [], ◌∷◌, codes, refl, arith}
+use Rattle.std.proofs.Common.{◌≡◌, false, [], ◌∷◌, codes, refl, arith}
 use Rattle.tm_base.specs.Numbers.{number_of, place_value, value_of, reading_at, digits_reading}
 use Rattle.tm_base.specs.declared.Pos.{Pos}
-use Rattle.tm_lex.specs.declared.token.TokenKind.TheVariants.{Word, Raw}
+use Rattle.tm_lex.specs.declared.token.TokenKind.TheVariants.{Word}
 use Rattle.tm_form.specs.declared.template.Want.TheVariants as want
 use Rattle.tm_form.specs.declared.template.Kind.TheVariants.{True}
 use Rattle.tm_form.specs.declared.template.Selector.TheVariants.{Hart}

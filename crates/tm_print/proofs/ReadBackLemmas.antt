@@ -9,10 +9,9 @@ use Rattle.std.proofs.lemmas.Grind.{common_steps}
 use Rattle.std.proofs.lemmas.List.Splits.{slice_split_at}
 use Rattle.tm_base.specs.Numbers.{number_of}
 use Rattle.tm_base.proofs.PrintLemmas.{decimal_reads_back}
-use Rattle.tm_lex.specs.declared.token.TokenKind.{TokenKind}
 use Rattle.tm_lex.specs.declared.token.TokenKind.TheVariants.{Word, Raw, LineEnd}
 use Rattle.tm_lex.specs.declared.token.Token.{Token}
-use Rattle.tm_lex.specs.Lexing.{Span, is_word, words, spans, line_fault, line_tokens, lines_reading, token_at, as_words, with_end}
+use Rattle.tm_lex.specs.Lexing.{is_word, words, spans, line_fault, line_tokens, lines_reading, token_at, as_words}
 use Rattle.tm_lex.specs.Tiling.{may_stand}
 use Rattle.tm_form.specs.declared.template.Kind.{Kind}
 use Rattle.tm_form.specs.declared.template.Kind.TheVariants.{True, False, Own}
@@ -79,9 +78,6 @@ record IsLexed (text : List ℕ) (n from : ℕ) (line : List ℕ) (ls : List Lex
   stands : list_all may_stand line ≡ true
   fine : line_fault n line ≡ None
   tokens : lexemes text (line_tokens n from line) ≡ ls ++ end_lexeme text n from (length line) ∷ []
-
-with_end_is : (m : ℕ) (p : TokenKind × Span) (ps : List (TokenKind × Span)) → with_end m (p ∷ ps) ≡ (p ∷ ps) ++ (LineEnd, (m, m)) ∷ []
-with_end_is m p ps = refl
 
 plain_lexed : (text pre post : List ℕ) (n from : ℕ) (w : List ℕ) (ws : List (List ℕ)) → ArePlain (w ∷ ws) → bytes_eq w (codes "emit") ≡ false
     → text ≡ pre ++ (spaced (w ∷ ws) ++ post) → from ≡ length pre → IsLexed text n from (spaced (w ∷ ws)) (word_lexemes n from 0 (w ∷ ws))

@@ -140,10 +140,6 @@ pub more-more : (s : At) (ss : List At) (r : Result (List At) TmplFault) → mor
 more-more s ss (Ok more) = refl
 more-more s ss (Err e) = refl
 
-pub more-none : (r : Result (List At) TmplFault) → more_all [] r ≡ r
-more-none (Ok ss) = refl
-more-none (Err e) = refl
-
 pub more-all-more-all : (ss us : List At) (r : Result (List At) TmplFault) → more_all ss (more_all us r) ≡ more_all (ss ++ us) r
 more-all-more-all ss us (Ok more) = ap Ok (sym (append_assoc ss us more))
 more-all-more-all ss us (Err e) = refl
@@ -286,9 +282,3 @@ module _ {A : Type 0} (whole : Result (List At) TmplFault) (ats : A → List At)
   pub one-more : (xs new : List A) (x : A) (here next : Result (List At) TmplFault) → whole ≡ more_all (all xs) here → here ≡ more_all (ats x) next → new ≡ xs ++ x ∷ []
       → whole ≡ more_all (all new) next
   one-more xs new x here next same read pushed = same ∙ ap (more_all (all xs)) read ∙ more-all-more-all (all xs) (ats x) next ∙ ap (λ ss. more_all ss next) (sym (ap all pushed ∙ all_more xs x))
-
-  pub no-more-parts : (xs : List A) (here next : Result (List At) TmplFault) → whole ≡ more_all (all xs) here → here ≡ next → whole ≡ more_all (all xs) next
-  no-more-parts xs here next same read = same ∙ ap (more_all (all xs)) read
-
-  pub fault-in-part : (xs : List A) (here : Result (List At) TmplFault) (e : TmplFault) → whole ≡ more_all (all xs) here → here ≡ Err e → whole ≡ Err e
-  fault-in-part xs here e same read = same ∙ ap (more_all (all xs)) read
