@@ -12,10 +12,10 @@ use Rattle.tm_plan.specs.declared.admitted.Slot.{Slot}
 use Rattle.tm_plan.specs.declared.admitted.Slot.TheVariants as slot
 use Rattle.tm_place.specs.Ruled.{IsRuledEmit, IsRuledSlot, AreRuledSlots, IsRuledCase, IsRuledWindow, IsRuled}
 use Rattle.tm_place.proofs.AllowedLemmas.{Shown}
-use Rattle.tm_tmpl.specs.declared.template.BodyDecl.{BodyDecl}
-use Rattle.tm_tmpl.specs.declared.template.CaseDecl.{CaseDecl}
-use Rattle.tm_tmpl.specs.declared.template.WindowDecl.{WindowDecl}
-use Rattle.tm_tmpl.specs.declared.template.Template.{Template}
+use Rattle.tm_form.specs.declared.template.BodyDecl.{BodyDecl}
+use Rattle.tm_form.specs.declared.template.CaseDecl.{CaseDecl}
+use Rattle.tm_form.specs.declared.template.WindowDecl.{WindowDecl}
+use Rattle.tm_form.specs.declared.template.Template.{Template}
 use Rattle.tm_topo.specs.declared.system.Topology.{Topology}
 use Rattle.tm_checks.specs.Teams.{IsSystem, harts_of, in_team}
 use Rattle.tm_checks.specs.Slots.{first}

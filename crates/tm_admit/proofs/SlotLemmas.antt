@@ -10,11 +10,11 @@ use Rattle.tm_place.specs.Sharing.{Sharing}
 use Rattle.tm_place.specs.Ruled.{IsRuledSlot}
 use Rattle.tm_place.proofs.AllowedLemmas.{Shown}
 use Rattle.tm_place.proofs.PartLemmas.{line_size-cases, part_size-some}
-use Rattle.tm_tmpl.specs.declared.template.SlotText.{SlotText}
-use Rattle.tm_tmpl.specs.declared.template.SlotText.TheVariants as said
-use Rattle.tm_tmpl.specs.declared.template.SlotDecl.{SlotDecl}
-use Rattle.tm_tmpl.specs.declared.template.WindowDecl.{WindowDecl}
-use Rattle.tm_tmpl.specs.declared.template.Selector.{Selector}
+use Rattle.tm_form.specs.declared.template.SlotText.{SlotText}
+use Rattle.tm_form.specs.declared.template.SlotText.TheVariants as said
+use Rattle.tm_form.specs.declared.template.SlotDecl.{SlotDecl}
+use Rattle.tm_form.specs.declared.template.WindowDecl.{WindowDecl}
+use Rattle.tm_form.specs.declared.template.Selector.{Selector}
 use Rattle.tm_topo.specs.declared.system.Topology.{Topology}
 use Rattle.tm_checks.specs.Teams.{IsSystem, harts_of, in_team}
 use Rattle.tm_checks.proofs.Ruling.{emit-ruled, mix-ruled}

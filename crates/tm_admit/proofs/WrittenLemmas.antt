@@ -4,7 +4,7 @@ use Rattle.std.specs.Prelude.{flat_map}
 use Rattle.std.proofs.lemmas.List.{take_more, map-append, append-nil}
 use Rattle.std.proofs.lemmas.Grind.{flat_map-append}
 use Rattle.tm_plan.specs.Collected.{count_from}
-use Rattle.tm_tmpl.specs.declared.template.SlotDecl.{SlotDecl}
+use Rattle.tm_form.specs.declared.template.SlotDecl.{SlotDecl}
 use Rattle.tm_admit.specs.Admitting.{slots_of, written_out}
 
 -- the elements before the next place, and the one there

@@ -10,12 +10,12 @@ use Rattle.tm_plan.specs.declared.admitted.Slot.TheVariants as slot
 use Rattle.tm_plan.specs.declared.admitted.AdmittedCase.{AdmittedCase}
 use Rattle.tm_plan.specs.declared.admitted.Admitted.{Admitted}
 use Rattle.tm_place.specs.Numbers.{part_size}
-use Rattle.tm_tmpl.specs.declared.template.SlotText.{SlotText}
-use Rattle.tm_tmpl.specs.declared.template.SlotText.TheVariants as said
-use Rattle.tm_tmpl.specs.declared.template.SlotDecl.{SlotDecl}
-use Rattle.tm_tmpl.specs.declared.template.BodyDecl.{BodyDecl}
-use Rattle.tm_tmpl.specs.declared.template.CaseDecl.{CaseDecl}
-use Rattle.tm_tmpl.specs.declared.template.Template.{Template}
+use Rattle.tm_form.specs.declared.template.SlotText.{SlotText}
+use Rattle.tm_form.specs.declared.template.SlotText.TheVariants as said
+use Rattle.tm_form.specs.declared.template.SlotDecl.{SlotDecl}
+use Rattle.tm_form.specs.declared.template.BodyDecl.{BodyDecl}
+use Rattle.tm_form.specs.declared.template.CaseDecl.{CaseDecl}
+use Rattle.tm_form.specs.declared.template.Template.{Template}
 use Rattle.tm_topo.specs.declared.system.Topology.{Topology}
 use Rattle.tm_checks.specs.Teams.{harts_of, in_team}
 use Rattle.tm_rules.specs.Windows.{windows_of}

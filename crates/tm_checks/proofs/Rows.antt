@@ -3,7 +3,7 @@ use Rattle.std.proofs.Common.{◌≡◌, ℤ, pos, List, [], ◌∷◌, Option, 
 use Rattle.tm_table.specs.declared.instr.Op.TheVariants.{Sd}
 use Rattle.tm_table.specs.declared.instr.Instr.{Instr}
 use Rattle.tm_topo.specs.declared.system.Topology.{Topology}
-use Rattle.tm_tmpl.specs.declared.template.Selector.TheVariants.{Hart, Core}
+use Rattle.tm_form.specs.declared.template.Selector.TheVariants.{Hart, Core}
 use Rattle.tm_plan.specs.declared.cases.Window.{Window}
 use Rattle.tm_plan.specs.declared.cases.Kind2.TheVariants.{False}
 use Rattle.tm_plan.specs.Map.{window_at, windows_base}

@@ -3,7 +3,7 @@ use Rattle.std.specs.Prelude.{ℕ, ◌+◌, ◌<◌, ◌≤◌, ◌≡◌, ◌�
 use Rattle.tm_table.specs.declared.instr.Instr.{Instr}
 use Rattle.tm_asm.specs.Reading.{line_of}
 use Rattle.tm_topo.specs.declared.system.Topology.{Topology}
-use Rattle.tm_tmpl.specs.declared.template.Selector.{Selector}
+use Rattle.tm_form.specs.declared.template.Selector.{Selector}
 use Rattle.tm_plan.specs.declared.cases.Window.{Window}
 use Rattle.tm_place.specs.Sharing.{Sharing}
 use Rattle.tm_place.specs.Ruled.{IsRuledEmit}

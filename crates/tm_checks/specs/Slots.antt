@@ -5,7 +5,7 @@ use Rattle.tm_table.specs.declared.instr.Instr.{Instr}
 use Rattle.tm_asm.specs.declared.fault.AsmFault.{AsmFault}
 use Rattle.tm_asm.specs.Reading.{line_of}
 use Rattle.tm_topo.specs.declared.system.Topology.{Topology}
-use Rattle.tm_tmpl.specs.declared.template.Selector.{Selector}
+use Rattle.tm_form.specs.declared.template.Selector.{Selector}
 use Rattle.tm_plan.specs.declared.cases.Window.{Window}
 use Rattle.tm_plan.specs.Map.{window_at, within}
 use Rattle.tm_plan.specs.Slots.{is_access, is_barred, is_jump, load_width, store_width, slot_addr}

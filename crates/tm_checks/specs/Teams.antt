@@ -1,8 +1,8 @@
 -- Systems, their harts, and which of these a body is for (this project's own).
 use Rattle.std.specs.Prelude.{ℕ, ◌*◌, ◌/◌, ◌%◌, ◌≤◌, ◌==◌, Bool, true, IsTrue, List, filter}
 use Rattle.tm_topo.specs.declared.system.Topology.{Topology}
-use Rattle.tm_tmpl.specs.declared.template.Selector.{Selector}
-use Rattle.tm_tmpl.specs.declared.template.Selector.TheVariants.{All, Hart, Core, Thread}
+use Rattle.tm_form.specs.declared.template.Selector.{Selector}
+use Rattle.tm_form.specs.declared.template.Selector.TheVariants.{All, Hart, Core, Thread}
 use Rattle.tm_plan.specs.Collected.{count_from}
 use Rattle.tm_place.specs.Numbers.{is_line_size}
 

@@ -20,15 +20,15 @@ use Rattle.tm_plan.specs.declared.admitted.Admitted.{Admitted}
 use Rattle.tm_plan.specs.Slots.{is_access}
 use Rattle.tm_place.specs.Sharing.{Sharing}
 use Rattle.tm_place.specs.Ruled.{IsRuledEmit, IsRuledSlot, AreRuledSlots, IsRuledCase, IsRuled, sharing_in}
-use Rattle.tm_tmpl.specs.declared.template.Kind.{Kind}
-use Rattle.tm_tmpl.specs.declared.template.Kind.TheVariants as said_kind
-use Rattle.tm_tmpl.specs.declared.template.SlotText.{SlotText}
-use Rattle.tm_tmpl.specs.declared.template.SlotText.TheVariants as said
-use Rattle.tm_tmpl.specs.declared.template.SlotDecl.{SlotDecl}
-use Rattle.tm_tmpl.specs.declared.template.BodyDecl.{BodyDecl}
-use Rattle.tm_tmpl.specs.declared.template.CaseDecl.{CaseDecl}
-use Rattle.tm_tmpl.specs.declared.template.WindowDecl.{WindowDecl}
-use Rattle.tm_tmpl.specs.declared.template.Template.{Template}
+use Rattle.tm_form.specs.declared.template.Kind.{Kind}
+use Rattle.tm_form.specs.declared.template.Kind.TheVariants as said_kind
+use Rattle.tm_form.specs.declared.template.SlotText.{SlotText}
+use Rattle.tm_form.specs.declared.template.SlotText.TheVariants as said
+use Rattle.tm_form.specs.declared.template.SlotDecl.{SlotDecl}
+use Rattle.tm_form.specs.declared.template.BodyDecl.{BodyDecl}
+use Rattle.tm_form.specs.declared.template.CaseDecl.{CaseDecl}
+use Rattle.tm_form.specs.declared.template.WindowDecl.{WindowDecl}
+use Rattle.tm_form.specs.declared.template.Template.{Template}
 use Rattle.tm_topo.specs.declared.system.Topology.{Topology}
 use Rattle.tm_checks.specs.Teams.{harts_of, in_team}
 use Rattle.tm_rules.specs.Windows.{windows_of, window_of}

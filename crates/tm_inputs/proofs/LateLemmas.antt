@@ -2,8 +2,8 @@
 use Rattle.std.proofs.Common.{◌≡◌, ◌≤◌, Bool, true, false, List, [], ◌∷◌, ◌++◌, length, take, drop, get_or, ◌-◌, Option, Some, None, refl, sym, ap, ◌∙◌, arith}
 use Rattle.std.proofs.Math.Seq.{take-length}
 use Rattle.tm_base.specs.declared.Pos.{Pos}
-use Rattle.tm_tmpl.specs.declared.template.BodyDecl.{BodyDecl}
-use Rattle.tm_tmpl.specs.declared.template.CaseDecl.{CaseDecl}
+use Rattle.tm_form.specs.declared.template.BodyDecl.{BodyDecl}
+use Rattle.tm_form.specs.declared.template.CaseDecl.{CaseDecl}
 use Rattle.tm_inputs.specs.Late.{Mark, or_later, first_late, slot_marks, body_marks, case_marks}
 
 -- the first place, where there is one, else the second

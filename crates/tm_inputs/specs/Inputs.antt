@@ -6,9 +6,9 @@ use Rattle.tm_topo.specs.declared.system.Topology.{Topology}
 use Rattle.tm_topo.specs.declared.system.TopoFault.{TopoFault}
 use Rattle.tm_topo.specs.declared.system.TopoFault.TheVariants as topo_fault
 use Rattle.tm_topo.specs.Reading.{topology_of}
-use Rattle.tm_tmpl.specs.declared.template.Template.{Template}
-use Rattle.tm_tmpl.specs.declared.template.TmplFault.{TmplFault}
-use Rattle.tm_tmpl.specs.declared.template.TmplFault.TheVariants as tmpl_fault
+use Rattle.tm_form.specs.declared.template.Template.{Template}
+use Rattle.tm_form.specs.declared.template.TmplFault.{TmplFault}
+use Rattle.tm_form.specs.declared.template.TmplFault.TheVariants as tmpl_fault
 use Rattle.tm_tmpl.specs.Grammar.{template_of}
 use Rattle.tm_plan.specs.declared.admitted.Admitted.{Admitted}
 use Rattle.tm_rules.specs.declared.fault.RuleAt.{RuleAt}

@@ -4,15 +4,15 @@ use Rattle.tm_base.specs.declared.Pos.{Pos}
 use Rattle.tm_table.specs.declared.instr.Instr.{Instr}
 use Rattle.tm_asm.specs.declared.fault.AsmFault.{AsmFault}
 use Rattle.tm_asm.specs.Reading.{line_of}
-use Rattle.tm_tmpl.specs.declared.template.Kind.{Kind}
-use Rattle.tm_tmpl.specs.declared.template.Kind.TheVariants.{True, False, Own}
-use Rattle.tm_tmpl.specs.declared.template.SlotText.{SlotText}
-use Rattle.tm_tmpl.specs.declared.template.SlotText.TheVariants.{Emit, Mix}
-use Rattle.tm_tmpl.specs.declared.template.SlotDecl.{SlotDecl}
-use Rattle.tm_tmpl.specs.declared.template.BodyDecl.{BodyDecl}
-use Rattle.tm_tmpl.specs.declared.template.CaseDecl.{CaseDecl}
-use Rattle.tm_tmpl.specs.declared.template.WindowDecl.{WindowDecl}
-use Rattle.tm_tmpl.specs.declared.template.Template.{Template}
+use Rattle.tm_form.specs.declared.template.Kind.{Kind}
+use Rattle.tm_form.specs.declared.template.Kind.TheVariants.{True, False, Own}
+use Rattle.tm_form.specs.declared.template.SlotText.{SlotText}
+use Rattle.tm_form.specs.declared.template.SlotText.TheVariants.{Emit, Mix}
+use Rattle.tm_form.specs.declared.template.SlotDecl.{SlotDecl}
+use Rattle.tm_form.specs.declared.template.BodyDecl.{BodyDecl}
+use Rattle.tm_form.specs.declared.template.CaseDecl.{CaseDecl}
+use Rattle.tm_form.specs.declared.template.WindowDecl.{WindowDecl}
+use Rattle.tm_form.specs.declared.template.Template.{Template}
 use Rattle.tm_inputs.specs.Built.{is_built}
 
 -- A statement: where its first word stands, and whether it is built yet (this project).

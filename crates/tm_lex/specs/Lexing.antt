@@ -1,4 +1,4 @@
--- The tokens of a text, line by line.
+-- The tokens of a text, line by line. All of this is this project's own.
 use Rattle.std.specs.Prelude.{ℕ, ◌≡◌, ◌≤◌, ◌<◌, ◌+◌, ◌-◌, ◌==◌, Bool, ◌&&◌, ◌||◌, not, nat_le, nat_lt, if◌then◌else◌, List, [], ◌∷◌, ◌++◌, length, take, drop, map, find, position, Option, Some, None, option_map, Result, Ok, Err, codes, slice_index}
 use Rattle.std.specs.List.{before_first, prefix_len, suffix_len, slice_split}
 use Rattle.std.specs.Str.{bytes_eq}
@@ -51,6 +51,7 @@ with_kinds bs (s ∷ rest) =
     if bytes_eq (text_of bs s) (codes "emit") then (Word, s) ∷ map (λ r. (Raw, r)) (trimmed s.1 (drop s.1 bs))
     else (Word, s) ∷ map (λ r. (Word, r)) rest
 
+-- the spans of a line without its comment, with their kinds
 unfoldable pub spans : List ℕ → List (TokenKind × Span)
 spans bs = with_kinds bs (words 0 bs)
 
@@ -67,6 +68,7 @@ token_at number from s = record { kind = s.0; at = record { line = number; col =
 abbrev pub bad_byte : List ℕ → Option ℕ
 bad_byte bs = position (λ b. not (is_word b || is_separator b)) bs
 
+-- where the first part of more than 64 bytes begins
 abbrev pub long_part : List (TokenKind × Span) → Option ℕ
 long_part ss = option_map (λ s. s.1.0) (find (λ s. nat_lt (s.1.0 + 64) s.1.1) ss)
 
@@ -79,9 +81,11 @@ first_fault number bs (Some p) (Some q) =
     if nat_lt q p then Some (LongWord (record { line = number; col = q + 1 }))
     else Some (BadByte (record { line = number; col = p + 1 }) (slice_index bs p))
 
+-- a line's first fault
 unfoldable pub line_fault : ℕ → List ℕ → Option LexFault
 line_fault number line = first_fault number (content line) (bad_byte (content line)) (long_part (spans (content line)))
 
+-- a line's tokens, with its number and its place in the text
 unfoldable pub line_tokens : ℕ → ℕ → List ℕ → List Token
 line_tokens number from line = map (token_at number from) (with_end (length line) (spans (content line)))
 
@@ -90,6 +94,7 @@ abbrev pub before : List Token → Result (List Token) LexFault → Result (List
 before ts (Ok more) = Ok (ts ++ more)
 before ts (Err e) = Err e
 
+-- what follows a line, unless the line has a fault
 abbrev pub unless_fault : Option LexFault → Result (List Token) LexFault → Result (List Token) LexFault
 unless_fault (Some e) r = Err e
 unless_fault None r = r
@@ -118,5 +123,6 @@ as_list (Some s) = s ∷ []
 abbrev pub as_words : List Span → List (TokenKind × Span)
 as_words ss = map (λ r. (Word, r)) ss
 
+-- spans as raw parts
 abbrev pub as_raw : List Span → List (TokenKind × Span)
 as_raw ss = map (λ r. (Raw, r)) ss

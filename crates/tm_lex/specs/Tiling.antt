@@ -13,6 +13,7 @@ use Rattle.tm_lex.specs.Lexing.{Span, is_word, is_separator, content, text_of, w
 abbrev pub may_stand : ℕ → Bool
 may_stand b = is_word b || is_separator b
 
+-- bytes that do not begin with a byte of a word
 abbrev pub begins_no_word : List ℕ → Bool
 begins_no_word [] = true
 begins_no_word (b ∷ bs) = not (is_word b)
@@ -55,6 +56,7 @@ AreKinds bs (s ∷ ss) ps =
     (text_of bs s ≢ codes "emit" → ps ≡ as_words (s ∷ ss))
     × (text_of bs s ≡ codes "emit" → (raw : List Span) × RawAt raw s.1 (drop s.1 bs) × (ps ≡ (Word, s) ∷ as_raw raw))
 
+-- the parts of a line without its comment: some spans are its words, and the parts are of their kinds
 abbrev pub AreParts : List ℕ → List (TokenKind × Span) → Type 0
 AreParts bs ps = (ss : List Span) × WordsAt ss 0 bs × AreKinds bs ss ps
 
@@ -62,6 +64,7 @@ AreParts bs ps = (ss : List Span) × WordsAt ss 0 bs × AreKinds bs ss ps
 abbrev pub is_bad_at : List ℕ → ℕ → Bool
 is_bad_at bs p = nat_lt p (length bs) && not (may_stand (slice_index bs p))
 
+-- a part of more than 64 bytes begins at a place
 abbrev pub is_long_at : List (TokenKind × Span) → ℕ → Bool
 is_long_at ps p = list_any (λ s. s.1.0 == p && nat_lt (s.1.0 + 64) s.1.1) ps
 
@@ -109,5 +112,6 @@ AreInOrder i n (t ∷ ts) = (i ≤ t.from) × (t.from ≤ t.to) × AreInOrder t.
 unfoldable pub AreTokens : List ℕ → List Token → Type 0
 AreTokens text ts = HaveTokens 1 0 (lines_of text) ts
 
+-- the first fault of a text
 unfoldable pub IsFirstFault : List ℕ → LexFault → Type 0
 IsFirstFault text e = HaveFault 1 (lines_of text) e

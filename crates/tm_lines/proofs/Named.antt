@@ -4,8 +4,8 @@ use Rattle.tm_lex.specs.declared.token.LexFault.{LexFault}
 use Rattle.tm_lex.specs.declared.token.LexFault.TheVariants as lex
 use Rattle.tm_topo.specs.declared.system.TopoFault.{TopoFault}
 use Rattle.tm_topo.specs.declared.system.TopoFault.TheVariants as topo
-use Rattle.tm_tmpl.specs.declared.template.TmplFault.{TmplFault}
-use Rattle.tm_tmpl.specs.declared.template.TmplFault.TheVariants as tmpl
+use Rattle.tm_form.specs.declared.template.TmplFault.{TmplFault}
+use Rattle.tm_form.specs.declared.template.TmplFault.TheVariants as tmpl
 use Rattle.tm_elf_head.specs.declared.fault.ElfFault.{ElfFault}
 use Rattle.tm_elf_head.specs.declared.fault.ElfFault.TheVariants as elf
 use Rattle.tm_inputs.specs.declared.fault.InputFault.{InputFault}

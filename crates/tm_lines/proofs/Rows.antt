@@ -13,8 +13,8 @@ use Rattle.tm_asm.specs.declared.fault.AsmFault.TheVariants as asm
 use Rattle.tm_topo.specs.declared.system.TopoFault.TheVariants as topo
 use Rattle.tm_topo.specs.declared.system.TopoKey.TheVariants as key
 use Rattle.tm_lex.specs.declared.token.LexFault.TheVariants as lex
-use Rattle.tm_tmpl.specs.declared.template.TmplFault.TheVariants as tmpl
-use Rattle.tm_tmpl.specs.declared.template.Want.TheVariants as want
+use Rattle.tm_form.specs.declared.template.TmplFault.TheVariants as tmpl
+use Rattle.tm_form.specs.declared.template.Want.TheVariants as want
 use Rattle.tm_table.specs.declared.instr.Op.TheVariants as op
 use Rattle.tm_checks.specs.declared.fault.RuleFault.TheVariants as rule
 use Rattle.tm_lines.specs.Inputs.{with_value, pos_text, shown_key, signed_text, input_text, addr_text}

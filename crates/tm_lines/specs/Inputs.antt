@@ -12,10 +12,10 @@ use Rattle.tm_topo.specs.declared.system.TopoKey.{TopoKey}
 use Rattle.tm_topo.specs.declared.system.TopoFault.{TopoFault}
 use Rattle.tm_topo.specs.declared.system.TopoFault.TheVariants as topo
 use Rattle.tm_topo.specs.Reading.{key_text}
-use Rattle.tm_tmpl.specs.declared.template.Want.{Want}
-use Rattle.tm_tmpl.specs.declared.template.Want.TheVariants as want
-use Rattle.tm_tmpl.specs.declared.template.TmplFault.{TmplFault}
-use Rattle.tm_tmpl.specs.declared.template.TmplFault.TheVariants as tmpl
+use Rattle.tm_form.specs.declared.template.Want.{Want}
+use Rattle.tm_form.specs.declared.template.Want.TheVariants as want
+use Rattle.tm_form.specs.declared.template.TmplFault.{TmplFault}
+use Rattle.tm_form.specs.declared.template.TmplFault.TheVariants as tmpl
 use Rattle.tm_checks.specs.declared.fault.RuleFault.{RuleFault}
 use Rattle.tm_checks.specs.declared.fault.RuleFault.TheVariants as rule
 use Rattle.tm_rules.specs.declared.fault.RuleAt.{RuleAt}

@@ -12,7 +12,7 @@ use Rattle.tm_table.specs.declared.table.Layout.TheVariants.{R, I, S, B, U, J, S
 use Rattle.tm_table.specs.Table.{row_of}
 use Rattle.tm_table.specs.Words.{low, Fits, FitsAs}
 use Rattle.tm_topo.specs.declared.system.Topology.{Topology}
-use Rattle.tm_tmpl.specs.declared.template.Selector.{Selector}
+use Rattle.tm_form.specs.declared.template.Selector.{Selector}
 use Rattle.tm_plan.specs.declared.cases.Window.{Window}
 use Rattle.tm_plan.specs.Map.{window_at, within}
 use Rattle.tm_plan.specs.Slots.{is_access, is_jump, load_width, store_width, slot_addr, slot_target}

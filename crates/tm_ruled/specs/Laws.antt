@@ -1,7 +1,7 @@
 -- The rules of a slot refuse nothing else than what their definitions say in the words of placement (this project's own).
 use Rattle.std.specs.Prelude.{ℕ, ◌<◌, ◌≤◌, ◌≡◌, IsTrue, List, None}
 use Rattle.tm_topo.specs.declared.system.Topology.{Topology}
-use Rattle.tm_tmpl.specs.declared.template.Selector.{Selector}
+use Rattle.tm_form.specs.declared.template.Selector.{Selector}
 use Rattle.tm_place.specs.declared.placement.Placement.{Placement}
 use Rattle.tm_place.specs.Placed.{sharing_of}
 use Rattle.tm_checks.specs.Teams.{harts_of, in_team}

@@ -1,7 +1,7 @@
 -- The slots that statements stand for.
 use Rattle.std.proofs.Common.{◌≡◌, ◌+◌, ◌<◌, ◌≤◌, ◌^◌, ◌-◌, min, ℕ, List, [], ◌∷◌, ◌++◌, length, get_or, take, drop, refl, sym, ap, ◌∙◌, arith}
 use Rattle.std.proofs.lemmas.List.{take_more, take-append-drop}
-use Rattle.tm_tmpl.specs.declared.template.SlotDecl.{SlotDecl}
+use Rattle.tm_form.specs.declared.template.SlotDecl.{SlotDecl}
 use Rattle.tm_rules.specs.Rules.{slots_in, total_slots, slot_count}
 
 total-append : (xs ys : List SlotDecl) → total_slots (xs ++ ys) ≡ total_slots xs + total_slots ys

@@ -3,11 +3,11 @@ use Rattle.std.proofs.Common.{◌≡◌, ◌+◌, ◌<◌, ℕ, List, [], ◌∷
 use Rattle.tm_checks.specs.declared.fault.RuleFault.{RuleFault}
 use Rattle.tm_checks.specs.Slots.{first}
 use Rattle.tm_plan.specs.declared.cases.Window.{Window}
-use Rattle.tm_tmpl.specs.declared.template.WindowDecl.{WindowDecl}
-use Rattle.tm_tmpl.specs.declared.template.SlotDecl.{SlotDecl}
-use Rattle.tm_tmpl.specs.declared.template.BodyDecl.{BodyDecl}
-use Rattle.tm_tmpl.specs.declared.template.CaseDecl.{CaseDecl}
-use Rattle.tm_tmpl.specs.declared.template.Selector.{Selector}
+use Rattle.tm_form.specs.declared.template.WindowDecl.{WindowDecl}
+use Rattle.tm_form.specs.declared.template.SlotDecl.{SlotDecl}
+use Rattle.tm_form.specs.declared.template.BodyDecl.{BodyDecl}
+use Rattle.tm_form.specs.declared.template.CaseDecl.{CaseDecl}
+use Rattle.tm_form.specs.declared.template.Selector.{Selector}
 use Rattle.tm_topo.specs.declared.system.Topology.{Topology}
 use Rattle.tm_rules.specs.Rules.{first_of, in_turn, window_rules, window_checks, total_slots, slot_count, slot_fault, slot_checks, body_rules, body_checks, case_rules, case_checks}
 use Rattle.tm_rules.proofs.TurnLemmas.{rest_of, rest-more, rest-broken}

@@ -6,17 +6,17 @@ use Rattle.std.specs.Str.{bytes_eq}
 use Rattle.tm_base.specs.declared.Pos.{Pos}
 use Rattle.tm_plan.specs.declared.cases.Window.{Window}
 use Rattle.tm_place.specs.Numbers.{part_size}
-use Rattle.tm_tmpl.specs.declared.template.Kind.{Kind}
-use Rattle.tm_tmpl.specs.declared.template.Kind.TheVariants.{True, False, Own}
-use Rattle.tm_tmpl.specs.declared.template.SlotText.{SlotText}
-use Rattle.tm_tmpl.specs.declared.template.SlotText.TheVariants.{Emit, Mix}
-use Rattle.tm_tmpl.specs.declared.template.SlotDecl.{SlotDecl}
-use Rattle.tm_tmpl.specs.declared.template.Selector.{Selector}
-use Rattle.tm_tmpl.specs.declared.template.Selector.TheVariants as whose
-use Rattle.tm_tmpl.specs.declared.template.BodyDecl.{BodyDecl}
-use Rattle.tm_tmpl.specs.declared.template.CaseDecl.{CaseDecl}
-use Rattle.tm_tmpl.specs.declared.template.WindowDecl.{WindowDecl}
-use Rattle.tm_tmpl.specs.declared.template.Template.{Template}
+use Rattle.tm_form.specs.declared.template.Kind.{Kind}
+use Rattle.tm_form.specs.declared.template.Kind.TheVariants.{True, False, Own}
+use Rattle.tm_form.specs.declared.template.SlotText.{SlotText}
+use Rattle.tm_form.specs.declared.template.SlotText.TheVariants.{Emit, Mix}
+use Rattle.tm_form.specs.declared.template.SlotDecl.{SlotDecl}
+use Rattle.tm_form.specs.declared.template.Selector.{Selector}
+use Rattle.tm_form.specs.declared.template.Selector.TheVariants as whose
+use Rattle.tm_form.specs.declared.template.BodyDecl.{BodyDecl}
+use Rattle.tm_form.specs.declared.template.CaseDecl.{CaseDecl}
+use Rattle.tm_form.specs.declared.template.WindowDecl.{WindowDecl}
+use Rattle.tm_form.specs.declared.template.Template.{Template}
 use Rattle.tm_topo.specs.declared.system.Topology.{Topology}
 use Rattle.tm_checks.specs.declared.fault.RuleFault.{RuleFault}
 use Rattle.tm_checks.specs.declared.fault.RuleFault.TheVariants.{Cases, Passes, Slots, Lines, NoWindow, NoHart, TwiceBody, TwiceName}

@@ -1,8 +1,8 @@
 -- The windows that a template's statements declare. This project's own.
 use Rattle.std.specs.Prelude.{ℕ, ◌==◌, List, [], ◌∷◌, map, find, Option}
-use Rattle.tm_tmpl.specs.declared.template.Kind.{Kind}
-use Rattle.tm_tmpl.specs.declared.template.Kind.TheVariants as said
-use Rattle.tm_tmpl.specs.declared.template.WindowDecl.{WindowDecl}
+use Rattle.tm_form.specs.declared.template.Kind.{Kind}
+use Rattle.tm_form.specs.declared.template.Kind.TheVariants as said
+use Rattle.tm_form.specs.declared.template.WindowDecl.{WindowDecl}
 use Rattle.tm_plan.specs.declared.cases.Kind2.{Kind2}
 use Rattle.tm_plan.specs.declared.cases.Kind2.TheVariants as kind
 use Rattle.tm_plan.specs.declared.cases.Window.{Window}

@@ -1,10 +1,10 @@
 pub mod StepLemmas
 pub mod MadeLemmas
-pub mod PrintLemmas
-pub mod SpacedLemmas
-pub mod ReadBackLemmas
-pub mod BareLemmas
-pub mod SayableLemmas
+pub mod LineLemmas
+pub mod TextLemmas
+pub mod TreeLemmas
+pub mod LexemeLemmas
 pub mod RawLemmas
-pub mod EarlyLemmas
+pub mod WritableLemmas
+pub mod LawLemmas
 pub mod Rows

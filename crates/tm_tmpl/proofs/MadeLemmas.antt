@@ -3,12 +3,12 @@ use Rattle.std.proofs.Common.{◌≡◌, ◌≤◌, ℕ, zero, suc, List, [], �
 use Rattle.tm_base.specs.declared.Pos.{Pos}
 use Rattle.tm_lex.specs.declared.token.Token.{Token}
 use Rattle.tm_lex.specs.Tiling.{AreInOrder}
-use Rattle.tm_tmpl.specs.declared.template.SlotDecl.{SlotDecl}
-use Rattle.tm_tmpl.specs.declared.template.BodyDecl.{BodyDecl}
-use Rattle.tm_tmpl.specs.declared.template.CaseDecl.{CaseDecl}
-use Rattle.tm_tmpl.specs.declared.template.WindowDecl.{WindowDecl}
-use Rattle.tm_tmpl.specs.Readings.{IsSpan, template, passes}
-use Rattle.tm_tmpl.specs.Grammar.{At, Parts, put_all, no_parts, end_of}
+use Rattle.tm_form.specs.declared.template.SlotDecl.{SlotDecl}
+use Rattle.tm_form.specs.declared.template.BodyDecl.{BodyDecl}
+use Rattle.tm_form.specs.declared.template.CaseDecl.{CaseDecl}
+use Rattle.tm_form.specs.declared.template.WindowDecl.{WindowDecl}
+use Rattle.tm_form.specs.Readings.{IsSpan, template, passes, At}
+use Rattle.tm_tmpl.specs.Grammar.{Parts, put_all, no_parts, end_of}
 use Rattle.tm_tmpl.specs.Steps.{windows_at, slots_at, bodies_at, cases_at}
 
 put-slots : (ds : List SlotDecl) (ss : List At) (r : Parts)

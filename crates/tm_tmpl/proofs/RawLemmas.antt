@@ -14,8 +14,8 @@ use Rattle.tm_lex.specs.declared.token.TokenKind.TheVariants.{Word, LineEnd}
 use Rattle.tm_lex.specs.declared.token.Token.{Token}
 use Rattle.tm_lex.specs.Lexing.{Span, content, text_of, with_end, token_at, as_words, as_raw}
 use Rattle.tm_lex.specs.Tiling.{may_stand, WordsAt, RawAt, IsTrimmed, AreKinds, AreParts, IsFine, HaveTokens, AreTokens, lines_of}
-use Rattle.tm_tmpl.specs.Readings.{lexemes}
-use Rattle.tm_tmpl.specs.Printed.{IsAsm, HaveAsm}
+use Rattle.tm_form.specs.Readings.{lexemes}
+use Rattle.tm_tmpl.specs.Writable.{IsAsm, HaveAsm}
 
 -- ---- parts of lists
 

@@ -7,15 +7,15 @@ use Rattle.std.proofs.lemmas.Slice.Eq.{bytes_eq-Decides}
 use Rattle.std.proofs.lemmas.Grind.{common_steps}
 use Rattle.tm_lex.specs.declared.token.Token.{Token}
 use Rattle.tm_lex.specs.declared.token.TokenKind.TheVariants.{Word}
-use Rattle.tm_tmpl.specs.declared.template.Want.TheVariants as want
-use Rattle.tm_tmpl.specs.declared.template.TmplFault.{TmplFault}
-use Rattle.tm_tmpl.specs.declared.template.TmplFault.TheVariants.{Early, Expected}
-use Rattle.tm_tmpl.specs.Readings.{Lexeme, lexemes, is_line_end, Statement, Reading, template_line, passes_line, window_line, case_line, body_line, emit_line, mix_line}
-use Rattle.tm_tmpl.specs.Grammar.{Before, start, head, windows, cases, slots, At, token_lines, statements, choice, place_after, more, then_more, line_reading}
-use Rattle.tm_tmpl.specs.declared.template.SlotDecl.{SlotDecl}
-use Rattle.tm_tmpl.specs.declared.template.BodyDecl.{BodyDecl}
-use Rattle.tm_tmpl.specs.declared.template.CaseDecl.{CaseDecl}
-use Rattle.tm_tmpl.specs.declared.template.WindowDecl.{WindowDecl}
+use Rattle.tm_form.specs.declared.template.Want.TheVariants as want
+use Rattle.tm_form.specs.declared.template.TmplFault.{TmplFault}
+use Rattle.tm_form.specs.declared.template.TmplFault.TheVariants.{Early, Expected}
+use Rattle.tm_form.specs.Readings.{Lexeme, lexemes, is_line_end, Statement, Reading, template_line, passes_line, window_line, case_line, body_line, emit_line, mix_line, At}
+use Rattle.tm_tmpl.specs.Grammar.{Before, start, head, windows, cases, slots, token_lines, statements, choice, place_after, more, then_more, line_reading}
+use Rattle.tm_form.specs.declared.template.SlotDecl.{SlotDecl}
+use Rattle.tm_form.specs.declared.template.BodyDecl.{BodyDecl}
+use Rattle.tm_form.specs.declared.template.CaseDecl.{CaseDecl}
+use Rattle.tm_form.specs.declared.template.WindowDecl.{WindowDecl}
 use Rattle.tm_tmpl.specs.Steps.{line_len, opens_with, first_at, follows, case_next, body_next, more_all, windows_at, window_at, slots_at, slot_at, bodies_at, body_at, cases_at, case_at}
 
 -- the bytes of a token
@@ -139,10 +139,6 @@ more-one s (Err e) = refl
 pub more-more : (s : At) (ss : List At) (r : Result (List At) TmplFault) → more s (more_all ss r) ≡ more_all (s ∷ ss) r
 more-more s ss (Ok more) = refl
 more-more s ss (Err e) = refl
-
-pub more-none : (r : Result (List At) TmplFault) → more_all [] r ≡ r
-more-none (Ok ss) = refl
-more-none (Err e) = refl
 
 pub more-all-more-all : (ss us : List At) (r : Result (List At) TmplFault) → more_all ss (more_all us r) ≡ more_all (ss ++ us) r
 more-all-more-all ss us (Ok more) = ap Ok (sym (append_assoc ss us more))
@@ -286,9 +282,3 @@ module _ {A : Type 0} (whole : Result (List At) TmplFault) (ats : A → List At)
   pub one-more : (xs new : List A) (x : A) (here next : Result (List At) TmplFault) → whole ≡ more_all (all xs) here → here ≡ more_all (ats x) next → new ≡ xs ++ x ∷ []
       → whole ≡ more_all (all new) next
   one-more xs new x here next same read pushed = same ∙ ap (more_all (all xs)) read ∙ more-all-more-all (all xs) (ats x) next ∙ ap (λ ss. more_all ss next) (sym (ap all pushed ∙ all_more xs x))
-
-  pub no-more-parts : (xs : List A) (here next : Result (List At) TmplFault) → whole ≡ more_all (all xs) here → here ≡ next → whole ≡ more_all (all xs) next
-  no-more-parts xs here next same read = same ∙ ap (more_all (all xs)) read
-
-  pub fault-in-part : (xs : List A) (here : Result (List At) TmplFault) (e : TmplFault) → whole ≡ more_all (all xs) here → here ≡ Err e → whole ≡ Err e
-  fault-in-part xs here e same read = same ∙ ap (more_all (all xs)) read

@@ -1,4 +1,4 @@
-pub mod Readings
 pub mod Grammar
 pub mod Steps
-pub mod Printed
+pub mod Spelled
+pub mod Writable

@@ -5,15 +5,15 @@ use Rattle.std.specs.List.{prefix_len}
 use Rattle.std.specs.Str.{bytes_eq}
 use Rattle.tm_base.specs.declared.Pos.{Pos}
 use Rattle.tm_lex.specs.declared.token.Token.{Token}
-use Rattle.tm_tmpl.specs.Readings.{lexemes, is_line_end, window, case_of, body, slot}
-use Rattle.tm_tmpl.specs.Grammar.{Before, cases, At, token_lines, statements}
-use Rattle.tm_tmpl.specs.declared.template.Want.TheVariants as want
-use Rattle.tm_tmpl.specs.declared.template.TmplFault.{TmplFault}
-use Rattle.tm_tmpl.specs.declared.template.TmplFault.TheVariants.{Expected, NoMemory}
-use Rattle.tm_tmpl.specs.declared.template.SlotDecl.{SlotDecl}
-use Rattle.tm_tmpl.specs.declared.template.BodyDecl.{BodyDecl}
-use Rattle.tm_tmpl.specs.declared.template.CaseDecl.{CaseDecl}
-use Rattle.tm_tmpl.specs.declared.template.WindowDecl.{WindowDecl}
+use Rattle.tm_form.specs.Readings.{lexemes, is_line_end, window, case_of, body, slot, At}
+use Rattle.tm_tmpl.specs.Grammar.{Before, cases, token_lines, statements}
+use Rattle.tm_form.specs.declared.template.Want.TheVariants as want
+use Rattle.tm_form.specs.declared.template.TmplFault.{TmplFault}
+use Rattle.tm_form.specs.declared.template.TmplFault.TheVariants.{Expected, NoMemory}
+use Rattle.tm_form.specs.declared.template.SlotDecl.{SlotDecl}
+use Rattle.tm_form.specs.declared.template.BodyDecl.{BodyDecl}
+use Rattle.tm_form.specs.declared.template.CaseDecl.{CaseDecl}
+use Rattle.tm_form.specs.declared.template.WindowDecl.{WindowDecl}
 
 -- how many tokens the first line has, with its line end
 abbrev pub line_len : List Token → ℕ
@@ -38,6 +38,7 @@ abbrev pub unless_case : List Token → Result (List At) TmplFault
 unless_case [] = Ok []
 unless_case (t ∷ ts) = Err (Expected t.at want.Statement)
 
+-- the statements, where only a case may come next
 unfoldable pub case_next : List ℕ → List Token → Result (List At) TmplFault
 case_next text tokens = if opens_with text tokens (codes "case") then follows text tokens cases else unless_case tokens
 
@@ -54,27 +55,34 @@ more_all ss (Err e) = Err e
 abbrev pub window_at : WindowDecl → At
 window_at w = (w.at, window w.number w.kind w.lines)
 
+-- the statement of a slot
 abbrev pub slot_at : SlotDecl → At
 slot_at d = (d.at, slot d.what)
 
+-- the statements of slots
 abbrev pub slots_at : List SlotDecl → List At
 slots_at [] = []
 slots_at (d ∷ ds) = slot_at d ∷ slots_at ds
 
+-- the statements of a body: its own, and those of its slots
 abbrev pub body_at : BodyDecl → List At
 body_at b = (b.at, body b.whom) ∷ slots_at b.slots
 
+-- the statements of bodies
 abbrev pub bodies_at : List BodyDecl → List At
 bodies_at [] = []
 bodies_at (b ∷ bs) = body_at b ++ bodies_at bs
 
+-- the statements of a case: its own, and those of its bodies
 abbrev pub case_at : CaseDecl → List At
 case_at c = (c.at, case_of c.name) ∷ bodies_at c.bodies
 
+-- the statements of cases
 abbrev pub cases_at : List CaseDecl → List At
 cases_at [] = []
 cases_at (c ∷ cs) = case_at c ++ cases_at cs
 
+-- the statements of windows
 abbrev pub windows_at : List WindowDecl → List At
 windows_at [] = []
 windows_at (w ∷ ws) = window_at w ∷ windows_at ws
@@ -90,6 +98,7 @@ IsNext from ats next stop (Err e) = e ≢ NoMemory → from ≡ Err e
 abbrev pub AllAndLess : (Token → Type 0) → List Token → List Token → Type 0
 AllAndLess P tokens rest = All P rest × (length rest < length tokens)
 
+-- where a part was read, what is left lies within the text, and is less
 abbrev pub IsLeft : {A : Type 0} → (Token → Type 0) → List Token → Result (Option (A × Bor (List Token))) TmplFault → Type 0
 IsLeft P tokens (Ok (Some p)) = AllAndLess P tokens p.1.now
 IsLeft P tokens _ = Unit {0}

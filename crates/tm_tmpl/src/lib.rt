@@ -1,18 +1,12 @@
-//! Templates: what their texts say, and their printed form.
+//! Templates: what their texts say.
 #![tactic(auto)]
 
-mod lines;
+pub mod laws;
 mod parse;
-mod print;
 mod read;
-mod template;
-#[cfg(test)]
-mod tests;
 mod tokens;
-mod words;
 
 pub use parse::parse_template;
-pub use print::print_template;
-pub use template::{
+pub use tm_form::{
     BodyDecl, CaseDecl, Kind, Selector, SlotDecl, SlotText, Template, TmplFault, Want, WindowDecl,
 };

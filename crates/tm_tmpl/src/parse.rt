@@ -1,8 +1,9 @@
 ghost use Rattle.std.specs.Prelude.{◌≡◌, ◌≢◌, ◌^◌, ◌<◌, ◌≤◌, ◌+◌, ◌==◌, Ok, Err, IfOk, IfErr, All, length, count_by, not};
 ghost use Rattle.std.specs.List.{suffix_len};
-ghost use Rattle.tm_tmpl.specs.Readings as readings;
+ghost use Rattle.tm_form.specs.Readings as readings;
 ghost use Rattle.tm_tmpl.specs.Grammar as grammar;
-ghost use Rattle.tm_tmpl.specs.Printed as printed;
+ghost use Rattle.tm_tmpl.specs.Spelled as spelled;
+ghost use Rattle.tm_tmpl.specs.Writable.{IsWritable};
 ghost use Rattle.tm_tmpl.specs.Steps as steps;
 
 use crate::read::{read_cases, read_name, read_passes, read_windows};
@@ -17,7 +18,13 @@ pub fn parse_template(alloc: Global, text: &[u8]) -> Result<Template, TmplFault>
     requires { length text.now < 2 ^ 31 }
     ensures ok { IfOk result (λ t. grammar.template_of text.now ≡ Ok t) }
     ensures err { IfErr result (λ e. e ≢ TmplFault.NoMemory → grammar.template_of text.now ≡ Err e) }
-    ensures writable { IfOk result printed.IsWritable }
+
+    // Each token of the text stands for the next piece of the template, one for one; or the text leaves every template at the fault,
+    // and at no place before. A text that spells a template is read as it.
+    ensures spelled { IfOk result (λ t. spelled.IsSpelled text.now t) }
+    ensures left { IfErr result (λ e. spelled.IsFaultOf text.now e) }
+    ensures only { (t : Template) → spelled.IsSpelled text.now t → spelled.IsOrNoMemory t result }
+    ensures writable { IfOk result IsWritable }
     ensures stated { IfErr result grammar.IsStatedFault }
 {
     match tokens(alloc, text) {
@@ -29,7 +36,6 @@ pub fn parse_template(alloc: Global, text: &[u8]) -> Result<Template, TmplFault>
 // A fault of the tokens, as one of the template.
 fn of_tokens(fault: LexFault) -> TmplFault
     ensures cause { result ≢ TmplFault.NoMemory → (fault ≢ LexFault.NoMemory) × (result ≡ TmplFault.Lex fault) }
-    ensures stated { grammar.IsStatedFault result }
 {
     match fault {
         LexFault::BadByte { pos, byte } => TmplFault::Lex(LexFault::BadByte { pos, byte }),
@@ -41,11 +47,9 @@ fn of_tokens(fault: LexFault) -> TmplFault
 // The template of tokens.
 fn read_tokens(alloc: Global, text: &[u8], tokens: &[Token]) -> Result<Template, TmplFault>
     requires spans { All (readings.IsSpan text.now) tokens.now }
-    requires asm { printed.HaveAsm (readings.lexemes text.now tokens.now) }
     requires size { length text.now < 2 ^ 31 }
     ensures ok { IfOk result (λ t. grammar.made_of text.now (steps.follows text.now tokens.now grammar.start) ≡ Ok t) }
     ensures err { IfErr result (λ e. e ≢ TmplFault.NoMemory → grammar.made_of text.now (steps.follows text.now tokens.now grammar.start) ≡ Err e) }
-    ensures writable { IfOk result printed.IsWritable }
 {
     let (name, tokens) = read_name(alloc, text, tokens)?;
     let (passes, passes_at, tokens) = read_passes(text, tokens)?;

@@ -1,16 +1,14 @@
 // A template is read statement by statement, each part of it with the parts that it holds.
 ghost use Rattle.std.specs.Prelude.{◌≡◌, ◌≢◌, ◌≤◌, ◌<◌, ◌^◌, ◌∷◌, [], Ok, Err, Some, None, IfOk, IfErr, IfSome, OnOk, OnErr, All, length, codes};
-ghost use Rattle.tm_tmpl.specs.Readings as readings;
+ghost use Rattle.tm_form.specs.Readings as readings;
 ghost use Rattle.tm_tmpl.specs.Grammar as grammar;
 ghost use Rattle.tm_tmpl.specs.Steps as steps;
 
-use crate::lines::{
-    body_line, case_line, emit_line, mix_line, passes_line, template_line, window_line,
-};
 use crate::tokens::{line_len, opens};
 use crate::{BodyDecl, CaseDecl, Selector, SlotDecl, SlotText, TmplFault, Want, WindowDecl};
 use std::alloc::Global;
 use tm_base::{List, Pos, Text};
+use tm_form::{body_line, case_line, emit_line, mix_line, passes_line, template_line, window_line};
 use tm_lex::Token;
 
 // The name, and the tokens behind its line.

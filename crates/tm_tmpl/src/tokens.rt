@@ -1,7 +1,7 @@
 // The first line of the tokens that are left.
 ghost use Rattle.std.specs.Prelude.{◌≡◌, ◌≤◌, ◌<◌, ◌+◌, length, All, not, true};
 ghost use Rattle.std.specs.List.{prefix_len};
-ghost use Rattle.tm_tmpl.specs.Readings as readings;
+ghost use Rattle.tm_form.specs.Readings as readings;
 ghost use Rattle.tm_tmpl.specs.Steps as steps;
 
 use tm_lex::{Token, TokenKind};

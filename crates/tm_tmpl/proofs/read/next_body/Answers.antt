@@ -1,6 +1,6 @@
 use Rattle.std.proofs.Common.{◌∙◌, sym, ap, codes}
 use Rattle.std.proofs.lemmas.Result.{err_from_is_err_and}
-use Rattle.tm_tmpl.specs.Readings.{body_line}
+use Rattle.tm_form.specs.Readings.{body_line}
 use Rattle.tm_tmpl.specs.Grammar.{cases, more}
 use Rattle.tm_tmpl.proofs.StepLemmas.{line-ok, line-err, any_token, more-more, at-body, body-opens, no-body}
 use Rattle.tm_tmpl.proofs.read.next_body.Goals as goal

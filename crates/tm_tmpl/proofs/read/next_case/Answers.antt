@@ -1,6 +1,6 @@
 use Rattle.std.proofs.Common.{◌∙◌, ◌<◌, sym, ap, arith, codes, length}
 use Rattle.std.proofs.lemmas.Result.{err_from_is_err_and}
-use Rattle.tm_tmpl.specs.Readings.{case_line}
+use Rattle.tm_form.specs.Readings.{case_line}
 use Rattle.std.proofs.lemmas.Bool.Decides.{nat_tests}
 use Rattle.tm_tmpl.specs.Grammar.{cases, more}
 use Rattle.tm_tmpl.proofs.StepLemmas.{line-ok, line-err, first-place, any_token, more-more, at-case, case-opens, no-case, no-more, after-case}

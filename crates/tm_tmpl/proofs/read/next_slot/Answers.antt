@@ -1,6 +1,6 @@
 use Rattle.std.proofs.Common.{◌∙◌, sym, codes}
 use Rattle.std.proofs.lemmas.Result.{err_from_is_err_and}
-use Rattle.tm_tmpl.specs.Readings.{emit_line, mix_line}
+use Rattle.tm_form.specs.Readings.{emit_line, mix_line}
 use Rattle.tm_tmpl.specs.Grammar.{slots}
 use Rattle.tm_tmpl.proofs.StepLemmas.{line-ok, line-err, more-one, at-emit, at-mix, after-slots}
 use Rattle.tm_tmpl.proofs.read.next_slot.Goals as goal

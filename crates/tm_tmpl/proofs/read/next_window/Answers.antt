@@ -1,6 +1,6 @@
 use Rattle.std.proofs.Common.{◌∙◌, sym, codes}
 use Rattle.std.proofs.lemmas.Result.{err_from_is_err_and}
-use Rattle.tm_tmpl.specs.Readings.{window_line}
+use Rattle.tm_form.specs.Readings.{window_line}
 use Rattle.tm_tmpl.specs.Grammar.{windows}
 use Rattle.tm_tmpl.proofs.StepLemmas.{line-ok, line-err, more-one, at-window, no-window}
 use Rattle.tm_tmpl.proofs.read.next_window.Goals as goal

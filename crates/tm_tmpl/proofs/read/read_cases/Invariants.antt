@@ -1,5 +1,5 @@
 use Rattle.std.proofs.Common.{◌≡◌, ◌≤◌, All, length}
-use Rattle.tm_tmpl.specs.Readings.{IsSpan}
+use Rattle.tm_form.specs.Readings.{IsSpan}
 use Rattle.tm_tmpl.specs.Steps.{more_all, case_next, cases_at}
 use Rattle.tm_tmpl.proofs.read.read_cases.Given as goal
 

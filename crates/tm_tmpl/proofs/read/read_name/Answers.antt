@@ -1,7 +1,7 @@
 use Rattle.std.proofs.Common.{◌∙◌, ◌<◌, sym, arith, codes, length}
 use Rattle.std.proofs.lemmas.Result.{err_from_is_err_and}
 use Rattle.std.proofs.lemmas.Bool.Decides.{nat_tests}
-use Rattle.tm_tmpl.specs.Readings.{template_line}
+use Rattle.tm_form.specs.Readings.{template_line}
 use Rattle.tm_tmpl.specs.Grammar.{start}
 use Rattle.tm_tmpl.proofs.StepLemmas.{line-ok, line-err, first-place, any_token, at-template, no-template, nothing-at-start}
 use Rattle.tm_tmpl.proofs.read.read_name.Goals as goal

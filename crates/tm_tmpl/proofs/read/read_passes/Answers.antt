@@ -1,7 +1,7 @@
 use Rattle.std.proofs.Common.{◌∙◌, ◌<◌, sym, arith, codes, length}
 use Rattle.std.proofs.lemmas.Result.{err_from_is_err_and}
 use Rattle.std.proofs.lemmas.Bool.Decides.{nat_tests}
-use Rattle.tm_tmpl.specs.Readings.{passes_line}
+use Rattle.tm_form.specs.Readings.{passes_line}
 use Rattle.tm_tmpl.specs.Grammar.{head}
 use Rattle.tm_tmpl.proofs.StepLemmas.{line-ok, line-err, first-place, at-passes, no-passes, nothing-at-head}
 use Rattle.tm_tmpl.proofs.read.read_passes.Goals as goal

@@ -1,5 +1,5 @@
 use Rattle.std.proofs.Common.{◌≡◌, ◌≤◌, All, length}
-use Rattle.tm_tmpl.specs.Readings.{IsSpan}
+use Rattle.tm_form.specs.Readings.{IsSpan}
 use Rattle.tm_tmpl.specs.Grammar.{windows}
 use Rattle.tm_tmpl.specs.Steps.{follows, more_all, windows_at}
 use Rattle.tm_tmpl.proofs.read.read_windows.Given as goal

@@ -1,0 +1,5 @@
+pub mod PieceLemmas
+pub mod TokenLemmas
+pub mod FormLemmas
+pub mod StatementLemmas
+pub mod Rows

@@ -1,0 +1,5 @@
+pub mod PrintLemmas
+pub mod SpacedLemmas
+pub mod ReadBackLemmas
+pub mod BareLemmas
+pub mod Rows
