@@ -1,5 +1,5 @@
 // Listings: of an image that was built, and of files that are refused.
-use crate::setting::{BUILD, TEMPLATE, TOPOLOGY, calls, filled, words_of};
+use crate::setting::{BUILD, TEMPLATE, TOPOLOGY, Told, calls, command, filled, words_of};
 use std::alloc::Global;
 use std::test::Fail;
 use tm_base::{Bytes, NoMemory};
@@ -30,7 +30,7 @@ const REFUSED: [(Change, &str); 12] = [
     (Change::Byte(96, 1), "Elf BadSegment 0"),
     (Change::Byte(4096, 0xFF), "Differs 4096"),
     (Change::Byte(14592, 0), "Differs 14592"),
-    (Change::Byte(20768, b'2'), "Inputs NotYet 1"),
+    (Change::Byte(20768, b'2'), "Inputs NotYet 0"),
     (Change::Byte(21340, 3), "Elf NoPlan"),
 ];
 
@@ -64,44 +64,14 @@ fn built(rt: &HostRuntime) -> Result<Bytes, Fail> {
     Ok(desk.read("a.elf", 16_777_216)?)
 }
 
-/// The bytes that the two sinks took, and the status.
-#[derive(Drop)]
-struct Listed {
-    status: u8,
-    text: Bytes,
-    line: Bytes,
-}
-
-fn list(rt: &HostRuntime, file: &[u8]) -> Result<Listed, Fail> {
-    let alloc = rt.alloc();
-    let words = words_of(rt, "list a.elf")?;
-    let mut desk = CalmDesk::new(alloc);
-    desk.put_file("a.elf", file)?;
-    let mut out = CalmSink::new(alloc);
-    let mut err = CalmSink::new(alloc);
-    let outcome = still(alloc, &words, &mut desk, &mut out, &mut err);
-    Ok(Listed {
-        status: outcome.status,
-        text: copied(alloc, out.taken())?,
-        line: copied(alloc, err.taken())?,
-    })
-}
-
-fn copied(alloc: Global, bytes: &[u8]) -> Result<Bytes, NoMemory> {
-    let mut copy = Bytes::new(alloc);
-    copy.append(bytes)?;
-    Ok(copy)
+fn list(rt: &HostRuntime, file: &[u8]) -> Result<Told, Fail> {
+    command(rt, "list a.elf", &[("a.elf", file)])
 }
 
 // A file is refused with this fault.
 fn refused(rt: &HostRuntime, file: &[u8], fault: &str) -> Result<bool, Fail> {
-    let listed = list(rt, file)?;
     let line = format!(in rt.alloc(); "threadmill: image: {fault}\n")?;
-    Ok(
-        listed.status == 3
-            && listed.text.as_slice().is_empty()
-            && listed.line.as_slice() == line.as_bytes(),
-    )
+    Ok(list(rt, file)?.is_refusal(line.as_str()))
 }
 
 #[test]

@@ -1,6 +1,9 @@
 // What the tests share: texts, words, and one command over a desk and sinks in memory.
+use std::alloc::Global;
 use std::test::Fail;
-use tm_base::{Bytes, List};
+use tm_base::{Bytes, List, NoMemory};
+use tm_desk::{CalmDesk, CalmSink};
+use tm_top::still;
 
 pub const TOPOLOGY: &[u8] = b"cores = 1\nthreads = 1\nline = 64\n";
 
@@ -34,4 +37,49 @@ pub(crate) fn filled(rt: &HostRuntime, byte: u8, count: u32) -> Result<Bytes, Fa
         bytes.push(byte)?;
     }
     Ok(bytes)
+}
+
+pub(crate) fn copied(alloc: Global, bytes: &[u8]) -> Result<Bytes, NoMemory> {
+    let mut copy = Bytes::new(alloc);
+    copy.append(bytes)?;
+    Ok(copy)
+}
+
+/// The status of a command, and the bytes that the output sink and the error sink took.
+#[derive(Drop)]
+pub struct Told {
+    pub status: u8,
+    pub text: Bytes,
+    pub line: Bytes,
+}
+
+impl Told {
+    /// An input was refused with this line, and nothing was printed.
+    pub(crate) fn is_refusal(&self, line: &str) -> bool {
+        self.status == 3
+            && self.text.as_slice().is_empty()
+            && self.line.as_slice() == line.as_bytes()
+    }
+}
+
+/// One command over a desk with these files, which never fails.
+pub(crate) fn command(
+    rt: &HostRuntime,
+    words: &str,
+    files: &[(&str, &[u8])],
+) -> Result<Told, Fail> {
+    let alloc = rt.alloc();
+    let words = words_of(rt, words)?;
+    let mut desk = CalmDesk::new(alloc);
+    for (name, bytes) in files {
+        desk.put_file(name, bytes)?;
+    }
+    let mut out = CalmSink::new(alloc);
+    let mut err = CalmSink::new(alloc);
+    let outcome = still(alloc, &words, &mut desk, &mut out, &mut err);
+    Ok(Told {
+        status: outcome.status,
+        text: copied(alloc, out.taken())?,
+        line: copied(alloc, err.taken())?,
+    })
 }
