@@ -2,7 +2,7 @@
 use std::alloc::Global;
 use std::test::Fail;
 use tm_base::{Bytes, List, NoMemory};
-use tm_desk::{CalmDesk, CalmSink};
+use tm_desk::{MemDesk, MemSink};
 use tm_top::still;
 
 pub const TOPOLOGY: &[u8] = b"cores = 1\nthreads = 1\nline = 64\n";
@@ -62,7 +62,7 @@ impl Told {
     }
 }
 
-/// One command over a desk with these files, which never fails.
+/// One command over a desk with these files and two sinks, of which none fails.
 pub(crate) fn command(
     rt: &HostRuntime,
     words: &str,
@@ -70,12 +70,12 @@ pub(crate) fn command(
 ) -> Result<Told, Fail> {
     let alloc = rt.alloc();
     let words = words_of(rt, words)?;
-    let mut desk = CalmDesk::new(alloc);
+    let mut desk = MemDesk::new(alloc, List::new(alloc));
     for (name, bytes) in files {
         desk.put_file(name, bytes)?;
     }
-    let mut out = CalmSink::new(alloc);
-    let mut err = CalmSink::new(alloc);
+    let mut out = MemSink::new(alloc, 65_536, List::new(alloc));
+    let mut err = MemSink::new(alloc, 65_536, List::new(alloc));
     let outcome = still(alloc, &words, &mut desk, &mut out, &mut err);
     Ok(Told {
         status: outcome.status,
