@@ -210,17 +210,20 @@ built_of topo t first late ruled =
     let case = the_cases t.cases (not (length t.windows == 0)) parts.1 (map_some topo t.cases ruled.count.0) in
     let c = case.0 in
     let body = written_body topo c case.3 in
-    let rules = ruled_body topo (sharing_in (admitted_of topo t)) (windows_of t.windows) t.cases c case.1 one ruled.each in
-    (c.name, body.stream, record {
-      harts = one;
-      line = eqb-true _ _ system.1;
-      passes = eqb-true _ _ marks.0;
-      windows = the_window t.windows parts.0 (some_there (length t.windows) case.2) ruled.apart;
-      cases = cases_are topo t.cases c (emits body.stream) case.1 one body.are;
-      some = omega (arith, rules.some, ap (λ (ss : List Slot). length ss) body.are, emits_length body.stream);
-      few = omega (arith, rules.few, ap (λ (ss : List Slot). length ss) body.are, emits_length body.stream);
-      each = all_emitted (sharing_in (admitted_of topo t)) (windows_of t.windows) 0 (length (one_body topo c)) 0 body.stream body.ops (λ n x at. let p : n ≡ 0 + n = omega arith in subst (λ (m : ℕ). IsRuledSlot (sharing_in (admitted_of topo t)) (windows_of t.windows) 0 (length (one_body topo c)) m x) p (rules.each n x (ap (λ (ss : List Slot). slice_get ss n) body.are ∙ at)));
-    })
+    let rules = ruled_body topo (sharing_in (admitted_of topo t)) (windows_of t.windows) t.cases c case.1 one ruled.each in (
+      c.name,
+      body.stream,
+      record {
+        harts = one;
+        line = eqb-true _ _ system.1;
+        passes = eqb-true _ _ marks.0;
+        windows = the_window t.windows parts.0 (some_there (length t.windows) case.2) ruled.apart;
+        cases = cases_are topo t.cases c (emits body.stream) case.1 one body.are;
+        some = omega (arith, rules.some, ap (λ (ss : List Slot). length ss) body.are, emits_length body.stream);
+        few = omega (arith, rules.few, ap (λ (ss : List Slot). length ss) body.are, emits_length body.stream);
+        each = all_emitted (sharing_in (admitted_of topo t)) (windows_of t.windows) 0 (length (one_body topo c)) 0 body.stream body.ops (λ n x at. let p : n ≡ 0 + n = omega arith in subst (λ (m : ℕ). IsRuledSlot (sharing_in (admitted_of topo t)) (windows_of t.windows) 0 (length (one_body topo c)) m x) p (rules.each n x (ap (λ (ss : List Slot). slice_get ss n) body.are ∙ at)));
+      },
+    )
 
 -- where nothing is late, the system is one that is built, and so is each statement
 nothing_late : (topo : Topology) (t : Template) → not_yet topo t ≡ None → (is_first_system topo ≡ true) × (late_in t ≡ None)

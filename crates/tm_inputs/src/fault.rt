@@ -11,10 +11,7 @@ pub enum InputFault {
     Tmpl(TmplFault),
     Rule(RuleAt),
     /// What the file asks for in this line isn't built yet; line 0 is the whole file.
-    NotYet {
-        file: Role,
-        line: u32,
-    },
+    NotYet { file: Role, line: u32 },
 }
 
 /// Why nothing was built.

@@ -9,8 +9,8 @@ use std::alloc::Global;
 use tm_base::{Bytes, List, NoMemory, Words};
 use tm_pass::{HartCode, hart_code};
 use tm_plan::{
-    Admitted, AdmittedCase, Case, CaseMask, Cases, Kind2, Marks, Masks, Program, Slot, SlotList, Stream, Window, private_base, tables,
-    window_base,
+    Admitted, AdmittedCase, Case, CaseMask, Cases, Kind2, Marks, Masks, Program, Slot, SlotList,
+    Stream, Window, private_base, tables, window_base,
 };
 use tm_table::encode;
 
@@ -31,7 +31,12 @@ pub fn program_of(alloc: Global, a: &Admitted) -> Result<Program, NoMemory>
     ensures sound { IfOk result (λ program. SoundSoFar program) }
 {
     let cases = a.cases.as_slice();
-    program_with(alloc, a.name.as_slice(), first_name(cases), first_slots(cases))
+    program_with(
+        alloc,
+        a.name.as_slice(),
+        first_name(cases),
+        first_slots(cases),
+    )
 }
 
 // The name of the first case.
@@ -65,7 +70,12 @@ fn first_body(bodies: &[SlotList]) -> &[Slot]
 }
 
 // The program of a stream, with the names of the test and of its case.
-fn program_with(alloc: Global, test: &[u8], case: &[u8], slots: &[Slot]) -> Result<Program, NoMemory>
+fn program_with(
+    alloc: Global,
+    test: &[u8],
+    case: &[u8],
+    slots: &[Slot],
+) -> Result<Program, NoMemory>
     requires some { 1 ≤ length (emitted slots.now) }
     requires few { length (emitted slots.now) ≤ 256 }
     requires each { All IsEmitted (emitted slots.now) }

@@ -51,10 +51,12 @@ fn check(
     let outcome = still(alloc, &words, &mut desk, &mut out, &mut err);
     let topology = held(&mut desk, "a.toml")?;
     let template = held(&mut desk, "a.tm")?;
-    Ok(outcome.status == 5
-        && err.taken() == line
-        && topology.as_slice() == TOPOLOGY
-        && template.as_slice() == TEMPLATE)
+    Ok(
+        outcome.status == 5
+            && err.taken() == line
+            && topology.as_slice() == TOPOLOGY
+            && template.as_slice() == TEMPLATE,
+    )
 }
 
 #[test]

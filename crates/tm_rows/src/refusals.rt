@@ -8,11 +8,7 @@ const USAGE: &[u8] =
 
 /// A topology and a template, and the line that they are refused with.
 const REFUSED: [(&[u8], &[u8], &str); 30] = [
-    (
-        TOPOLOGY,
-        b"",
-        "threadmill: template: Tmpl Early Template\n",
-    ),
+    (TOPOLOGY, b"", "threadmill: template: Tmpl Early Template\n"),
     (
         TOPOLOGY,
         b"template t\npasses 2\nwindow 0 true 1\n",

@@ -6,9 +6,13 @@ use Rattle.tm_top.proofs.image.image_of.Goals as goal
 
 pub returns-in-Err-Input-clause-err : goal.returns-in-Err-Input-clause-err
 returns-in-Err-Input-clause-err c =
-    let told = rw (c.in-Err-Input.field-0-is, c.as_slice.ensures, c.as_slice-2.ensures) at c.in-Err-Input.ensures.err in
-    (c.in-Err-Input.fault, image_refused c.args.topo.now c.args.template.now c.args.seed c.in-Err-Input.fault told.1,
-    (rw c.in-Err-Input.fault-is at c.role_of.ensures), ap Input c.in-Err-Input.fault-is, input_calm c.in-Err-Input.fault told.0)
+    let told = rw (c.in-Err-Input.field-0-is, c.as_slice.ensures, c.as_slice-2.ensures) at c.in-Err-Input.ensures.err in (
+      c.in-Err-Input.fault,
+      image_refused c.args.topo.now c.args.template.now c.args.seed c.in-Err-Input.fault told.1,
+      (rw c.in-Err-Input.fault-is at c.role_of.ensures),
+      ap Input c.in-Err-Input.fault-is,
+      input_calm c.in-Err-Input.fault told.0,
+    )
 
 pub returns-in-Ok-line_of-clause-ok : goal.returns-in-Ok-line_of-clause-ok
 returns-in-Ok-line_of-clause-ok c = record {
