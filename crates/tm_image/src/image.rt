@@ -1,6 +1,6 @@
 // From the two texts to the image.
 ghost use Rattle.std.specs.Prelude.{◌≡◌, ◌≤◌, ◌<◌, ◌^◌, ◌++◌, ◌∷◌, [], Ok, IfOk, OnOk, IfErr, length, codes};
-ghost use Rattle.tm_course.specs.Claims.{SoundSoFar};
+ghost use Rattle.tm_world.specs.Sound.{SoundSoFar};
 ghost use Rattle.tm_plan.specs.declared.admitted.Admitted.{Admitted as Test};
 ghost use Rattle.tm_inputs.specs.Inputs.{inputs, IsFaultOf};
 ghost use Rattle.tm_program.specs.Program.{IsTestOf};

@@ -1,6 +1,6 @@
 // Opens an image by building it again.
 ghost use Rattle.std.specs.Prelude.{◌≡◌, ◌≢◌, ◌≤◌, Ok, Err, IfOk, IfErr, MatchResult, length};
-ghost use Rattle.tm_course.specs.Claims.{SoundSoFar};
+ghost use Rattle.tm_world.specs.Sound.{SoundSoFar};
 ghost use Rattle.tm_elf_read.specs.Read.{elf_of};
 ghost use Rattle.tm_image.specs.Built.{program_from};
 ghost use Rattle.tm_inputs.specs.Inputs.{inputs};

@@ -5,7 +5,7 @@ use Rattle.tm_desk.specs.declared.desk.DeskError.TheVariants.{Failed, TooLong, N
 use Rattle.tm_plan.specs.declared.admitted.Admitted.{Admitted}
 use Rattle.tm_plan.specs.declared.program.Program.{Program}
 use Rattle.tm_program.specs.Program.{IsTestOf}
-use Rattle.tm_course.specs.Claims.{SoundSoFar}
+use Rattle.tm_world.specs.Sound.{SoundSoFar}
 use Rattle.tm_elf.specs.declared.parts.Parts.{Parts}
 use Rattle.tm_elf_read.specs.Read.{elf_of}
 use Rattle.tm_inputs.specs.declared.role.Role.{Role}

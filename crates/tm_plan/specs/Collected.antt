@@ -45,14 +45,18 @@ slots_of (Some s) = length s.words
 abbrev pub pass_work : Cases → ℕ → Case → ℕ
 pass_work cases h case = slots_of (slice_get case.streams h) + 256 + 32 * cases.harts + 32 * (30 + length (owned cases h))
 
--- the steps that hart h may work in these cases
+-- The case of each round case, in order. A round case is one run of a case in all its passes; so far each case has one.
+abbrev pub round_cases : Cases → List Case
+round_cases cases = cases.cases
+
+-- the steps that hart h may work in these round cases
 abbrev pub work_in : Cases → ℕ → List Case → ℕ
 work_in cases h [] = 0
 work_in cases h (case ∷ more) = (64 + cases.passes * pass_work cases h case) + work_in cases h more
 
 -- the steps that hart h may work in a whole run
 unfoldable pub work_of : Cases → ℕ → ℕ
-work_of cases h = 64 + work_in cases h cases.cases
+work_of cases h = 64 + work_in cases h (round_cases cases)
 
 -- the sum of f over a list
 abbrev pub sum_of : (ℕ → ℕ) → List ℕ → ℕ
@@ -61,4 +65,4 @@ sum_of f (x ∷ xs) = f x + sum_of f xs
 
 -- the events that are enough for a whole run in which no hart reads idly
 unfoldable pub budget_of : Cases → ℕ
-budget_of cases = cases.harts * (sum_of (work_of cases) (count_from 0 cases.harts) + 16 * (length cases.cases * cases.passes))
+budget_of cases = cases.harts * (sum_of (work_of cases) (count_from 0 cases.harts) + 16 * (length (round_cases cases) * cases.passes))

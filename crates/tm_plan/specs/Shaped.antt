@@ -1,5 +1,5 @@
 -- Which cases, masks and programs the calls of the workspace take (this project's own).
-use Rattle.std.specs.Prelude.{◌≡◌, ◌≢◌, ◌⊎◌, ℕ, ◌+◌, ◌-◌, ◌*◌, ◌%◌, ◌<◌, ◌≤◌, length, All, AllPairs, Contains, IsTrue, IsFalse, slice_get, slice_index, Some}
+use Rattle.std.specs.Prelude.{◌≡◌, ◌≢◌, ◌⊎◌, ℕ, ◌+◌, ◌-◌, ◌*◌, ◌%◌, ◌^◌, ◌<◌, ◌≤◌, length, All, AllPairs, Contains, IsTrue, IsFalse, slice_get, slice_index, Some}
 use Rattle.tm_table.specs.declared.instr.Instr.{Instr}
 use Rattle.tm_table.specs.Words.{low}
 use Rattle.tm_plan.specs.declared.cases.Cases.{Cases}
@@ -88,3 +88,17 @@ pub record IsProgram (p : Program) : Type 0 where
   pub halts : length p.marks.halts ≡ p.cases.harts
   pub text : (1 ≤ length p.text) × (length p.text ≤ 2097152)
   pub tables : length p.tables ≤ 4194304
+
+-- What the types of a program's parts give beside: words of 32 bits, bytes, 32 registers and first dwords of 64 bits, and masks of 32
+-- bits.
+pub record IsTyped (p : Program) : Type 0 where
+  pub text : (k : ℕ) → slice_index p.text k < 2 ^ 32
+  pub tables : (k : ℕ) → slice_index p.tables k < 256
+  pub words : (c h : ℕ) (case : Case) (s : Stream) → slice_get p.cases.cases c ≡ Some case → slice_get case.streams h ≡ Some s
+      → (n : ℕ) → slice_index s.words n < 2 ^ 32
+  pub count : (c h : ℕ) (case : Case) (s : Stream) → slice_get p.cases.cases c ≡ Some case → slice_get case.streams h ≡ Some s
+      → length s.regs ≡ 32
+  pub regs : (c h : ℕ) (case : Case) (s : Stream) → slice_get p.cases.cases c ≡ Some case → slice_get case.streams h ≡ Some s
+      → (r : ℕ) → slice_index s.regs r < 2 ^ 64
+  pub first : (c : ℕ) (case : Case) → slice_get p.cases.cases c ≡ Some case → (k : ℕ) → slice_index case.first k < 2 ^ 64
+  pub masks : (c : ℕ) (m : CaseMask) → slice_get p.masks.cases c ≡ Some m → (h : ℕ) → slice_index m.regs h < 2 ^ 32

@@ -9,7 +9,7 @@ use Rattle.tm_plan.specs.declared.program.Program.{Program}
 use Rattle.tm_plan.specs.Slots.{load_width, store_width}
 use Rattle.tm_plan.specs.Shaped.{IsShapedMask, MasksFit, IsProgram}
 use Rattle.tm_course.specs.OneHart.{HasNoAccess, IsOfOneHart}
-use Rattle.tm_course.specs.Claims.{SoundSoFar}
+use Rattle.tm_world.specs.Sound.{SoundSoFar}
 use Rattle.tm_course.proofs.Together.{one-hart}
 use Rattle.tm_inputs.specs.Built.{IsEmitted}
 use Rattle.tm_program.specs.Program.{Names, case_of, cases_of, zero_dwords, all_checked, marks_around, program_of}

@@ -9,7 +9,7 @@ use Rattle.tm_plan.specs.declared.admitted.Slot.{Slot}
 use Rattle.tm_plan.specs.declared.admitted.Slot.TheVariants.{Emit, Mix}
 use Rattle.tm_plan.specs.declared.admitted.AdmittedCase.{AdmittedCase}
 use Rattle.tm_plan.specs.declared.admitted.Admitted.{Admitted}
-use Rattle.tm_course.specs.Claims.{SoundSoFar}
+use Rattle.tm_world.specs.Sound.{SoundSoFar}
 use Rattle.tm_inputs.specs.Built.{IsEmitted, emits, IsBuilt, AreBuilt}
 use Rattle.tm_inputs.proofs.LateLemmas.{behind_first}
 use Rattle.tm_program.specs.Program.{Names, emitted, case_stream, case_name, names_of, case_of, cases_of, program_of, program_for, case_from, IsTestOf}

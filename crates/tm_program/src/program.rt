@@ -1,7 +1,7 @@
 // The program of a test of one hart with one case.
 ghost use Rattle.std.specs.Prelude.{◌≡◌, ◌≤◌, ◌<◌, ◌^◌, ◌++◌, ◌∷◌, [], IfOk, OnOk, All, List, map, length, replicate, ℕ};
 ghost use Rattle.tm_table.specs.Words.{word_of};
-ghost use Rattle.tm_course.specs.Claims.{SoundSoFar};
+ghost use Rattle.tm_world.specs.Sound.{SoundSoFar};
 ghost use Rattle.tm_inputs.specs.Built.{IsEmitted, AreBuilt};
 ghost use Rattle.tm_program.specs.Program.{first_registers as registers_of, cases_of as cases_with, case_of as case_with, zero_dwords, declared_bytes, all_checked as masks_of_all, marks_around, emitted, hart_stream, case_stream, case_name, program_of as program_of_names, program_for, IsTestOf};
 

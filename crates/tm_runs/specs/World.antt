@@ -63,7 +63,7 @@ start p x = record { pc = text_base; regs = λ r. slice_index x r; mem = image_d
 
 -- The sizes of a program's parts, and that its words have 32 bits and its tables' bytes 8.
 pub record Sizes (p : Program) : Type 0 where
-  pub harts : harts p ≤ 8
+  pub harts : harts p ≤ 16
   pub text : length p.text ≤ 2097152
   pub tables : length p.tables ≤ 4194304
   pub words : (k : ℕ) → slice_index p.text k < 2 ^ 32

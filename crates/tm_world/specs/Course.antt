@@ -1,5 +1,5 @@
 -- What each hart of a program does on its own steps, on every half run (this project's own).
-use Rattle.std.specs.Prelude.{◌≡◌, ◌≢◌, ℕ, zero, suc, ◌+◌, ◌*◌, ◌%◌, ◌<◌, ◌≤◌, Bool, true, false, ◌&&◌, ◌||◌, nat_lt, nat_le, ◌==◌, List, ◌∷◌, slice_index, Option, Some, None, IsTrue, IsFalse, IfSome, All}
+use Rattle.std.specs.Prelude.{◌≡◌, ◌≢◌, ℕ, zero, suc, ◌+◌, ◌-◌, ◌*◌, ◌%◌, ◌<◌, ◌≤◌, Bool, true, false, ◌&&◌, ◌||◌, nat_lt, nat_le, ◌==◌, List, ◌∷◌, slice_index, Option, Some, None, IsTrue, IsFalse, IfSome, All}
 use Rattle.tm_table.specs.declared.state.Access.{Access}
 use Rattle.tm_table.specs.declared.state.Access.TheVariants.{Quiet, Read, Write}
 use Rattle.tm_table.specs.State.{Hart}
@@ -7,10 +7,10 @@ use Rattle.tm_plan.specs.declared.program.Program.{Program}
 use Rattle.tm_plan.specs.declared.cases.Stream.{Stream}
 use Rattle.tm_plan.specs.Map.{flag_at, verdict_at, window_at}
 use Rattle.tm_plan.specs.Collected.{any, count_from, is_declared, owned}
-use Rattle.tm_world.specs.Lists.{count, front_to, IsFront}
-use Rattle.tm_world.specs.Place.{harts, case_count, passes, end_of, exit_of, halt_of, is_flag, is_private}
+use Rattle.tm_world.specs.Lists.{front_to, IsFront}
+use Rattle.tm_world.specs.Place.{harts, round_count, case_of_round, first_registers, passes, end_of, exit_of, halt_of, is_flag, is_private}
 use Rattle.tm_world.specs.Run.{Step, Run, own, Always, now, pc_of, access_of, phase, in_phase, Writes}
-use Rattle.tm_world.specs.Writers.{may_write, case_of_phase, stream_in}
+use Rattle.tm_world.specs.Writers.{may_write, run_phase, case_of_phase, round_of_phase, stream_in}
 use Rattle.tm_world.specs.Kinds.{Half, first_of_hart, stream_at, writes_flag}
 use Rattle.tm_world.specs.Marks.{Enter, comes_to, visited, whole_way}
 
@@ -26,14 +26,14 @@ KeepsOrder p h first own = IsFront (visited p h first own) (whole_way p)
 
 -- ---- the first registers
 
--- Before a stream's first word x1 to x31 are the stream's first registers.
-abbrev pub IsFresh : Stream → Hart → Type 0
-IsFresh stream hart = (r : ℕ) → 1 ≤ r → r < 32 → slice_index hart.x r ≡ slice_index stream.regs r
+-- x1 to x31 are these registers
+abbrev pub IsFresh : List ℕ → Hart → Type 0
+IsFresh regs hart = (r : ℕ) → 1 ≤ r → r < 32 → slice_index hart.x r ≡ slice_index regs r
 
--- The hart comes into each of its streams with fresh registers.
+-- The hart comes into each of its streams with its first registers there.
 abbrev pub EntersFresh : Program → ℕ → Hart → List Step → Type 0
-EntersFresh p h first = Always (λ past s. (c : ℕ) (stream : Stream) → stream_in p.cases c h ≡ Some stream
-    → IsTrue (comes_to p h (Enter c) (now first past).pc s.after.pc) → IsFresh stream s.after)
+EntersFresh p h first = Always (λ past s. (e : ℕ) (stream : Stream) → stream_in p.cases (case_of_round p e) h ≡ Some stream
+    → IsTrue (comes_to p h (Enter (case_of_round p e)) (now first past).pc s.after.pc) → IsFresh (first_registers p e stream) s.after)
 
 -- ---- tests of one step
 
@@ -79,7 +79,7 @@ IsStill p h (Write addr width value) = ⊥
 
 -- the last phase, after all passes
 abbrev pub last_phase : Program → ℕ
-last_phase p = 2 * (case_count p * passes p)
+last_phase p = 2 * (round_count p * passes p)
 
 -- the hart's steps in the phase that it is in
 abbrev pub this_phase : Program → ℕ → List Step → List Step
@@ -131,41 +131,47 @@ KeepsBarrier p h first = Always (λ past s. Barrier p h (phase (exit_of p h) pas
 abbrev pub HasCollected : Program → ℕ → ℕ → List Step → Type 0
 HasCollected p h q steps = All (λ a. IsTrue (any (λ t. reads_in a 8 (access_of t)) (in_phase (exit_of p h) q steps))) (owned p.cases h)
 
--- A step of phase q, after a run phase of case c: it reads each dword that the hart collects with width 8 and at most once in
--- the phase; and all of them are read before it writes a shared byte or the case's verdict, leaves the phase or comes to halt.
-pub record Collects (p : Program) (h c q : ℕ) (past : List Step) (s : Step) : Type 0 where
+-- A step of a phase q that follows a run phase: it reads each dword that the hart collects with width 8 and at most once in the
+-- phase; and all of them are read before it writes a shared byte, and before it leaves the phase.
+pub record Collects (p : Program) (h q : ℕ) (past : List Step) (s : Step) : Type 0 where
   pub once : All (λ a. IsTrue (reads_in a 8 (access_of s)) → ((v : ℕ) × (access_of s ≡ Read a 8 v)) × IsFalse (any (λ t. reads_in a 8 (access_of t)) (in_phase (exit_of p h) q past))) (owned p.cases h)
   pub before_writes : IsTrue (writes_shared p (access_of s)) → HasCollected p h q past
-  pub before_verdict : IsTrue (writes_in (verdict_at c h) 8 (access_of s)) → HasCollected p h q past
   pub before_exit : pc_of s ≡ exit_of p h → HasCollected p h q past
-  pub before_halt : s.after.pc ≡ halt_of p h → HasCollected p h q (s ∷ past)
 
--- the case of the run phase before phase q
-abbrev pub case_before : Program → ℕ → Option ℕ
-case_before p zero = None
-case_before p (suc q) = case_of_phase p q
+-- the round case of the run phase before phase q
+abbrev pub round_before : Program → ℕ → Option ℕ
+round_before p zero = None
+round_before p (suc q) = round_of_phase p q
 
--- In each phase after a run phase the hart collects as said.
+-- In each phase that follows a run phase the hart collects as said.
 abbrev pub KeepsCollecting : Program → ℕ → Hart → List Step → Type 0
-KeepsCollecting p h first = Always (λ past s. let q = phase (exit_of p h) past in IfSome (case_before p q) (λ c. Collects p h c q past s))
+KeepsCollecting p h first = Always (λ past s. let q = phase (exit_of p h) past in IfSome (round_before p q) (λ e. Collects p h q past s))
+
+-- Where the hart comes to halt in a phase that follows a run phase, it has read all that it collects in it. The phase is the one in
+-- which it is after the step, so that a step at the exit mark that lands on halt counts too.
+abbrev pub CollectsBeforeHalt : Program → ℕ → Hart → List Step → Type 0
+CollectsBeforeHalt p h first = Always (λ past s. s.after.pc ≡ halt_of p h
+    → let q = phase (exit_of p h) (s ∷ past) in IfSome (round_before p q) (λ e. HasCollected p h q (s ∷ past)))
 
 -- ---- verdict cells
 
--- Hart h's write of its verdict on case c: with width 8, once, and after it has come to the stream's end in every pass.
-pub record WritesVerdict (p : Program) (h c : ℕ) (past : List Step) (s : Step) : Type 0 where
-  pub value : (v : ℕ) × (access_of s ≡ Write (verdict_at c h) 8 v)
-  pub once : IsFalse (any (λ t. writes_in (verdict_at c h) 8 (access_of t)) past)
-  pub ended : passes p ≤ count (λ t. t.after.pc == end_of p h c) past
+-- Hart h's write of its verdict on round case e, in whatever phase it stands: with width 8, once, behind the run phase of the last
+-- pass, and behind all reads by which it collects in the phase after each of the run phases.
+pub record WritesVerdict (p : Program) (h e : ℕ) (past : List Step) (s : Step) : Type 0 where
+  pub value : (v : ℕ) × (access_of s ≡ Write (verdict_at e h) 8 v)
+  pub once : IsFalse (any (λ t. writes_in (verdict_at e h) 8 (access_of t)) past)
+  pub late : run_phase p e (passes p - 1) < phase (exit_of p h) past
+  pub collected : (k : ℕ) → k < passes p → HasCollected p h (run_phase p e k + 1) past
 
--- A verdict cell (c, g) is written by hart g alone, so.
+-- A verdict cell (e, g) is written by hart g alone, so.
 abbrev pub KeepsVerdicts : Program → ℕ → Hart → List Step → Type 0
-KeepsVerdicts p h first = Always (λ past s. (c g : ℕ) → c < case_count p → g < harts p
-    → IsTrue (writes_in (verdict_at c g) 8 (access_of s)) → (g ≡ h) × WritesVerdict p h c past s)
+KeepsVerdicts p h first = Always (λ past s. (e g : ℕ) → e < round_count p → g < harts p
+    → IsTrue (writes_in (verdict_at e g) 8 (access_of s)) → (g ≡ h) × WritesVerdict p h e past s)
 
 -- A hart at halt has written all its verdict cells.
 abbrev pub HasAllVerdicts : Program → ℕ → Hart → List Step → Type 0
 HasAllVerdicts p h first own = (now first own).pc ≡ halt_of p h
-    → (c : ℕ) → c < case_count p → IsTrue (any (λ s. writes_in (verdict_at c h) 8 (access_of s)) own)
+    → (e : ℕ) → e < round_count p → IsTrue (any (λ s. writes_in (verdict_at e h) 8 (access_of s)) own)
 
 -- ---- all of it
 
@@ -178,3 +184,4 @@ pub record HartCourse (p : Program) (h : ℕ) : Type 0 where
   pub writes : OnHalf p h (KeepsWrites p h)
   pub barrier : OnHalf p h (KeepsBarrier p h)
   pub collecting : OnHalf p h (KeepsCollecting p h)
+  pub collected : OnHalf p h (CollectsBeforeHalt p h)

@@ -1,8 +1,10 @@
 -- Where a program's marks and bytes stand in the guest's memory, and what its image holds there (this project's own).
-use Rattle.std.specs.Prelude.{ℕ, ◌+◌, ◌-◌, ◌*◌, ◌/◌, ◌%◌, ◌^◌, Bool, ◌&&◌, nat_le, nat_lt, ◌==◌, length, slice_get, slice_index, Option, None, if◌then◌else◌}
+use Rattle.std.specs.Prelude.{ℕ, List, ◌+◌, ◌-◌, ◌*◌, ◌/◌, ◌%◌, ◌^◌, Bool, ◌&&◌, nat_le, nat_lt, ◌==◌, length, slice_get, slice_index, Option, None, if◌then◌else◌}
+use Rattle.tm_plan.specs.declared.cases.Case.{Case}
+use Rattle.tm_plan.specs.declared.cases.Stream.{Stream}
 use Rattle.tm_plan.specs.declared.program.Program.{Program}
 use Rattle.tm_plan.specs.Map.{text_base, tables_base, flag_at, verdict_at, private_at, private_size, windows_base, windows_size, within}
-use Rattle.tm_plan.specs.Collected.{any, count_from}
+use Rattle.tm_plan.specs.Collected.{any, count_from, round_cases}
 
 -- N harts, C cases, K passes
 abbrev pub harts : Program → ℕ
@@ -15,6 +17,24 @@ case_count p = length p.cases.cases
 -- K
 abbrev pub passes : Program → ℕ
 passes p = p.cases.passes
+
+-- ---- round cases: the runs of a case in all its passes; so far each case is run once
+
+-- how many round cases there are
+abbrev pub round_count : Program → ℕ
+round_count p = length (round_cases p.cases)
+
+-- the case that is run in round case e
+abbrev pub case_of_round : Program → ℕ → ℕ
+case_of_round p e = e
+
+-- the first registers of a hart in round case e, whose stream in the case is this one
+abbrev pub first_registers : Program → ℕ → Stream → List ℕ
+first_registers p e stream = stream.regs
+
+-- the first dwords of the windows in round case e, a run of this case
+abbrev pub first_dwords : Program → ℕ → Case → List ℕ
+first_dwords p e case = case.first
 
 -- ---- marks: the addresses that the image's symbols name
 

@@ -1,22 +1,23 @@
 -- A sound program (this project's own).
-use Rattle.std.specs.Prelude.{◌≡◌, ℕ, ◌<◌}
+use Rattle.std.specs.Prelude.{◌≡◌, ℕ, ◌<◌, IsTrue}
 use Rattle.tm_table.specs.declared.state.Access.TheVariants.{Write}
 use Rattle.tm_plan.specs.declared.program.Program.{Program}
 use Rattle.tm_plan.specs.Map.{verdict_at}
 use Rattle.tm_plan.specs.Shaped.{IsProgram}
 use Rattle.tm_plan.specs.Tables.{table_bytes}
-use Rattle.tm_world.specs.Place.{harts, case_count}
+use Rattle.tm_world.specs.Place.{harts, round_count}
 use Rattle.tm_world.specs.Run.{Run, Always, access_of}
 use Rattle.tm_world.specs.Kinds.{Legal, Plain}
-use Rattle.tm_world.specs.Course.{OnHalf}
-use Rattle.tm_world.specs.Whole.{Course}
+use Rattle.tm_world.specs.Course.{OnHalf, KeepsOrder, EntersFresh, KeepsVerdicts, HasAllVerdicts, writes_in}
+use Rattle.tm_world.specs.Whole.{Course, Laid}
 use Rattle.tm_world.specs.Work.{Bound}
 use Rattle.tm_world.specs.Verdict.{WritesExactly}
 use Rattle.tm_world.specs.Checked.{AreChecked}
 
--- No case is reported: no number but 0 is written to a verdict cell.
+-- No round case is reported: each write that covers a byte of a verdict cell is the write of 0 there, with width 8.
 abbrev pub NotReported : Program → Run → Type 0
-NotReported p r = Always (λ past s. (c h v : ℕ) → c < case_count p → h < harts p → access_of s ≡ Write (verdict_at c h) 8 v → v ≡ 0) r.steps
+NotReported p r = Always (λ past s. (e h : ℕ) → e < round_count p → h < harts p
+    → IsTrue (writes_in (verdict_at e h) 8 (access_of s)) → access_of s ≡ Write (verdict_at e h) 8 0) r.steps
 
 -- A sound program: its masks are exactly the checked sets, its tables those of the format, it keeps the course and the bound; on a
 -- legal run no case is reported; on a half run each verdict is the true one; and each plain run is legal.
@@ -30,3 +31,20 @@ pub record Sound (p : Program) : Type 0 where
   pub silent : (r : Run) → Legal p r → NotReported p r
   pub exact : (h : ℕ) → h < harts p → OnHalf p h (WritesExactly p h)
   pub plain : (r : Run) → Plain p r → Legal p r
+
+-- The parts of a sound program that are claimed so far: it is a program with exactly the checked masks and the format's tables; its
+-- marks and streams stand where they belong; on each half run each hart comes to its marks in order, enters its streams with fresh
+-- registers, and writes its verdicts as it should; its steps are bounded; on each legal run no case is reported; and on each half run
+-- each number that is written to a verdict cell is the verdict.
+pub record SoundSoFar (p : Program) : Type 0 where
+  pub program : IsProgram p
+  pub masks : AreChecked p.cases p.masks
+  pub tables : p.tables ≡ table_bytes p.cases p.masks
+  pub laid : Laid p
+  pub order : (h : ℕ) → h < harts p → OnHalf p h (KeepsOrder p h)
+  pub fresh : (h : ℕ) → h < harts p → OnHalf p h (EntersFresh p h)
+  pub verdicts : (h : ℕ) → h < harts p → OnHalf p h (KeepsVerdicts p h)
+  pub all_verdicts : (h : ℕ) → h < harts p → OnHalf p h (HasAllVerdicts p h)
+  pub bound : (h : ℕ) → h < harts p → Bound p h
+  pub silent : (r : Run) → Legal p r → NotReported p r
+  pub exact : (h : ℕ) → h < harts p → OnHalf p h (WritesExactly p h)

@@ -6,14 +6,11 @@ use Rattle.tm_plan.specs.declared.program.Program.{Program}
 use Rattle.tm_plan.specs.declared.masks.CaseMask.{CaseMask}
 use Rattle.tm_plan.specs.Map.{verdict_at, windows_base}
 use Rattle.tm_plan.specs.Collected.{count_from, owned}
-use Rattle.tm_world.specs.Place.{passes, exit_of, inside}
+use Rattle.tm_world.specs.Place.{round_count, case_of_round, passes, exit_of, inside}
 use Rattle.tm_world.specs.Run.{Step, now, access_of, got, phase, earliest, Always}
+use Rattle.tm_world.specs.Writers.{run_phase}
 
 -- ---- end values
-
--- the run phase of pass k of case c
-abbrev pub run_phase : Program → ℕ → ℕ → ℕ
-run_phase p c k = 2 * (c * passes p + k) + 1
 
 -- the hart's state after the first step that leaves stream (h, c) in phase q
 abbrev pub left_with : Program → ℕ → ℕ → ℕ → Hart → List Step → Option Hart
@@ -29,11 +26,11 @@ pub data Part : Type 0 where
   Register : (r : ℕ) → Part
   Byte : (b : ℕ) → Part
 
--- The end value of a register of hart h, or of a byte that hart h collects, in pass k of case c: the register's value where the
--- hart leaves the stream, and what the hart's first read of the byte in the phase after it returned.
+-- The end value of a register of hart h, or of a byte that hart h collects, in pass k of round case e: the register's value where
+-- the hart leaves the stream, and what the hart's first read of the byte in the phase after it returned.
 abbrev pub end_value : Program → ℕ → ℕ → ℕ → Hart → List Step → Part → Option ℕ
-end_value p h c k first own (Register r) = option_map (λ (s : Hart). slice_index s.x r) (left_with p h c (run_phase p c k) first own)
-end_value p h c k first own (Byte b) = first_read p h b (run_phase p c k + 1) own
+end_value p h e k first own (Register r) = option_map (λ (s : Hart). slice_index s.x r) (left_with p h (case_of_round p e) (run_phase p e k) first own)
+end_value p h e k first own (Byte b) = first_read p h b (run_phase p e k + 1) own
 
 -- ---- the verdict
 
@@ -50,21 +47,27 @@ abbrev pub is_checked : CaseMask → ℕ → Part → Bool
 is_checked m h (Register r) = slice_index m.regs h / 2 ^ r % 2 == 1
 is_checked m h (Byte b) = slice_index m.bytes (b - windows_base) == 255
 
--- Dword i has the same checked parts at the end of pass k as at the end of pass 0.
+-- Dword i has the same checked parts at the end of pass k of round case e as at the end of pass 0.
 abbrev pub Same : Program → CaseMask → ℕ → ℕ → Hart → List Step → ℕ → ℕ → Type 0
-Same p m h c first own k i = All (λ part. IsTrue (is_checked m h part) → end_value p h c k first own part ≡ end_value p h c 0 first own part) (parts p h i)
+Same p m h e first own k i = All (λ part. IsTrue (is_checked m h part) → end_value p h e k first own part ≡ end_value p h e 0 first own part) (parts p h i)
 
--- The verdict is 0 where no checked part differs between a pass and pass 0. Else it names the least pass with a difference, k, and
--- in it the least dword that differs, i, as k * 2 ^ 32 + i + 1.
-pub data IsVerdict (p : Program) (m : CaseMask) (h c : ℕ) (first : Hart) (own : List Step) : ℕ → Type 0 where
-  agree : ((k i : ℕ) → k < passes p → i < saved p h → Same p m h c first own k i) → IsVerdict p m h c first own 0
+-- The verdict on round case e is 0 where no checked part differs between a pass and pass 0. Else it names the least pass with a
+-- difference, k, and in it the least dword that differs, i, as k * 2 ^ 32 + i + 1. (That the end values are there where a verdict is
+-- written follows from the course: see HasEnds.)
+pub data IsVerdict (p : Program) (m : CaseMask) (h e : ℕ) (first : Hart) (own : List Step) : ℕ → Type 0 where
+  agree : ((k i : ℕ) → k < passes p → i < saved p h → Same p m h e first own k i) → IsVerdict p m h e first own 0
   differ : (k i : ℕ) → k < passes p → i < saved p h
-      → (Same p m h c first own k i → ⊥)
-      → ((k' i' : ℕ) → k' < k → i' < saved p h → Same p m h c first own k' i')
-      → ((i' : ℕ) → i' < i → Same p m h c first own k i')
-      → IsVerdict p m h c first own (k * 2 ^ 32 + i + 1)
+      → (Same p m h e first own k i → ⊥)
+      → ((k' i' : ℕ) → k' < k → i' < saved p h → Same p m h e first own k' i')
+      → ((i' : ℕ) → i' < i → Same p m h e first own k i')
+      → IsVerdict p m h e first own (k * 2 ^ 32 + i + 1)
 
 -- Each number that is written to a verdict cell of hart h is the verdict over what was before.
 abbrev pub WritesExactly : Program → ℕ → Hart → List Step → Type 0
-WritesExactly p h first = Always (λ past s. (c : ℕ) (m : CaseMask) (v : ℕ) → slice_get p.masks.cases c ≡ Some m
-    → access_of s ≡ Write (verdict_at c h) 8 v → IsVerdict p m h c first past v)
+WritesExactly p h first = Always (λ past s. (e : ℕ) (m : CaseMask) (v : ℕ) → slice_get p.masks.cases (case_of_round p e) ≡ Some m
+    → access_of s ≡ Write (verdict_at e h) 8 v → IsVerdict p m h e first past v)
+
+-- Where hart h writes its verdict on a round case, each part that it saves has its end value in every pass.
+abbrev pub HasEnds : Program → ℕ → Hart → List Step → Type 0
+HasEnds p h first = Always (λ past s. (e v : ℕ) → e < round_count p → access_of s ≡ Write (verdict_at e h) 8 v
+    → (k i : ℕ) → k < passes p → i < saved p h → All (λ part. (u : ℕ) × (end_value p h e k first past part ≡ Some u)) (parts p h i))

@@ -5,7 +5,7 @@ use Rattle.tm_plan.specs.declared.cases.Case.{Case}
 use Rattle.tm_plan.specs.declared.cases.Stream.{Stream}
 use Rattle.tm_plan.specs.Map.{text_base, windows_base}
 use Rattle.tm_plan.specs.Collected.{count_from, is_declared}
-use Rattle.tm_world.specs.Place.{harts, case_count, start_of, end_of, exit_of, halt_of, inside, byte_of, word_at}
+use Rattle.tm_world.specs.Place.{harts, case_count, case_of_round, first_dwords, start_of, end_of, exit_of, halt_of, inside, byte_of, word_at}
 use Rattle.tm_world.specs.Run.{Run, own, Always, now, access_of, hart_of, Writes}
 use Rattle.tm_world.specs.Writers.{may_write, settled, stream_in}
 use Rattle.tm_world.specs.Kinds.{Legal, phase_of, first_of_hart}
@@ -46,16 +46,17 @@ WritesRight p r = Always (λ past s. Writes (λ b. IsTrue (may_write p (phase_of
 
 -- ---- first bytes on legal runs
 
--- the first byte of a case at b: its 768 first dwords stand for the 6144 bytes of the windows
-abbrev pub first_byte : Case → ℕ → ℕ
-first_byte case b = byte_of (slice_index case.first ((b - windows_base) / 8)) ((b - windows_base) % 8)
+-- the first byte at b, where these 768 dwords stand for the 6144 bytes of the windows
+abbrev pub first_byte : List ℕ → ℕ → ℕ
+first_byte dwords b = byte_of (slice_index dwords ((b - windows_base) / 8)) ((b - windows_base) % 8)
 
--- Where a hart has come into a stream of a case, each byte of a declared line has settled to that case's first byte, in the
--- phase that the hart is in after the entering step.
+-- Where a hart has come into a stream of the case of a round case, each byte of a declared line has settled to the round case's
+-- first byte, in the phase that the hart is in after the entering step.
 abbrev pub SettlesFirst : Program → Run → Type 0
-SettlesFirst p r = Always (λ past s. (c b : ℕ) (case : Case) → slice_get p.cases.cases c ≡ Some case
-    → IsTrue (comes_to p (hart_of s) (Enter c) (now (first_of_hart r (hart_of s)) (own (hart_of s) past)).pc s.after.pc) → IsTrue (is_declared p.cases b)
-    → settled p (s ∷ past) (phase_of p (s ∷ past) (hart_of s)) b ≡ Some (first_byte case b)) r.steps
+SettlesFirst p r = Always (λ past s. (e b : ℕ) (case : Case) → slice_get p.cases.cases (case_of_round p e) ≡ Some case
+    → IsTrue (comes_to p (hart_of s) (Enter (case_of_round p e)) (now (first_of_hart r (hart_of s)) (own (hart_of s) past)).pc s.after.pc)
+    → IsTrue (is_declared p.cases b)
+    → settled p (s ∷ past) (phase_of p (s ∷ past) (hart_of s)) b ≡ Some (first_byte (first_dwords p e case) b)) r.steps
 
 -- ---- the course
 

@@ -1,5 +1,5 @@
 -- Who may write a byte in a phase, and to what it settles (this project's own).
-use Rattle.std.specs.Prelude.{ℕ, zero, suc, ◌*◌, ◌/◌, ◌%◌, Bool, false, ◌&&◌, ◌||◌, nat_lt, ◌==◌, List, [], ◌∷◌, slice_get, Option, Some, None, if◌then◌else◌}
+use Rattle.std.specs.Prelude.{ℕ, zero, suc, ◌+◌, ◌*◌, ◌/◌, ◌%◌, Bool, false, ◌&&◌, ◌||◌, nat_lt, ◌==◌, List, [], ◌∷◌, slice_get, Option, Some, None, if◌then◌else◌}
 use Rattle.tm_plan.specs.declared.program.Program.{Program}
 use Rattle.tm_plan.specs.declared.cases.Cases.{Cases}
 use Rattle.tm_plan.specs.declared.cases.Case.{Case}
@@ -8,7 +8,7 @@ use Rattle.tm_table.specs.declared.instr.Instr.{Instr}
 use Rattle.tm_plan.specs.Collected.{any, count_from, is_declared, collector}
 use Rattle.tm_plan.specs.Slots.{instr_of, stores_to}
 use Rattle.tm_world.specs.Lists.{those, or_else}
-use Rattle.tm_world.specs.Place.{harts, case_count, passes, exit_of, is_flag, is_verdict, is_private, is_window, image_byte}
+use Rattle.tm_world.specs.Place.{harts, round_count, case_of_round, passes, exit_of, is_flag, is_verdict, is_private, is_window, image_byte}
 use Rattle.tm_world.specs.Run.{Step, own, last_write, in_phase}
 
 -- ---- streams
@@ -40,10 +40,19 @@ may_store cases c h b = some_store_to b (stream_in cases c h)
 
 -- ---- phases
 
--- the case whose run phase q is: phase 2 * (c * K + k) + 1 is the run phase of pass k of case c
+-- the run phase of pass k of round case e
+abbrev pub run_phase : Program → ℕ → ℕ → ℕ
+run_phase p e k = 2 * (e * passes p + k) + 1
+
+-- the round case whose run phase q is
+abbrev pub round_of_phase : Program → ℕ → Option ℕ
+round_of_phase p q =
+    if (q % 2 == 1) && nat_lt (q / 2) (round_count p * passes p) then Some (q / 2 / passes p) else None
+
+-- the case that is run in phase q
 abbrev pub case_of_phase : Program → ℕ → Option ℕ
 case_of_phase p q =
-    if (q % 2 == 1) && nat_lt (q / 2) (case_count p * passes p) then Some (q / 2 / passes p) else None
+    if (q % 2 == 1) && nat_lt (q / 2) (round_count p * passes p) then Some (case_of_round p (q / 2 / passes p)) else None
 
 -- In the run phase of a case a shared byte may be written by each hart with a store slot that covers it.
 abbrev pub may_write_running : Program → Option ℕ → ℕ → ℕ → Bool
