@@ -14,7 +14,8 @@ use Rattle.tm_world.specs.Run.{Step, Run, Always, own, now, first_state, pc_of, 
 use Rattle.tm_world.specs.Writers.{stream_in}
 use Rattle.tm_world.specs.Kinds.{IsOpening, Legal, plain_owed, stream_at}
 use Rattle.tm_world.specs.Course.{OnHalf, KeepsCollecting}
-use Rattle.tm_world.specs.Verdict.{Part, Register, Byte, end_value, left_with, run_phase}
+use Rattle.tm_world.specs.Verdict.{Part, Register, Byte, end_value, left_with}
+use Rattle.tm_world.specs.Writers.{run_phase}
 use Rattle.tm_legal.proofs.Order.{stream-some}
 use Rattle.tm_legal.proofs.Phases.{phase-exit, phase-other}
 use Rattle.tm_legal.proofs.Streams.{stream-of, case-of}

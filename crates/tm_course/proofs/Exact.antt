@@ -17,7 +17,8 @@ use Rattle.tm_world.specs.Place.{passes, exit_of, inside, image_byte, byte_of}
 use Rattle.tm_world.specs.Run.{Step, now, first_state, pc_of, access_of, got, phase}
 use Rattle.tm_world.specs.Kinds.{IsOpening, HalfPath}
 use Rattle.tm_world.specs.Course.{OnHalf}
-use Rattle.tm_world.specs.Verdict.{Part, Register, Byte, run_phase, left_with, first_read as first_read_of, end_value, parts, saved, is_checked, Same as SameParts, IsVerdict, agree, differ, WritesExactly}
+use Rattle.tm_world.specs.Verdict.{Part, Register, Byte, left_with, first_read as first_read_of, end_value, parts, saved, is_checked, Same as SameParts, IsVerdict, agree, differ, WritesExactly}
+use Rattle.tm_world.specs.Writers.{run_phase}
 use Rattle.tm_runs.specs.Machine.{Table, Entry}
 use Rattle.tm_runs.specs.World.{image_dword}
 use Rattle.tm_runs.specs.Shadow.{entry_of, entries_of}

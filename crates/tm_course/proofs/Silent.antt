@@ -18,7 +18,8 @@ use Rattle.tm_world.specs.Place.{harts, case_count, passes, exit_of, inside, is_
 use Rattle.tm_world.specs.Run.{Step, Run, now, first_state, hart_of, pc_of, access_of, own, phase, in_phase, got, written, last_write, read_value, Reads}
 use Rattle.tm_world.specs.Writers.{may_write, writers, wrote, settle, settled}
 use Rattle.tm_world.specs.Kinds.{IsOpening, HalfPath, Follows, Path, Legal, another, legal_owed, phase_of}
-use Rattle.tm_world.specs.Verdict.{first_read as first_read_of, run_phase, saved, Same as SameParts, IsVerdict, agree, differ}
+use Rattle.tm_world.specs.Verdict.{first_read as first_read_of, saved, Same as SameParts, IsVerdict, agree, differ}
+use Rattle.tm_world.specs.Writers.{run_phase}
 use Rattle.tm_world.specs.Sound.{NotReported}
 use Rattle.tm_world.proofs.Prefix.{earlier, Legal-earlier}
 use Rattle.tm_runs.specs.World.{image_dword}

@@ -112,7 +112,7 @@ record Facts (p : Program) (h : ℕ) (first : Hart) (past : List Step) (s : Step
   shape : HasShape (access_of s)
   reads : ReadsOwed (half_owed p h past) (access_of s)
 
-module _ (p : Program) (h : ℕ) (first : Hart) (sizes : Sizes p) (low-number : h < 8) where
+module _ (p : Program) (h : ℕ) (first : Hart) (sizes : Sizes p) (low-number : h < 16) where
   moved-kept : (past : List Step) (s : Step) (t : State) (i : Instr) (access : Access) (pc : ℕ) (regs mem : Table) → Facts p h first past s t i → access ≡ access_of s → pc ≡ s.after.pc → ((r : ℕ) → get regs r ≡ slice_index s.after.x r) → ((r : ℕ) → get regs r < 2 ^ 64) → length s.after.x ≡ 32 → Memory p h (s ∷ past) mem → Kept p h first (s ∷ past) (moved i t access pc regs mem)
   moved-kept past s t i access pc regs mem f a n r small l m = record {
     pc = n;
@@ -380,7 +380,7 @@ pub record Reached (p : Program) (h : ℕ) (x : List ℕ) (own : List Step) : Ty
   pub run : Run (world_of p h) (length own) (start p x) state
   pub kept : Kept p h (first_state x) own state
 
-pub half-reached : (p : Program) (h : ℕ) → Sizes p → h < 8 → (x : List ℕ) → IsOpening h x → (own : List Step) → HalfPath p h (first_state x) own → Reached p h x own
+pub half-reached : (p : Program) (h : ℕ) → Sizes p → h < 16 → (x : List ℕ) → IsOpening h x → (own : List Step) → HalfPath p h (first_state x) own → Reached p h x own
 half-reached p h sizes low-number x o [] path =
     let regs = get-list x o.zero in
     record {
@@ -396,7 +396,7 @@ half-reached p h sizes low-number x o (s ∷ past) path =
 -- each half run is a run of the machine
 pub half-runs : (p : Program) → HalfRunsAreRuns p
 half-runs p sizes h l x o own path =
-    let low-number : h < 8 = omega (arith, sizes.harts) in
+    let low-number : h < 16 = omega (arith, sizes.harts) in
     let r = half-reached p h sizes low-number x o own path in
     record {
       state = r.state;

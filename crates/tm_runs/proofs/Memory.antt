@@ -21,7 +21,7 @@ pub record Memory (p : Program) (h : ℕ) (own : List Step) (mem : Table) : Type
   pub image : (a i : ℕ) → is_fixed_dword p a ≡ true → i < 8 → byte_of (mem a) i ≡ image_byte p (a + i)
   pub fits : (a : ℕ) → mem a < 2 ^ 64
 
-module _ (p : Program) (h : ℕ) (sizes : Sizes p) (low : h < 8) where
+module _ (p : Program) (h : ℕ) (sizes : Sizes p) (low : h < 16) where
   -- what a half run owes is what the memory has
   pub owed : (own : List Step) (mem : Table) (a i : ℕ) → Memory p h own mem → IsTrue ((world_of p h).own a) → a % 8 ≡ 0 → i < 8 → half_owed p h own (a + i) ≡ Some (byte_of (mem a) i)
   owed own mem a i m o al l = by (or-cases (is_private_dword h a) (is_fixed_dword p a) o)

@@ -27,7 +27,7 @@ or-right true c e = refl
 or-right false c e = e
 
 -- where a private dword is
-private-place : (h a : ℕ) → is_private_dword h a ≡ true → h < 8 → (2160132096 ≤ a) × (a < 2161180672) × (private_at h ≤ a) × (a + 8 ≤ private_at h + private_size)
+private-place : (h a : ℕ) → is_private_dword h a ≡ true → h < 16 → (2160132096 ≤ a) × (a < 2162229248) × (private_at h ≤ a) × (a + 8 ≤ private_at h + private_size)
 unfolding is_private_dword private_at private_size
 private-place h a e l = let p = holds-true _ _ a e in (omega (arith, p), omega (arith, p), p.0, p.1)
 
@@ -58,7 +58,7 @@ pub fixed-open : (p : Program) (h a i : ℕ) → Sizes p → is_fixed_dword p a 
 unfolding private_at
 fixed-open p h a i s e l = let q = fixed-place p a s e in within-false _ private_size (a + i) (inl (omega arith))
 
-pub private-free : (p : Program) (h a : ℕ) → Sizes p → h < 8 → is_private_dword h a ≡ true → is_fixed_dword p a ≡ false
+pub private-free : (p : Program) (h a : ℕ) → Sizes p → h < 16 → is_private_dword h a ≡ true → is_fixed_dword p a ≡ false
 private-free p h a s l e = by (is_fixed_dword p a) refl
   where
     by : (b : Bool) → is_fixed_dword p a ≡ b → is_fixed_dword p a ≡ false
@@ -66,12 +66,12 @@ private-free p h a s l e = by (is_fixed_dword p a) refl
     by false q = q
 
 -- no byte of a private dword is in a window
-pub private-window : (h a i : ℕ) → h < 8 → is_private_dword h a ≡ true → i < 8 → is_window (a + i) ≡ true → ⊥
+pub private-window : (h a i : ℕ) → h < 16 → is_private_dword h a ≡ true → i < 8 → is_window (a + i) ≡ true → ⊥
 unfolding windows_base windows_size
 private-window h a i l e q w = let f = private-place h a e l in let g = within-parts windows_base windows_size (a + i) w in omega (arith, f, g)
 
 -- the image holds 0 in private areas
-pub private-image : (p : Program) (h a i : ℕ) → Sizes p → h < 8 → is_private_dword h a ≡ true → i < 8 → image_byte p (a + i) ≡ 0
+pub private-image : (p : Program) (h a i : ℕ) → Sizes p → h < 16 → is_private_dword h a ≡ true → i < 8 → image_byte p (a + i) ≡ 0
 unfolding text_base tables_base
 private-image p h a i s l e q =
     let f = private-place h a e l in

@@ -18,7 +18,7 @@ use Rattle.tm_runs.proofs.Bytes.{same_dword, joined-byte, joined-lt, within-true
 use Rattle.tm_runs.proofs.Places.{or-right, private-image, image-lt, fixed-place}
 
 pub sizes-of : (p : Program) → IsProgram p → ((k : ℕ) → slice_index p.text k < 2 ^ 32) → ((k : ℕ) → slice_index p.tables k < 256) → Sizes p
-sizes-of p is words bytes = record { harts = is.cases.harts.1; text = is.text.1; tables = is.tables; words = words; bytes = bytes }
+sizes-of p is words bytes = record { harts = omega (arith, is.cases.harts); text = is.text.1; tables = is.tables; words = words; bytes = bytes }
 
 -- ---- support code
 
@@ -108,7 +108,7 @@ image-table p k s l =
     ∙ (ap (λ (c : Bool). if c then slice_index p.tables (b - tables_base) else 0) u ∙ ap (λ (n : ℕ). slice_index p.tables n) e)
 
 -- private areas begin as 0
-pub image-private : (p : Program) (h a : ℕ) → Sizes p → h < 8 → is_private_dword h a ≡ true → image_dword p a ≡ 0
+pub image-private : (p : Program) (h a : ℕ) → Sizes p → h < 16 → is_private_dword h a ≡ true → image_dword p a ≡ 0
 image-private p h a s l e = image-dword p a 0 s (omega arith) (λ i m. private-image p h a i s l e m ∙ none i)
   where
     none : (i : ℕ) → 0 ≡ byte_of 0 i

@@ -21,7 +21,8 @@ use Rattle.tm_world.specs.Place.{harts, case_count, exit_of, start_of, inside, w
 use Rattle.tm_world.specs.Run.{Step, own, now, first_state, access_of, read_value, phase}
 use Rattle.tm_world.specs.Writers.{stream_in}
 use Rattle.tm_world.specs.Kinds.{IsOpening}
-use Rattle.tm_world.specs.Verdict.{Register, end_value, left_with, run_phase}
+use Rattle.tm_world.specs.Verdict.{Register, end_value, left_with}
+use Rattle.tm_world.specs.Writers.{run_phase}
 use Rattle.tm_runs.proofs.Rows.{decoded-row}
 use Rattle.tm_legal.specs.Tame.{Formed}
 use Rattle.tm_legal.proofs.Rows.{IsOfKind, of-kind, IsMachine}
