@@ -23,7 +23,7 @@ use Rattle.tm_legal.proofs.Half.{on-legal}
 use Rattle.tm_legal.proofs.Alone.{all-own, legal-plain}
 use Rattle.tm_stays.proofs.Turns.{turned, not-at-exit}
 use Rattle.tm_alone.specs.Laws.{Alone, IsCompared, PassesAgree}
-use Rattle.tm_alone.proofs.Entries.{entered, entered-more, some-entry, at-exit, inside-entered, leaves-phase, started}
+use Rattle.tm_stays.proofs.Entries.{entered, entered-more, some-entry, at-exit, inside-entered, leaves-phase, started}
 use Rattle.tm_alone.proofs.Ways.{Ways, ways-before, is-hart, ways, held, held-more, outside-spares}
 use Rattle.tm_alone.proofs.Settles.{right-run}
 use Rattle.tm_alone.proofs.Passes.{far, begin, Long, same-length, came-left}

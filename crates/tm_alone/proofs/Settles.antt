@@ -22,7 +22,7 @@ use Rattle.tm_legal.proofs.Order.{stream-some}
 use Rattle.tm_legal.proofs.Phases.{in_phase-here, in_phase-there}
 use Rattle.tm_stays.proofs.Right.{legal-right}
 use Rattle.tm_alone.specs.Laws.{Alone, FirstBytesSettle}
-use Rattle.tm_alone.proofs.Entries.{entered, entered-more, entry-counts, inside-entered, started}
+use Rattle.tm_stays.proofs.Entries.{entered, entered-more, entry-counts, inside-entered, started}
 use Rattle.tm_alone.proofs.Ways.{Ways, ways-before, is-hart, ways, outside-spares}
 
 -- ---- one hart's laws

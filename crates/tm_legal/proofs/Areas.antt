@@ -23,7 +23,7 @@ pub those-none : (test : ℕ → Bool) (n a : ℕ) → ((c : ℕ) → a ≤ c �
 those-none test zero a h = refl
 those-none test (suc n) a h = ap (λ (b : Bool). if b then a ∷ those test (count_from (suc a) n) else those test (count_from (suc a) n)) (h a (omega arith) (omega arith)) ∙ those-none test n (suc a) (λ c l m. h c (omega arith) (omega arith))
 
-those-one : (test : ℕ → Bool) (n a g : ℕ) → a ≤ g → g < a + n → test g ≡ true → ((c : ℕ) → a ≤ c → c < a + n → c ≢ g → test c ≡ false) → those test (count_from a n) ≡ g ∷ []
+pub those-one : (test : ℕ → Bool) (n a g : ℕ) → a ≤ g → g < a + n → test g ≡ true → ((c : ℕ) → a ≤ c → c < a + n → c ≢ g → test c ≡ false) → those test (count_from a n) ≡ g ∷ []
 those-one test zero a g l m t h = absurd (omega arith)
 those-one test (suc n) a g l m t h = by (a == g) refl (λ k. those-one test n (suc a) g k (omega arith) t (λ c x y z. h c (omega arith) (omega arith) z))
   where

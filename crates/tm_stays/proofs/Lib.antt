@@ -3,3 +3,5 @@ pub mod Alike
 pub mod Fronts
 pub mod Turns
 pub mod Right
+pub mod Entries
+pub mod Dwords
