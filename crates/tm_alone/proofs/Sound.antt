@@ -48,7 +48,7 @@ sound-alone p s = record {
   tables = s.tables;
   course = course p s;
   bound = λ h l. subst (Bound p) (only p s h l) (bound p s);
-  silent = silent p (alone p s) s.program.masks.count s.hart.collecting s.exact s.ends;
+  silent = silent p (alone p s) s.program.masks.count s.hart.collecting s.hart.verdicts s.exact s.ends;
   exact = λ h l. subst (λ (g : ℕ). OnHalf p g (WritesExactly p g)) (only p s h l) s.exact;
   plain = plain-legal p s.one (right-run p (alone p s));
 }
