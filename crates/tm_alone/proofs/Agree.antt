@@ -202,6 +202,6 @@ module _ (p : Program) (a : Alone p) (collecting : OnHalf p 0 (KeepsCollecting p
 
 pub passes-agree : (p : Program) → PassesAgree p
 passes-agree p a collecting c few r legal =
-    let (stream, is) = stream-of p.cases c 0 a.formed.cases few (is-hart p a) in
+    let (stream, is) = stream-of p.cases c 0 a.formed.program.cases few (is-hart p a) in
     let (case, at, _) = case-of p.cases c 0 stream is in
     both p a collecting c few r legal stream is case at

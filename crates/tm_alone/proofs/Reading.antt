@@ -49,7 +49,7 @@ module _ (p : Program) (a : Alone p) (x : List ℕ) (c b : ℕ) (shared : IsTrue
 
   -- the byte's place
   place : (dword_of b ≤ b) × (b < dword_of b + 8) × ((b - windows_base) / 8 < 768) × (is_declared p.cases (dword_of b) ≡ true)
-  place = dword-place p.cases b (lies p.cases b a.formed.cases shared)
+  place = dword-place p.cases b (lies p.cases b a.formed.program.cases shared)
 
   dword : (P : ℕ → Type 0) → All P (owned p.cases 0) → P (dword_of b)
   dword P all = of-owned P p.cases 0 b place.2 place.3 (collects p a (dword_of b)) all
@@ -81,7 +81,7 @@ module _ (p : Program) (a : Alone p) (x : List ℕ) (c b : ℕ) (shared : IsTrue
   -- a write of the byte is one of shared memory
   writes-it : (addr width value : ℕ) → within addr width b ≡ true → IsTrue (writes_shared p (Write addr width value))
   writes-it addr width value e =
-      let l = lies p.cases b a.formed.cases shared in
+      let l = lies p.cases b a.formed.program.cases shared in
       let w = l.window in
       let r = within-parts addr width b e in
       let m = within-parts (window_at w.number) (w.lines * p.cases.line) b l.holds in

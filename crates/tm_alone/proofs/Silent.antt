@@ -107,10 +107,10 @@ module _ (p : Program) (a : Alone p) (masks : length p.masks.cases ≡ case_coun
       let first = first_state (o 0) in
       let Has = λ (j : ℕ) (part : Part). (u : ℕ) × (end_value p 0 c j first (own 0 past) part ≡ Some u) in
       let Is = λ (part : Part). IsTrue (is_checked m 0 part) → end_value p 0 c k first (own 0 past) part ≡ end_value p 0 c 0 first (own 0 past) part in
-      let some = a.formed.cases.passes.0 in
+      let some = a.formed.program.cases.passes.0 in
       All-from_recursion Is (parts p 0 i)
       (each-joined (IsCompared p) (Has k) (Has 0) Is (λ part f x y _. x.1 ∙ (ap Some (passes-agree p a collecting c few (earlier o past) legal part f k 0 x.0 y.0 l (omega arith) x.1 y.1) ∙ sym y.1)) (parts p 0 i)
-      (fine p 0 i a.formed.cases li)
+      (fine p 0 i a.formed.program.cases li)
       (recursion_from_All (Has k) (parts p 0 i) (all k i l li))
       (recursion_from_All (Has 0) (parts p 0 i) (all 0 i (omega arith) li)))
 

@@ -16,7 +16,7 @@ use Rattle.tm_alone.proofs.Silent.{silent}
 
 module _ (p : Program) (s : IsSoundOnHalf p) where
   formed : Formed p
-  formed = record { sizes = s.sizes; cases = s.program.cases; laid = s.laid }
+  formed = record { program = s.program; typed = s.typed; laid = s.laid }
 
   tame : Tame p 0
   tame = course-tame p formed 0 s.hart

@@ -2,7 +2,7 @@
 use Rattle.std.specs.Prelude.{◌≡◌, ℕ, ◌+◌, ◌*◌, ◌<◌, ◌≤◌, length, Some, IsTrue}
 use Rattle.tm_plan.specs.declared.program.Program.{Program}
 use Rattle.tm_plan.specs.Collected.{is_declared, work_of}
-use Rattle.tm_plan.specs.Shaped.{IsProgram}
+use Rattle.tm_plan.specs.Shaped.{IsProgram, IsTyped}
 use Rattle.tm_plan.specs.Tables.{table_bytes}
 use Rattle.tm_world.specs.Place.{harts, case_count, passes}
 use Rattle.tm_world.specs.Run.{Run}
@@ -13,7 +13,6 @@ use Rattle.tm_world.specs.Work.{GoesOn}
 use Rattle.tm_world.specs.Verdict.{Part, Register, Byte, end_value, WritesExactly}
 use Rattle.tm_world.specs.Sound.{NotReported, Sound}
 use Rattle.tm_world.specs.Checked.{AreChecked}
-use Rattle.tm_runs.specs.World.{Sizes}
 use Rattle.tm_legal.specs.Tame.{Formed, Tame}
 use Rattle.tm_legal.specs.Laws.{OnLegal}
 use Rattle.tm_stays.specs.Stays.{outside_work, words_in}
@@ -54,7 +53,7 @@ Silent p = Alone p → length p.masks.cases ≡ case_count p → OnHalf p 0 (Kee
 pub record IsSoundOnHalf (p : Program) : Type 0 where
   pub one : harts p ≡ 1
   pub program : IsProgram p
-  pub sizes : Sizes p
+  pub typed : IsTyped p
   pub laid : Laid p
   pub masks : AreChecked p.cases p.masks
   pub tables : p.tables ≡ table_bytes p.cases p.masks

@@ -117,7 +117,7 @@ module _ (p : Program) (formed : Formed p) (h c : ℕ) (stream : Stream) (hart :
       record {
         store = mine;
         declared = window-declared p.cases b v among (lines b both);
-        window = declared-window p.cases.line b v (All-contains (IsShapedWindow p.cases.line) p.cases.windows v formed.cases.windows among) (lines b both);
+        window = declared-window p.cases.line b v (All-contains (IsShapedWindow p.cases.line) p.cases.windows v formed.program.cases.windows among) (lines b both);
       }
 
   -- the bytes of a load are shared bytes

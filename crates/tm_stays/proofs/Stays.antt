@@ -142,7 +142,7 @@ module _ (p : Program) (formed : Formed p) (h : ℕ) (number : h < harts p) (x :
       by : (b : Bool) → inside p h c to ≡ b → left p h c to ≤ 4 * gain p h from to c
       by false t = let r = left-outside p h c to t in omega arith
       by true t =
-          let (stream, e) = stream-of p.cases c h formed.cases few number in
+          let (stream, e) = stream-of p.cases c h formed.program.cases few number in
           let came = entered p h (first_state x) s past c strays few i t in
           let g : gain p h from to c ≡ size p h c = ap (λ (b : Bool). if b then size p h c else 0) came in
           let at : to ≡ start_of p h c = eqb-true to (start_of p h c) (and_parts (to == start_of p h c) _ came).0 in

@@ -150,9 +150,9 @@ module _ (p : Program) (formed : Formed p) (h : ℕ) (number : h < harts p) (x :
 
     long : start_of p h d < end_of p h d
     long =
-        let (stream, e) = stream-of p.cases d h formed.cases few number in
+        let (stream, e) = stream-of p.cases d h formed.program.cases few number in
         let l = formed.laid.long h d stream number e in
-        let some = (shaped-stream p.cases d h stream formed.cases e).some in
+        let some = (shaped-stream p.cases d h stream formed.program.cases e).some in
         omega arith
 
     -- the sums after the step
