@@ -27,7 +27,8 @@ use Rattle.tm_stays.proofs.Entries.{entered, entered-more, some-entry, at-exit, 
 use Rattle.tm_alone.proofs.Ways.{Ways, ways-before, is-hart, ways, held, held-more, outside-spares}
 use Rattle.tm_alone.proofs.Settles.{right-run}
 use Rattle.tm_alone.proofs.Passes.{far, begin, Long, same-length, came-left}
-use Rattle.tm_alone.proofs.Reading.{or-none, reading, unwritten, first-reading}
+use Rattle.tm_stays.proofs.Options.{or-none}
+use Rattle.tm_alone.proofs.Reading.{reading, unwritten, first-reading}
 
 -- the reads of one hart's steps
 abbrev pub PlainReads : Program → List Step → Type 0

@@ -17,14 +17,11 @@ use Rattle.tm_runs.proofs.Places.{within-parts}
 use Rattle.tm_runs.proofs.Bytes.{within-true}
 use Rattle.tm_legal.proofs.Phases.{in_phase-here, in_phase-there}
 use Rattle.tm_legal.proofs.Streams.{any-one}
+use Rattle.tm_stays.proofs.Options.{or-none}
 use Rattle.tm_alone.specs.Laws.{Alone}
 use Rattle.tm_alone.proofs.Ways.{Ways, ways-before, held}
 use Rattle.tm_alone.proofs.Settles.{collects}
 use Rattle.tm_stays.proofs.Dwords.{lies, dword_of, dword-place, of-owned}
-
-pub or-none : {A : Type 0} (u v : Option A) → or_else u v ≡ None → (u ≡ None) × (v ≡ None)
-or-none (Some x) v e = cc
-or-none None v e = (refl, e)
 
 -- run phase i is of this case
 runs : (p : Program) (i : ℕ) → i < case_count p * passes p → round_of_phase p (2 * i + 1) ≡ Some (i / passes p)

@@ -5,3 +5,4 @@ pub mod Turns
 pub mod Right
 pub mod Entries
 pub mod Dwords
+pub mod Options
