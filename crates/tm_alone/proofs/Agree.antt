@@ -23,11 +23,12 @@ use Rattle.tm_legal.proofs.Half.{on-legal}
 use Rattle.tm_legal.proofs.Alone.{all-own, legal-plain}
 use Rattle.tm_stays.proofs.Turns.{turned, not-at-exit}
 use Rattle.tm_alone.specs.Laws.{Alone, IsCompared, PassesAgree}
-use Rattle.tm_alone.proofs.Entries.{entered, entered-more, some-entry, at-exit, inside-entered, leaves-phase, started}
+use Rattle.tm_stays.proofs.Entries.{entered, entered-more, some-entry, at-exit, inside-entered, leaves-phase, started}
 use Rattle.tm_alone.proofs.Ways.{Ways, ways-before, is-hart, ways, held, held-more, outside-spares}
 use Rattle.tm_alone.proofs.Settles.{right-run}
 use Rattle.tm_alone.proofs.Passes.{far, begin, Long, same-length, came-left}
-use Rattle.tm_alone.proofs.Reading.{or-none, reading, unwritten, first-reading}
+use Rattle.tm_stays.proofs.Options.{or-none}
+use Rattle.tm_alone.proofs.Reading.{reading, unwritten, first-reading}
 
 -- the reads of one hart's steps
 abbrev pub PlainReads : Program → List Step → Type 0
@@ -202,6 +203,6 @@ module _ (p : Program) (a : Alone p) (collecting : OnHalf p 0 (KeepsCollecting p
 
 pub passes-agree : (p : Program) → PassesAgree p
 passes-agree p a collecting c few r legal =
-    let (stream, is) = stream-of p.cases c 0 a.formed.cases few (is-hart p a) in
+    let (stream, is) = stream-of p.cases c 0 a.formed.program.cases few (is-hart p a) in
     let (case, at, _) = case-of p.cases c 0 stream is in
     both p a collecting c few r legal stream is case at

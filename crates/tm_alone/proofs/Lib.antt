@@ -1,7 +1,5 @@
-pub mod Entries
 pub mod Ways
 pub mod Settles
-pub mod Dwords
 pub mod Passes
 pub mod Reading
 pub mod Agree

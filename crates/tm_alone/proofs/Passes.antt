@@ -109,7 +109,7 @@ module _ (p : Program) (a : Alone p) (c : ℕ) (case : Case) (at : slice_get p.c
 
   -- where the hart has just come in
   abbrev pub begin : Place
-  begin = record { hart = entry p 0 c stream; mem = first_byte case }
+  begin = record { hart = entry p 0 c stream; mem = first_byte case.first }
 
   -- the hart came in n steps ago, and was inside since
   pub record Came (steps : List Step) (n : ℕ) : Type 0 where

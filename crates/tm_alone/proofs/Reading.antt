@@ -10,24 +10,21 @@ use Rattle.tm_plan.specs.Collected.{any, is_declared, owned}
 use Rattle.tm_world.specs.Lists.{or_else}
 use Rattle.tm_world.specs.Place.{case_count, passes, exit_of, byte_of}
 use Rattle.tm_world.specs.Run.{Step, Always, first_state, access_of, phase, in_phase, written, got, earliest, Reads}
-use Rattle.tm_world.specs.Writers.{case_of_phase}
+use Rattle.tm_world.specs.Writers.{round_of_phase}
 use Rattle.tm_world.specs.Kinds.{plain_owed}
-use Rattle.tm_world.specs.Course.{KeepsCollecting, Collects, case_before, writes_in, reads_in, writes_shared}
+use Rattle.tm_world.specs.Course.{KeepsCollecting, Collects, round_before, writes_in, reads_in, writes_shared}
 use Rattle.tm_runs.proofs.Places.{within-parts}
 use Rattle.tm_runs.proofs.Bytes.{within-true}
 use Rattle.tm_legal.proofs.Phases.{in_phase-here, in_phase-there}
 use Rattle.tm_legal.proofs.Streams.{any-one}
+use Rattle.tm_stays.proofs.Options.{or-none}
 use Rattle.tm_alone.specs.Laws.{Alone}
 use Rattle.tm_alone.proofs.Ways.{Ways, ways-before, held}
 use Rattle.tm_alone.proofs.Settles.{collects}
-use Rattle.tm_alone.proofs.Dwords.{lies, dword_of, dword-place, of-owned}
-
-pub or-none : {A : Type 0} (u v : Option A) → or_else u v ≡ None → (u ≡ None) × (v ≡ None)
-or-none (Some x) v e = cc
-or-none None v e = (refl, e)
+use Rattle.tm_stays.proofs.Dwords.{lies, dword_of, dword-place, of-owned}
 
 -- run phase i is of this case
-runs : (p : Program) (i : ℕ) → i < case_count p * passes p → case_of_phase p (2 * i + 1) ≡ Some (i / passes p)
+runs : (p : Program) (i : ℕ) → i < case_count p * passes p → round_of_phase p (2 * i + 1) ≡ Some (i / passes p)
 runs p i l =
     let half : (2 * i + 1) / 2 ≡ i = omega arith in
     let odd : ((2 * i + 1) % 2 == 1) ≡ true = eq-eqb ((2 * i + 1) % 2) 1 (omega arith) in
@@ -40,16 +37,16 @@ abbrev pub reading : Program → ℕ → ℕ → List Step → Step → Option �
 reading p b q past s = if phase (exit_of p 0) past == q then got (access_of s) b else None
 
 module _ (p : Program) (a : Alone p) (x : List ℕ) (c b : ℕ) (shared : IsTrue (is_declared p.cases b)) (i : ℕ) (of : i / passes p ≡ c) (few : i < case_count p * passes p) (q : ℕ) (next : q ≡ 2 * i + 2) where
-  pub collects-at : (s : Step) (past : List Step) → KeepsCollecting p 0 (first_state x) (s ∷ past) → phase (exit_of p 0) past ≡ q → Collects p 0 c q past s
+  pub collects-at : (s : Step) (past : List Step) → KeepsCollecting p 0 (first_state x) (s ∷ past) → phase (exit_of p 0) past ≡ q → Collects p 0 q past s
   collects-at s past k ph =
       let after-run : q ≡ suc (2 * i + 1) = omega arith in
-      let here : IfSome (case_before p q) (λ d. Collects p 0 d q past s) = subst (λ (n : ℕ). IfSome (case_before p n) (λ d. Collects p 0 d n past s)) ph k.0 in
-      let case' : case_before p q ≡ Some c = ap (case_before p) after-run ∙ (runs p i few ∙ ap Some of) in
-      subst (λ (z : Option ℕ). IfSome z (λ d. Collects p 0 d q past s)) case' here
+      let here : IfSome (round_before p q) (λ d. Collects p 0 q past s) = subst (λ (n : ℕ). IfSome (round_before p n) (λ d. Collects p 0 n past s)) ph k.0 in
+      let case' : round_before p q ≡ Some c = ap (round_before p) after-run ∙ (runs p i few ∙ ap Some of) in
+      subst (λ (z : Option ℕ). IfSome z (λ d. Collects p 0 q past s)) case' here
 
   -- the byte's place
   place : (dword_of b ≤ b) × (b < dword_of b + 8) × ((b - windows_base) / 8 < 768) × (is_declared p.cases (dword_of b) ≡ true)
-  place = dword-place p.cases b (lies p.cases b a.formed.cases shared)
+  place = dword-place p.cases b (lies p.cases b a.formed.program.cases shared)
 
   dword : (P : ℕ → Type 0) → All P (owned p.cases 0) → P (dword_of b)
   dword P all = of-owned P p.cases 0 b place.2 place.3 (collects p a (dword_of b)) all
@@ -81,7 +78,7 @@ module _ (p : Program) (a : Alone p) (x : List ℕ) (c b : ℕ) (shared : IsTrue
   -- a write of the byte is one of shared memory
   writes-it : (addr width value : ℕ) → within addr width b ≡ true → IsTrue (writes_shared p (Write addr width value))
   writes-it addr width value e =
-      let l = lies p.cases b a.formed.cases shared in
+      let l = lies p.cases b a.formed.program.cases shared in
       let w = l.window in
       let r = within-parts addr width b e in
       let m = within-parts (window_at w.number) (w.lines * p.cases.line) b l.holds in

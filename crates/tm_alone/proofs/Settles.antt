@@ -22,7 +22,7 @@ use Rattle.tm_legal.proofs.Order.{stream-some}
 use Rattle.tm_legal.proofs.Phases.{in_phase-here, in_phase-there}
 use Rattle.tm_stays.proofs.Right.{legal-right}
 use Rattle.tm_alone.specs.Laws.{Alone, FirstBytesSettle}
-use Rattle.tm_alone.proofs.Entries.{entered, entered-more, entry-counts, inside-entered, started}
+use Rattle.tm_stays.proofs.Entries.{entered, entered-more, entry-counts, inside-entered, started}
 use Rattle.tm_alone.proofs.Ways.{Ways, ways-before, is-hart, ways, outside-spares}
 
 -- ---- one hart's laws
@@ -71,7 +71,7 @@ module _ (p : Program) (a : Alone p) (x : List ℕ) (o : IsOpening 0 x) where
 
   -- where a stream is entered
   settled-now : (s : Step) (past : List Step) → Ways p (first_state x) (s ∷ past) → Keeps p (s ∷ past) → own 0 (s ∷ past) ≡ s ∷ past → (c b : ℕ) (case : Case) → slice_get p.cases.cases c ≡ Some case
-      → IsTrue (comes_to p 0 (Enter c) (now (first_state x) past).pc s.after.pc) → IsTrue (is_declared p.cases b) → settled p (s ∷ past) (phase_of p (s ∷ past) 0) b ≡ Some (first_byte case b)
+      → IsTrue (comes_to p 0 (Enter c) (now (first_state x) past).pc s.after.pc) → IsTrue (is_declared p.cases b) → settled p (s ∷ past) (phase_of p (s ∷ past) 0) b ≡ Some (first_byte case.first b)
   settled-now s past w k mine c b case is came shared =
       let l = is-hart p a in
       let from = (now (first_state x) past).pc in
@@ -90,7 +90,7 @@ module _ (p : Program) (a : Alone p) (x : List ℕ) (o : IsOpening 0 x) where
 
 module _ (p : Program) (a : Alone p) (o : ℕ → List ℕ) where
   settles-at : (s : Step) (past : List Step) → Legal p (earlier o (s ∷ past)) → (h : ℕ) → hart_of s ≡ h → (c b : ℕ) (case : Case) → slice_get p.cases.cases c ≡ Some case
-      → IsTrue (comes_to p h (Enter c) (now (first_state (o h)) (own h past)).pc s.after.pc) → IsTrue (is_declared p.cases b) → settled p (s ∷ past) (phase_of p (s ∷ past) h) b ≡ Some (first_byte case b)
+      → IsTrue (comes_to p h (Enter c) (now (first_state (o h)) (own h past)).pc s.after.pc) → IsTrue (is_declared p.cases b) → settled p (s ∷ past) (phase_of p (s ∷ past) h) b ≡ Some (first_byte case.first b)
   settles-at s past legal zero e c b case is came shared =
       let only = legal.paths.only in
       let mine = all-own p a.one (s ∷ past) only in

@@ -15,7 +15,7 @@ use Rattle.tm_plan.specs.Shaped.{AreShaped}
 use Rattle.tm_world.specs.Place.{harts, case_count, passes}
 use Rattle.tm_world.specs.Run.{Step, own, first_state, hart_of, access_of}
 use Rattle.tm_world.specs.Kinds.{Legal}
-use Rattle.tm_world.specs.Course.{OnHalf, KeepsCollecting}
+use Rattle.tm_world.specs.Course.{OnHalf, KeepsCollecting, KeepsVerdicts, writes_in}
 use Rattle.tm_world.specs.Verdict.{Part, Register, Byte, end_value, saved, parts, is_checked, Same, IsVerdict, agree, differ, WritesExactly}
 use Rattle.tm_world.specs.Sound.{NotReported}
 use Rattle.tm_world.proofs.Prefix.{earlier, Legal-earlier}
@@ -24,11 +24,11 @@ use Rattle.tm_runs.proofs.Bytes.{within-true}
 use Rattle.tm_legal.proofs.Own.{own-here}
 use Rattle.tm_legal.proofs.Streams.{none-past, window-declared}
 use Rattle.tm_legal.proofs.Half.{on-legal}
-use Rattle.tm_alone.specs.Sets.{HasEnds}
+use Rattle.tm_world.specs.Verdict.{HasEnds}
 use Rattle.tm_alone.specs.Laws.{Alone, IsCompared, Silent}
 use Rattle.tm_alone.proofs.Ways.{is-hart}
 use Rattle.tm_alone.proofs.Agree.{passes-agree}
-use Rattle.tm_alone.proofs.Dwords.{lies}
+use Rattle.tm_stays.proofs.Dwords.{lies}
 
 -- ---- parts
 
@@ -99,7 +99,7 @@ no-verdict : (p : Program) (m : CaseMask) (h c : ℕ) (first : Hart) (own : List
 no-verdict p m h c first own v same (agree f) = refl
 no-verdict p m h c first own v same (differ k i l li d f g) = absurd (d (same k i l li))
 
-module _ (p : Program) (a : Alone p) (masks : length p.masks.cases ≡ case_count p) (collecting : OnHalf p 0 (KeepsCollecting p 0)) (exact : OnHalf p 0 (WritesExactly p 0)) (has-ends : OnHalf p 0 (HasEnds p 0)) (o : ℕ → List ℕ) where
+module _ (p : Program) (a : Alone p) (masks : length p.masks.cases ≡ case_count p) (collecting : OnHalf p 0 (KeepsCollecting p 0)) (keeps : OnHalf p 0 (KeepsVerdicts p 0)) (exact : OnHalf p 0 (WritesExactly p 0)) (has-ends : OnHalf p 0 (HasEnds p 0)) (o : ℕ → List ℕ) where
   same-dword : (past : List Step) → Legal p (earlier o past) → (c : ℕ) → c < case_count p
       → ((k i : ℕ) → k < passes p → i < saved p 0 → All (λ part. (u : ℕ) × (end_value p 0 c k (first_state (o 0)) (own 0 past) part ≡ Some u)) (parts p 0 i))
       → (m : CaseMask) (k i : ℕ) → k < passes p → i < saved p 0 → Same p m 0 c (first_state (o 0)) (own 0 past) k i
@@ -107,31 +107,33 @@ module _ (p : Program) (a : Alone p) (masks : length p.masks.cases ≡ case_coun
       let first = first_state (o 0) in
       let Has = λ (j : ℕ) (part : Part). (u : ℕ) × (end_value p 0 c j first (own 0 past) part ≡ Some u) in
       let Is = λ (part : Part). IsTrue (is_checked m 0 part) → end_value p 0 c k first (own 0 past) part ≡ end_value p 0 c 0 first (own 0 past) part in
-      let some = a.formed.cases.passes.0 in
+      let some = a.formed.program.cases.passes.0 in
       All-from_recursion Is (parts p 0 i)
       (each-joined (IsCompared p) (Has k) (Has 0) Is (λ part f x y _. x.1 ∙ (ap Some (passes-agree p a collecting c few (earlier o past) legal part f k 0 x.0 y.0 l (omega arith) x.1 y.1) ∙ sym y.1)) (parts p 0 i)
-      (fine p 0 i a.formed.cases li)
+      (fine p 0 i a.formed.program.cases li)
       (recursion_from_All (Has k) (parts p 0 i) (all k i l li))
       (recursion_from_All (Has 0) (parts p 0 i) (all 0 i (omega arith) li)))
 
-  step-silent : (s : Step) (past : List Step) → Legal p (earlier o (s ∷ past)) → hart_of s ≡ 0 → (c h v : ℕ) → c < case_count p → h < harts p → access_of s ≡ Write (verdict_at c h) 8 v → v ≡ 0
-  step-silent s past legal mine c h v few number e =
+  step-silent : (s : Step) (past : List Step) → Legal p (earlier o (s ∷ past)) → hart_of s ≡ 0 → (c h : ℕ) → c < case_count p → h < harts p → IsTrue (writes_in (verdict_at c h) 8 (access_of s)) → access_of s ≡ Write (verdict_at c h) 8 0
+  step-silent s past legal mine c h few number covers =
       let first = first_state (o 0) in
       let h-is : h ≡ 0 = omega (arith, a.one) in
-      let writes : access_of s ≡ Write (verdict_at c 0) 8 v = e ∙ ap (λ (n : ℕ). Write (verdict_at c n) 8 v) h-is in
       let here = own-here 0 s past mine in
+      let keeping : KeepsVerdicts p 0 first (s ∷ own 0 past) = subst (KeepsVerdicts p 0 first) here (on-legal p a.formed 0 (is-hart p a) a.tame (KeepsVerdicts p 0) keeps (earlier o (s ∷ past)) legal) in
+      let (v, writes) = (keeping.0 c h few number covers).1.value in
+      let at-h : access_of s ≡ Write (verdict_at c h) 8 v = writes ∙ ap (λ (n : ℕ). Write (verdict_at c n) 8 v) (sym h-is) in
       let verdicts : WritesExactly p 0 first (s ∷ own 0 past) = subst (WritesExactly p 0 first) here (on-legal p a.formed 0 (is-hart p a) a.tame (WritesExactly p 0) exact (earlier o (s ∷ past)) legal) in
       let there : HasEnds p 0 first (s ∷ own 0 past) = subst (HasEnds p 0 first) here (on-legal p a.formed 0 (is-hart p a) a.tame (HasEnds p 0) has-ends (earlier o (s ∷ past)) legal) in
       let before = Legal-earlier p o (s ∷ []) past legal in
-      by (slice_get p.masks.cases c) refl (λ m at. no-verdict p m 0 c first (own 0 past) v (same-dword past before c few (there.0 c v few writes) m) (verdicts.0 c m v at writes))
+      at-h ∙ ap (Write (verdict_at c h) 8) (by v (slice_get p.masks.cases c) refl (λ m at. no-verdict p m 0 c first (own 0 past) v (same-dword past before c few (there.0 c v few writes) m) (verdicts.0 c m v at writes)))
     where
-      by : (z : Option CaseMask) → slice_get p.masks.cases c ≡ z → ((m : CaseMask) → slice_get p.masks.cases c ≡ Some m → v ≡ 0) → v ≡ 0
-      by (Some m) at f = f m at
-      by None at f = absurd (none-past p.masks.cases c (omega arith) at)
+      by : (v : ℕ) (z : Option CaseMask) → slice_get p.masks.cases c ≡ z → ((m : CaseMask) → slice_get p.masks.cases c ≡ Some m → v ≡ 0) → v ≡ 0
+      by v (Some m) at f = f m at
+      by v None at f = absurd (none-past p.masks.cases c (omega arith) at)
 
   all-silent : (steps : List Step) → Legal p (earlier o steps) → NotReported p (earlier o steps)
   all-silent [] legal = tt
   all-silent (s ∷ past) legal = (step-silent s past legal (omega (arith, legal.paths.only.0, a.one)), all-silent past (Legal-earlier p o (s ∷ []) past legal))
 
 pub silent : (p : Program) → Silent p
-silent p a masks collecting exact has-ends r legal = all-silent p a masks collecting exact has-ends r.opening r.steps legal
+silent p a masks collecting keeps exact has-ends r legal = all-silent p a masks collecting keeps exact has-ends r.opening r.steps legal

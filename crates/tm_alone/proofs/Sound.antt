@@ -16,7 +16,7 @@ use Rattle.tm_alone.proofs.Silent.{silent}
 
 module _ (p : Program) (s : IsSoundOnHalf p) where
   formed : Formed p
-  formed = record { sizes = s.sizes; cases = s.program.cases; laid = s.laid }
+  formed = record { program = s.program; typed = s.typed; laid = s.laid }
 
   tame : Tame p 0
   tame = course-tame p formed 0 s.hart
@@ -48,7 +48,7 @@ sound-alone p s = record {
   tables = s.tables;
   course = course p s;
   bound = λ h l. subst (Bound p) (only p s h l) (bound p s);
-  silent = silent p (alone p s) s.program.masks.count s.hart.collecting s.exact s.ends;
+  silent = silent p (alone p s) s.program.masks.count s.hart.collecting s.hart.verdicts s.exact s.ends;
   exact = λ h l. subst (λ (g : ℕ). OnHalf p g (WritesExactly p g)) (only p s h l) s.exact;
   plain = plain-legal p s.one (right-run p (alone p s));
 }

@@ -2,22 +2,22 @@
 use Rattle.std.specs.Prelude.{◌≡◌, ℕ, ◌+◌, ◌*◌, ◌<◌, ◌≤◌, length, Some, IsTrue}
 use Rattle.tm_plan.specs.declared.program.Program.{Program}
 use Rattle.tm_plan.specs.Collected.{is_declared, work_of}
-use Rattle.tm_plan.specs.Shaped.{IsProgram}
+use Rattle.tm_plan.specs.Shaped.{IsProgram, IsTyped}
 use Rattle.tm_plan.specs.Tables.{table_bytes}
 use Rattle.tm_world.specs.Place.{harts, case_count, passes}
 use Rattle.tm_world.specs.Run.{Run}
 use Rattle.tm_world.specs.Kinds.{Legal}
-use Rattle.tm_world.specs.Course.{OnHalf, KeepsWrites, KeepsCollecting, HartCourse}
+use Rattle.tm_world.specs.Course.{OnHalf, KeepsWrites, KeepsCollecting, KeepsVerdicts, HartCourse}
 use Rattle.tm_world.specs.Whole.{Laid, SettlesFirst}
 use Rattle.tm_world.specs.Work.{GoesOn}
 use Rattle.tm_world.specs.Verdict.{Part, Register, Byte, end_value, WritesExactly}
 use Rattle.tm_world.specs.Sound.{NotReported, Sound}
 use Rattle.tm_world.specs.Checked.{AreChecked}
-use Rattle.tm_runs.specs.World.{Sizes}
 use Rattle.tm_legal.specs.Tame.{Formed, Tame}
 use Rattle.tm_legal.specs.Laws.{OnLegal}
 use Rattle.tm_stays.specs.Stays.{outside_work, words_in}
-use Rattle.tm_alone.specs.Sets.{SetsFirst, HasEnds}
+use Rattle.tm_alone.specs.Sets.{SetsFirst}
+use Rattle.tm_world.specs.Verdict.{HasEnds}
 
 -- A program with one tame hart, which outside streams writes only what it may and sets the first bytes before each stay.
 pub record Alone (p : Program) : Type 0 where
@@ -43,16 +43,17 @@ PassesAgree p = Alone p → OnHalf p 0 (KeepsCollecting p 0) → (c : ℕ) → c
     → OnLegal p 0 (λ first own. (part : Part) → IsCompared p part → (k k' u u' : ℕ) → k < passes p → k' < passes p
     → end_value p 0 c k first own part ≡ Some u → end_value p 0 c k' first own part ≡ Some u' → u ≡ u')
 
--- Where the hart writes true verdicts, no case is reported on a legal run.
+-- Where the hart writes its verdict cells as it should, and true verdicts, no case is reported on a legal run.
 abbrev pub Silent : Program → Type 0
-Silent p = Alone p → length p.masks.cases ≡ case_count p → OnHalf p 0 (KeepsCollecting p 0) → OnHalf p 0 (WritesExactly p 0) → OnHalf p 0 (HasEnds p 0)
+Silent p = Alone p → length p.masks.cases ≡ case_count p → OnHalf p 0 (KeepsCollecting p 0) → OnHalf p 0 (KeepsVerdicts p 0)
+    → OnHalf p 0 (WritesExactly p 0) → OnHalf p 0 (HasEnds p 0)
     → (r : Run) → Legal p r → NotReported p r
 
 -- What makes a program with one hart sound: its parts, and what its hart does on half runs.
 pub record IsSoundOnHalf (p : Program) : Type 0 where
   pub one : harts p ≡ 1
   pub program : IsProgram p
-  pub sizes : Sizes p
+  pub typed : IsTyped p
   pub laid : Laid p
   pub masks : AreChecked p.cases p.masks
   pub tables : p.tables ≡ table_bytes p.cases p.masks

@@ -12,6 +12,7 @@ use Rattle.tm_runs.specs.World.{Sizes}
 use Rattle.tm_runs.proofs.Bytes.{within-false}
 use Rattle.tm_runs.proofs.Places.{within-parts}
 use Rattle.tm_legal.specs.Tame.{Formed}
+use Rattle.tm_legal.proofs.Formed.{formed-sizes}
 
 -- ---- lists of harts and cases
 
@@ -23,7 +24,7 @@ pub those-none : (test : ℕ → Bool) (n a : ℕ) → ((c : ℕ) → a ≤ c �
 those-none test zero a h = refl
 those-none test (suc n) a h = ap (λ (b : Bool). if b then a ∷ those test (count_from (suc a) n) else those test (count_from (suc a) n)) (h a (omega arith) (omega arith)) ∙ those-none test n (suc a) (λ c l m. h c (omega arith) (omega arith))
 
-those-one : (test : ℕ → Bool) (n a g : ℕ) → a ≤ g → g < a + n → test g ≡ true → ((c : ℕ) → a ≤ c → c < a + n → c ≢ g → test c ≡ false) → those test (count_from a n) ≡ g ∷ []
+pub those-one : (test : ℕ → Bool) (n a g : ℕ) → a ≤ g → g < a + n → test g ≡ true → ((c : ℕ) → a ≤ c → c < a + n → c ≢ g → test c ≡ false) → those test (count_from a n) ≡ g ∷ []
 those-one test zero a g l m t h = absurd (omega arith)
 those-one test (suc n) a g l m t h = by (a == g) refl (λ k. those-one test n (suc a) g k (omega arith) t (λ c x y z. h c (omega arith) (omega arith) z))
   where
@@ -76,7 +77,7 @@ others-not : (p : Program) (q h g b : ℕ) → Formed p → h < 8 → g < 8 → 
 unfolding flag_at verdict_at private_at private_size windows_base
 others-not p q h g b formed l m n e =
     let place = private-place h b l e in
-    let few = formed.cases.count in
+    let few = formed.program.cases.count in
     or_from (is_flag g b) _ (within-false (flag_at g) 8 b (inr (omega (arith, place))))
     (or_from (is_verdict p g b) _ (any-none (λ c. within (verdict_at c g) 8 b) (case_count p) 0 (λ c _ y. within-false (verdict_at c g) 8 b (inr (omega (arith, place, few)))))
     (or_from (is_private g b) _ (within-false (private_at g) private_size b (apart place))
@@ -91,7 +92,7 @@ others-not p q h g b formed l m n e =
 
 pub private-writers : (p : Program) (q h b : ℕ) → Formed p → h < harts p → is_private h b ≡ true → writers p q b ≡ h ∷ []
 private-writers p q h b formed l e =
-    let eight = formed.sizes.harts in
+    let limit = (formed-sizes formed).harts in
     let may : may_write p q h b ≡ true = or_right (is_flag h b) _ (or_right (is_verdict p h b) _ (or_left (is_private h b) _ e)) in
     those-one (λ g. may_write p q g b) (harts p) 0 h (omega arith) (omega arith) may (λ g _ y n. others-not p q h g b formed (omega arith) (omega arith) n e)
 
@@ -99,9 +100,9 @@ private-writers p q h b formed l e =
 pub private-zero : (p : Program) (h b : ℕ) → Formed p → h < harts p → is_private h b ≡ true → image_byte p b ≡ 0
 unfolding text_base tables_base
 private-zero p h b formed l e =
-    let eight = formed.sizes.harts in
+    let limit = (formed-sizes formed).harts in
     let place = private-place h b (omega arith) e in
-    let x : is_text p b ≡ false = within-false text_base (4 * length p.text) b (inr (omega (arith, place, formed.sizes.text))) in
-    let y : is_table p b ≡ false = within-false tables_base (length p.tables) b (inr (omega (arith, place, formed.sizes.tables))) in
+    let x : is_text p b ≡ false = within-false text_base (4 * length p.text) b (inr (omega (arith, place, (formed-sizes formed).text))) in
+    let y : is_table p b ≡ false = within-false tables_base (length p.tables) b (inr (omega (arith, place, (formed-sizes formed).tables))) in
     ap (λ (c : Bool). if c then byte_of (slice_index p.text ((b - text_base) / 4)) ((b - text_base) % 4) else (if is_table p b then slice_index p.tables (b - tables_base) else 0)) x
     ∙ ap (λ (c : Bool). if c then slice_index p.tables (b - tables_base) else 0) y

@@ -26,6 +26,7 @@ use Rattle.tm_legal.proofs.Order.{NoStray, order-no_stray, no_stray-before, base
 use Rattle.tm_legal.proofs.Areas.{image-place}
 use Rattle.tm_legal.proofs.Phases.{Spares}
 use Rattle.tm_legal.proofs.Settling.{half-reads}
+use Rattle.tm_legal.proofs.Formed.{formed-sizes}
 
 -- ---- machine states
 
@@ -80,7 +81,7 @@ known-before p h first s past k = record { half = k.half.1; path = k.path.1; str
 pub known-moves : (p : Program) → Formed p → (h : ℕ) → h < harts p → (x : List ℕ) → IsOpening h x → (own : List Step) → Known p h (first_state x) own → (s : Step) → Follows p h (now (first_state x) own) s → (c : ℕ) → stream_at p h (now (first_state x) own).pc ≡ Some c → (stream : Stream) × (stream_in p.cases c h ≡ Some stream) × Moves p h c stream (now (first_state x) own) s
 known-moves p formed h number x o own k s f c e =
     let (i, few) = stream-some p h (now (first_state x) own).pc c e in
-    let (stream, is) = stream-of p.cases c h formed.cases few number in
+    let (stream, is) = stream-of p.cases c h formed.program.cases few number in
     let bases = based p formed h number x own k.half k.strays k.fresh c few i in
     (stream, is, moves p formed h c stream number is (now (first_state x) own) s (path-machine p h x o own k.path) bases i f)
 
@@ -113,7 +114,7 @@ module _ (p : Program) (formed : Formed p) (h : ℕ) (number : h < harts p) (tam
           let path : Path p h (first_state (o h)) (s ∷ own h past) = subst (Path p h (first_state (o h))) (own-here h s past e) (legal.paths.each h number) in
           let k = known past before path.1 in
           let reads : Reads (legal_owed p past h (phase_of p past h)) (access_of s) = subst (λ (g : ℕ). Reads (legal_owed p past g (phase_of p past g)) (access_of s)) e legal.reads.0 in
-          let spares = λ (b : ℕ) (z : (is_text p b || is_table p b) ≡ true). half-spares p h (first_state (o h)) formed.sizes b z (own h past) before k.spares in
+          let spares = λ (b : ℕ) (z : (is_text p b || is_table p b) ≡ true). half-spares p h (first_state (o h)) (formed-sizes formed) b z (own h past) before k.spares in
           let half = half-reads p formed past h number spares (access_of s) reads in
           subst (HalfPath p h (first_state (o h))) (sym (own-here h s past e)) (step p formed h number (o h) (opens h number) (own h past) k s path.0 half, before)
 

@@ -92,7 +92,7 @@ module _ (p : Program) (formed : Formed p) (h c : ℕ) (stream : Stream) (hart :
   lands (Jumps link goes) a read k = let q = k.2 slot.shaped.allowed in subst Lands (sym q.1) (by-jump q.0)
 
   -- the address of an access is that of its slot
-  address : IsBased hart → is_access slot.instr.op ≡ true → word64 (slice_index hart.x slot.instr.rs1 + low 64 slot.instr.imm) ≡ slot_addr slot.instr
+  pub address : IsBased hart → is_access slot.instr.op ≡ true → word64 (slice_index hart.x slot.instr.rs1 + low 64 slot.instr.imm) ≡ slot_addr slot.instr
   unfolding slot_addr
   address based e =
       let placed = slot.shaped.place e in
@@ -117,7 +117,7 @@ module _ (p : Program) (formed : Formed p) (h c : ℕ) (stream : Stream) (hart :
       record {
         store = mine;
         declared = window-declared p.cases b v among (lines b both);
-        window = declared-window p.cases.line b v (All-contains (IsShapedWindow p.cases.line) p.cases.windows v formed.cases.windows among) (lines b both);
+        window = declared-window p.cases.line b v (All-contains (IsShapedWindow p.cases.line) p.cases.windows v formed.program.cases.windows among) (lines b both);
       }
 
   -- the bytes of a load are shared bytes

@@ -1,3 +1,4 @@
+pub mod Formed
 pub mod Rows
 pub mod Own
 pub mod Weights
@@ -10,3 +11,4 @@ pub mod Settling
 pub mod Half
 pub mod Tame
 pub mod Alone
+pub mod Sound

@@ -119,6 +119,6 @@ based p formed h l x (s ∷ past) path strays fresh c few i = by (inside p h c (
     by : (t : Bool) → inside p h c before.pc ≡ t → (inside p h c before.pc ≡ true → IsBased before) → IsBased s.after
     by true t b = kept (stream_at p h before.pc) refl path.0 t (b t)
     by false t b =
-        let (stream, e) = stream-of p.cases c h formed.cases few l in
+        let (stream, e) = stream-of p.cases c h formed.program.cases few l in
         let first = fresh.0 c stream e (entered p h (first_state x) s past c strays few t i) in
-        λ w m. first (28 + w) (omega arith) (omega arith) ∙ (shaped-stream p.cases c h stream formed.cases e).bases w m
+        λ w m. first (28 + w) (omega arith) (omega arith) ∙ (shaped-stream p.cases c h stream formed.program.cases e).bases w m

@@ -13,6 +13,7 @@ use Rattle.tm_world.specs.Kinds.{phase_of, legal_owed, another, half_owed}
 use Rattle.tm_legal.specs.Tame.{Formed}
 use Rattle.tm_legal.proofs.Areas.{image-writers, private-writers, private-zero}
 use Rattle.tm_legal.proofs.Phases.{phase-exit, phase-other, in_phase-here, in_phase-there, in_phase-above, or-assoc, or-last, Spares, spared}
+use Rattle.tm_legal.proofs.Formed.{formed-sizes}
 
 -- ---- one writer
 
@@ -93,7 +94,7 @@ half-reads p formed past h l spares (Read addr width value) r = λ i m. go (addr
         let is = private-owed p past h b (λ n. private-writers p n h b formed l e) in
         let have : u ≡ unwrap_or (last_write b (own h past)) (image_byte p b) = subst (λ (o : Option ℕ). IfSome o (λ n. u ≡ n)) is k in
         have ∙ ap (unwrap_or (last_write b (own h past))) (private-zero p h b formed l e)
-    by b u false true e f k = subst (λ (o : Option ℕ). IfSome o (λ n. u ≡ n)) (image-owed p past h b (λ n. image-writers p n b formed.sizes f) (spares b f)) k
+    by b u false true e f k = subst (λ (o : Option ℕ). IfSome o (λ n. u ≡ n)) (image-owed p past h b (λ n. image-writers p n b (formed-sizes formed) f) (spares b f)) k
     by b u false false e f k = tt
 
     go : (b u : ℕ) → IfSome (legal_owed p past h (phase_of p past h) b) (λ n. u ≡ n) → IfSome (half_owed p h (own h past) b) (λ n. u ≡ n)

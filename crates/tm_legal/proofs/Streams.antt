@@ -20,6 +20,7 @@ use Rattle.tm_world.specs.Writers.{stream_in}
 use Rattle.tm_runs.proofs.Places.{within-parts, word-place}
 use Rattle.tm_runs.proofs.Bytes.{within-true}
 use Rattle.tm_legal.specs.Tame.{Formed}
+use Rattle.tm_legal.proofs.Formed.{formed-sizes}
 
 -- ---- lists
 
@@ -91,7 +92,7 @@ inside-parts p h c pc e = let q = and_parts _ _ e in (leb-true _ _ q.0, ltb-true
 
 pub slot-at : (p : Program) → Formed p → (h c : ℕ) (stream : Stream) → h < harts p → stream_in p.cases c h ≡ Some stream → (pc w : ℕ) → inside p h c pc ≡ true → word_at p pc ≡ Some w → Slot p h c stream pc w
 slot-at p formed h c stream l e pc w i at =
-    let shaped = shaped-stream p.cases c h stream formed.cases e in
+    let shaped = shaped-stream p.cases c h stream formed.program.cases e in
     let bounds = inside-parts p h c pc i in
     let long = formed.laid.long h c stream l e in
     let stands : (k : ℕ) → k < length stream.words → (word_at p (start_of p h c + 4 * k) ≡ slice_get stream.words k) × (slice_get stream.words k ≡ Some (get_or stream.words k 0)) =
@@ -105,7 +106,7 @@ slot-at p formed h c stream l e pc w i at =
     let few : n < length stream.words = omega arith in
     let is : slice_get stream.words n ≡ Some w = sym (stands n few).0 ∙ (ap (word_at p) (sym place) ∙ at) in
     let slot = shaped.slots n w is in
-    let reach = word-place p _ _ formed.sizes (first.0 ∙ first.1) in
+    let reach = word-place p _ _ (formed-sizes formed) (first.0 ∙ first.1) in
     let short = shaped.few in
     record { number = n; instr = slot.0; few = few; at = place; word = is; is = slot.1; shaped = slot.2; long = long; aligned = aligned; near = omega arith }
 

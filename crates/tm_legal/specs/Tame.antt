@@ -2,18 +2,18 @@
 use Rattle.std.specs.Prelude.{ℕ, ◌||◌, List, Option, None, Some, IsFalse}
 use Rattle.tm_table.specs.State.{Hart}
 use Rattle.tm_plan.specs.declared.program.Program.{Program}
-use Rattle.tm_plan.specs.Shaped.{AreShaped}
+use Rattle.tm_plan.specs.Shaped.{IsProgram, IsTyped}
 use Rattle.tm_world.specs.Place.{is_text, is_table}
 use Rattle.tm_world.specs.Run.{Step, Always, now, access_of, Writes}
 use Rattle.tm_world.specs.Kinds.{stream_at}
 use Rattle.tm_world.specs.Course.{OnHalf, KeepsOrder, EntersFresh}
 use Rattle.tm_world.specs.Whole.{Laid}
-use Rattle.tm_runs.specs.World.{Sizes}
 
--- A program whose parts have their sizes, with shaped cases, whose text has its marks and streams where they belong.
+-- A program that the calls of the workspace take, with what the types of its parts give, whose text has its marks and streams where they
+-- belong.
 pub record Formed (p : Program) : Type 0 where
-  pub sizes : Sizes p
-  pub cases : AreShaped p.cases
+  pub program : IsProgram p
+  pub typed : IsTyped p
   pub laid : Laid p
 
 -- a step outside streams writes no byte of text or tables

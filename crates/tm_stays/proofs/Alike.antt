@@ -92,7 +92,7 @@ comes-in p formed h c stream is x o s past k out in' =
     let at : s.after.pc ≡ start_of p h c = eqb-true s.after.pc (start_of p h c) (and_parts (s.after.pc == start_of p h c) (not (inside p h c (now (first_state x) past).pc)) came).0 in
     let fresh = k.fresh.0 c stream is came in
     let m = path-machine p h x o (s ∷ past) k.path in
-    let shaped = shaped-stream p.cases c h stream formed.cases is in
+    let shaped = shaped-stream p.cases c h stream formed.program.cases is in
     let each : (r : ℕ) → r < 32 → slice_index s.after.x r ≡ slice_index stream.regs r = λ r l. elim (cases_eq r 0) [
       | inl e ↦ ap (λ (q : ℕ). slice_index s.after.x q) e ∙ (m.zero ∙ (sym shaped.zero ∙ ap (λ (q : ℕ). slice_index stream.regs q) (sym e)))
       | inr n ↦ fresh r (omega arith) l

@@ -3,3 +3,6 @@ pub mod Alike
 pub mod Fronts
 pub mod Turns
 pub mod Right
+pub mod Entries
+pub mod Dwords
+pub mod Options

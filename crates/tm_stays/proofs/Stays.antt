@@ -2,23 +2,25 @@
 use Rattle.std.proofs.Common.{◌≡◌, ℕ, zero, suc, ◌+◌, ◌-◌, ◌*◌, ◌<◌, ◌≤◌, List, [], ◌∷◌, length, Bool, true, false, Option, None, Some, ◌⊎◌, inl, inr, refl, sym, ap, ◌∙◌, arith, ◌==◌, eq-eqb, ne_eqb, eqb-true}
 use Rattle.std.specs.Prelude.{if◌then◌else◌, slice_get}
 use Rattle.std.proofs.lemmas.Bool.{false≢true, cases_eq, and_parts}
+use Rattle.std.proofs.lemmas.Option.{slice_get_within}
 use Rattle.tm_table.specs.State.{Hart}
 use Rattle.tm_plan.specs.declared.program.Program.{Program}
 use Rattle.tm_plan.specs.declared.cases.Case.{Case}
+use Rattle.tm_plan.specs.declared.cases.Stream.{Stream}
 use Rattle.tm_plan.specs.Collected.{count_from, sum_of, slots_of}
 use Rattle.tm_world.specs.Place.{harts, case_count, passes, start_of, end_of, inside}
-use Rattle.tm_world.specs.Run.{Step, own, now, first_state}
+use Rattle.tm_world.specs.Run.{Step, Always, own, now, first_state}
 use Rattle.tm_world.specs.Writers.{stream_in}
 use Rattle.tm_world.specs.Kinds.{IsOpening, stream_at}
 use Rattle.tm_world.specs.Marks.{Mark, Exit, Enter, End, Halt, Stray, comes_to, arrivals, visited, pass_way, whole_way}
 use Rattle.tm_world.specs.Course.{KeepsOrder}
 use Rattle.tm_world.specs.Work.{work_steps, idle_lately}
 use Rattle.tm_legal.specs.Tame.{Formed}
-use Rattle.tm_stays.specs.Stays.{one_outside, one_inside, outside_steps, inside_steps, outside_work, words_in}
-use Rattle.tm_stays.specs.Laws.{StaysShort, WorksLittle, EndsSoon}
+use Rattle.tm_stays.specs.Stays.{one_outside, one_inside, outside_steps, inside_steps, stay_steps, outside_work, words_in}
+use Rattle.tm_stays.specs.Laws.{EachStayShort, StaysShort, WorksLittle, EndsSoon}
 use Rattle.tm_legal.proofs.Weights.{weight, weight-append, weight-front, weight-way, weight-arrivals}
-use Rattle.tm_legal.proofs.Streams.{stream-case, stream-of, inside-parts, Onward}
-use Rattle.tm_legal.proofs.Order.{sum-part, stream-none, stream-some, entered}
+use Rattle.tm_legal.proofs.Streams.{stream-case, case-of, stream-of, inside-parts, Onward}
+use Rattle.tm_legal.proofs.Order.{NoStray, no_stray-before, order-no_stray, sum-part, stream-none, stream-some, entered}
 use Rattle.tm_legal.proofs.Half.{Known, known-before, known-moves, legal-known, on-legal}
 
 -- ---- the words of all streams
@@ -102,18 +104,16 @@ done-none d c n = ap (λ (b : Bool). if b then 4 else 0) (ne_eqb c d n)
 done-one : (d : ℕ) → done (Some d) d ≡ 4
 done-one d = ap (λ (b : Bool). if b then 4 else 0) (eq-eqb d d refl)
 
-module _ (p : Program) (formed : Formed p) (h : ℕ) (number : h < harts p) (x : List ℕ) (o : IsOpening h x) (s : Step) (past : List Step) (k : Known p h (first_state x) (s ∷ past)) where
+-- Inside streams each step goes forward.
+abbrev pub Forward : Program → ℕ → Hart → List Step → Type 0
+Forward p h first = Always (λ past s. (d : ℕ) → stream_at p h (now first past).pc ≡ Some d → Onward (now first past).pc (start_of p h d) (end_of p h d) s.after.pc)
+
+module _ (p : Program) (formed : Formed p) (h : ℕ) (number : h < harts p) (x : List ℕ) (s : Step) (past : List Step) (strays : NoStray p h (first_state x) (s ∷ past)) (moved : (d : ℕ) → stream_at p h (now (first_state x) past).pc ≡ Some d → Onward (now (first_state x) past).pc (start_of p h d) (end_of p h d) s.after.pc) where
   abbrev from : ℕ
   from = (now (first_state x) past).pc
 
   abbrev to : ℕ
   to = s.after.pc
-
-  before : Known p h (first_state x) past
-  before = known-before p h (first_state x) s past k
-
-  moved : (d : ℕ) → stream_at p h from ≡ Some d → Onward from (start_of p h d) (end_of p h d) to
-  moved d e = (known-moves p formed h number x o past before s k.path.0 d e).2.onward
 
   -- a stream that the hart is inside
   stays : (c d : ℕ) → stream_at p h from ≡ Some d → inside p h c from ≡ true → left p h c to + done (Some d) c ≤ left p h c from
@@ -142,8 +142,8 @@ module _ (p : Program) (formed : Formed p) (h : ℕ) (number : h < harts p) (x :
       by : (b : Bool) → inside p h c to ≡ b → left p h c to ≤ 4 * gain p h from to c
       by false t = let r = left-outside p h c to t in omega arith
       by true t =
-          let (stream, e) = stream-of p.cases c h formed.cases few number in
-          let came = entered p h (first_state x) s past c k.strays few i t in
+          let (stream, e) = stream-of p.cases c h formed.program.cases few number in
+          let came = entered p h (first_state x) s past c strays few i t in
           let g : gain p h from to c ≡ size p h c = ap (λ (b : Bool). if b then size p h c else 0) came in
           let at : to ≡ start_of p h c = eqb-true to (start_of p h c) (and_parts (to == start_of p h c) _ came).0 in
           let long = formed.laid.long h c stream number e in
@@ -189,15 +189,15 @@ outside-all p h (suc n) a pc f =
     let y = outside-all p h n (suc a) pc (λ c l m. f c (omega arith) (omega arith)) in
     omega arith
 
-spent-all : (p : Program) → Formed p → (h : ℕ) → h < harts p → (x : List ℕ) → IsOpening h x → (own : List Step) → Known p h (first_state x) own
+spent-all : (p : Program) → Formed p → (h : ℕ) → h < harts p → (x : List ℕ) (own : List Step) → NoStray p h (first_state x) own → Forward p h (first_state x) own
     → 4 * inside_steps p h (first_state x) own + lefts p h (now (first_state x) own).pc ≤ 4 * weight (worth p h) (visited p h (first_state x) own)
-spent-all p formed h number x o [] k =
+spent-all p formed h number x [] strays f =
     let none = outside-all p h (case_count p) 0 (first_state x).pc (λ c _ l. formed.laid.outside h c number (omega arith)) in
     omega arith
-spent-all p formed h number x o (s ∷ past) k =
-    let before = spent-all p formed h number x o past (known-before p h (first_state x) s past k) in
+spent-all p formed h number x (s ∷ past) strays f =
+    let before = spent-all p formed h number x past (no_stray-before p h (first_state x) s past strays) f.1 in
     let from = (now (first_state x) past).pc in
-    let step = spent p formed h number x o s past k (stream_at p h from) refl (inside_steps p h (first_state x) past) in
+    let step = spent p formed h number x s past strays f.0 (stream_at p h from) refl (inside_steps p h (first_state x) past) in
     let w = weight-append (worth p h) (visited p h (first_state x) past) (arrivals p h from s.after.pc) in
     omega arith
 
@@ -211,15 +211,68 @@ way-worth p h =
     let d = words-sum h p.cases.cases in
     e ∙ ap (λ (n : ℕ). passes p * n) (a ∙ (b ∙ d))
 
+-- A hart that comes to its marks in order, and goes forward inside its streams, stays there for as many steps as they have words.
+pub short-by : (p : Program) → Formed p → (h : ℕ) → h < harts p → (x : List ℕ) (own : List Step) → KeepsOrder p h (first_state x) own → Forward p h (first_state x) own → inside_steps p h (first_state x) own ≤ passes p * words_in h p.cases.cases
+short-by p formed h number x own order f =
+    let a = spent-all p formed h number x own (order-no_stray p h (first_state x) own order) f in
+    let b = weight-front (worth p h) (visited p h (first_state x) own) (whole_way p) order in
+    let c = way-worth p h in
+    omega arith
+
+known-forward : (p : Program) → Formed p → (h : ℕ) → h < harts p → (x : List ℕ) → IsOpening h x → (own : List Step) → Known p h (first_state x) own → Forward p h (first_state x) own
+known-forward p formed h number x o [] k = tt
+known-forward p formed h number x o (s ∷ past) k =
+    let before = known-before p h (first_state x) s past k in
+    (λ d e. (known-moves p formed h number x o past before s k.path.0 d e).2.onward, known-forward p formed h number x o past before)
+
 pub stays-short : (p : Program) → StaysShort p
 stays-short p formed h number tame r legal =
     let x = r.opening h in
-    let steps = own h r.steps in
-    let a = spent-all p formed h number x (legal.paths.opening h number) steps (legal-known p formed h number tame r.opening legal.paths.opening r.steps legal) in
-    let order = on-legal p formed h number tame (KeepsOrder p h) tame.order r legal in
-    let b = weight-front (worth p h) (visited p h (first_state x) steps) (whole_way p) order in
-    let c = way-worth p h in
-    omega arith
+    let k = legal-known p formed h number tame r.opening legal.paths.opening r.steps legal in
+    short-by p formed h number x (own h r.steps) (on-legal p formed h number tame (KeepsOrder p h) tame.order r legal) (known-forward p formed h number x (legal.paths.opening h number) (own h r.steps) k)
+
+-- ---- each stay
+
+-- where a stay of so many steps has come
+come : (p : Program) → Formed p → (h : ℕ) → h < harts p → (c : ℕ) → c < case_count p → (x : List ℕ) (own : List Step) → Forward p h (first_state x) own
+    → inside p h c (now (first_state x) own).pc ≡ true → start_of p h c + 4 * stay_steps p h c (first_state x) own ≤ (now (first_state x) own).pc
+come p formed h number c few x [] f i = absurd (false≢true (sym (formed.laid.outside h c number few) ∙ i))
+come p formed h number c few x (s ∷ past) f i = by (inside p h c (now (first_state x) past).pc) refl (come p formed h number c few x past f.1)
+  where
+    here : ℕ
+    here = (now (first_state x) past).pc
+
+    went : (d : Option ℕ) → stream_at p h here ≡ d → inside p h c here ≡ true → here + 4 ≤ s.after.pc
+    went None e t = absurd (false≢true (sym (stream-none p h here c e few) ∙ t))
+    went (Some d) e t = (f.0 d e).least
+
+    by : (b : Bool) → inside p h c here ≡ b → (inside p h c here ≡ true → start_of p h c + 4 * stay_steps p h c (first_state x) past ≤ here)
+        → start_of p h c + 4 * (if b then suc (stay_steps p h c (first_state x) past) else 0) ≤ s.after.pc
+    by true t before = let a = before t in let b = went (stream_at p h here) refl t in omega arith
+    by false t before = let q = inside-parts p h c s.after.pc i in omega (arith, q)
+
+-- A hart that goes forward inside its streams stays in one for no more steps than the stream has words.
+pub stay-by : (p : Program) → Formed p → (h : ℕ) → h < harts p → (c : ℕ) (stream : Stream) → stream_in p.cases c h ≡ Some stream → (x : List ℕ) (own : List Step) → Forward p h (first_state x) own
+    → stay_steps p h c (first_state x) own ≤ length stream.words
+stay-by p formed h number c stream is x [] f = omega arith
+stay-by p formed h number c stream is x (s ∷ past) f = by (inside p h c (now (first_state x) past).pc) refl
+  where
+    few : c < case_count p
+    few = let (case, e, _) = case-of p.cases c h stream is in slice_get_within p.cases.cases c case e
+
+    by : (b : Bool) → inside p h c (now (first_state x) past).pc ≡ b → (if b then suc (stay_steps p h c (first_state x) past) else 0) ≤ length stream.words
+    by true t =
+        let a = come p formed h number c few x past f.1 t in
+        let q = inside-parts p h c (now (first_state x) past).pc t in
+        let long = formed.laid.long h c stream number is in
+        omega (arith, q)
+    by false t = omega arith
+
+pub stay-short : (p : Program) → EachStayShort p
+stay-short p formed h number tame c stream is r legal =
+    let x = r.opening h in
+    let k = legal-known p formed h number tame r.opening legal.paths.opening r.steps legal in
+    stay-by p formed h number c stream is x (own h r.steps) (known-forward p formed h number x (legal.paths.opening h number) (own h r.steps) k)
 
 -- ---- work
 
@@ -236,7 +289,7 @@ outside-more None m n l = (omega arith, omega arith)
 outside-more (Some c) m n l = (l, l)
 
 -- work steps are those outside streams and those inside
-work-parts : (p : Program) (h : ℕ) (first : Hart) (own : List Step) → work_steps p h own ≤ outside_work p h first own + inside_steps p h first own
+pub work-parts : (p : Program) (h : ℕ) (first : Hart) (own : List Step) → work_steps p h own ≤ outside_work p h first own + inside_steps p h first own
 work-parts p h first [] = omega arith
 work-parts p h first (s ∷ past) = by (idle_lately p h 4 (s ∷ past)) (work-parts p h first past)
   where

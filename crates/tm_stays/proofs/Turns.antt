@@ -150,9 +150,9 @@ module _ (p : Program) (formed : Formed p) (h : ℕ) (number : h < harts p) (x :
 
     long : start_of p h d < end_of p h d
     long =
-        let (stream, e) = stream-of p.cases d h formed.cases few number in
+        let (stream, e) = stream-of p.cases d h formed.program.cases few number in
         let l = formed.laid.long h d stream number e in
-        let some = (shaped-stream p.cases d h stream formed.cases e).some in
+        let some = (shaped-stream p.cases d h stream formed.program.cases e).some in
         omega arith
 
     -- the sums after the step
@@ -244,7 +244,7 @@ Each-right P [] ys h = h
 Each-right P (x ∷ xs) ys h = Each-right P xs ys h.1
 
 -- each element of the lists of cases
-Each-flat : (P : ℕ → Type 0) (f : ℕ → List ℕ) (n a c : ℕ) → a ≤ c → c < a + n → Each P (flat_map f (count_from a n)) → Each P (f c)
+pub Each-flat : (P : ℕ → Type 0) (f : ℕ → List ℕ) (n a c : ℕ) → a ≤ c → c < a + n → Each P (flat_map f (count_from a n)) → Each P (f c)
 Each-flat P f zero a c l m h = absurd (omega arith)
 Each-flat P f (suc n) a c l m h = elim (cases_eq a c) [
   | inl e ↦ subst (λ (z : ℕ). Each P (f z)) e (Each-left P (f a) _ h)
@@ -252,11 +252,11 @@ Each-flat P f (suc n) a c l m h = elim (cases_eq a c) [
 ]
 
 -- each is other than all later ones
-abbrev Distinct : List ℕ → Type 0
+abbrev pub Distinct : List ℕ → Type 0
 Distinct [] = Unit {0}
 Distinct (x ∷ xs) = Each (λ y. x ≢ y) xs × Distinct xs
 
-distinct : (xs : List ℕ) → AllPairs (λ a b. a ≢ b) xs → Distinct xs
+pub distinct : (xs : List ℕ) → AllPairs (λ a b. a ≢ b) xs → Distinct xs
 distinct [] h = tt
 distinct (x ∷ xs) h = (recursion_from_All (λ y. x ≢ y) xs (λ k d l. h 0 (suc k) d (omega arith) (omega arith)), distinct xs (λ i j d l m. h (suc i) (suc j) d (omega arith) (omega arith)))
 
@@ -268,7 +268,7 @@ Distinct-right : (xs ys : List ℕ) → Distinct (xs ++ ys) → Distinct ys
 Distinct-right [] ys h = h
 Distinct-right (x ∷ xs) ys h = Distinct-right xs ys h.1
 
-Distinct-flat : (f : ℕ → List ℕ) (n a c : ℕ) → a ≤ c → c < a + n → Distinct (flat_map f (count_from a n)) → Distinct (f c)
+pub Distinct-flat : (f : ℕ → List ℕ) (n a c : ℕ) → a ≤ c → c < a + n → Distinct (flat_map f (count_from a n)) → Distinct (f c)
 Distinct-flat f zero a c l m h = absurd (omega arith)
 Distinct-flat f (suc n) a c l m h = elim (cases_eq a c) [
   | inl e ↦ subst (λ (z : ℕ). Distinct (f z)) e (Distinct-left (f a) _ h)

@@ -14,7 +14,12 @@ use Rattle.tm_world.specs.Work.{work_steps}
 use Rattle.tm_world.specs.Verdict.{Register, end_value}
 use Rattle.tm_legal.specs.Tame.{Formed, Tame}
 use Rattle.tm_legal.specs.Laws.{OnLegal}
-use Rattle.tm_stays.specs.Stays.{outside_steps, outside_work, inside_steps, words_in}
+use Rattle.tm_stays.specs.Stays.{outside_steps, outside_work, inside_steps, stay_steps, words_in}
+
+-- On a legal run each stay of a tame hart in a stream takes at most as many steps as the stream has words.
+abbrev pub EachStayShort : Program → Type 0
+EachStayShort p = Formed p → (h : ℕ) → h < harts p → Tame p h → (c : ℕ) (stream : Stream) → stream_in p.cases c h ≡ Some stream
+    → OnLegal p h (λ first own. stay_steps p h c first own ≤ length stream.words)
 
 -- On a legal run a tame hart takes inside its streams, in each pass, at most as many steps as they have words.
 abbrev pub StaysShort : Program → Type 0

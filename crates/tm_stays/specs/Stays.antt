@@ -4,6 +4,7 @@ use Rattle.tm_table.specs.State.{Hart}
 use Rattle.tm_plan.specs.declared.program.Program.{Program}
 use Rattle.tm_plan.specs.declared.cases.Case.{Case}
 use Rattle.tm_plan.specs.Collected.{slots_of}
+use Rattle.tm_world.specs.Place.{inside}
 use Rattle.tm_world.specs.Run.{Step, now}
 use Rattle.tm_world.specs.Kinds.{stream_at}
 use Rattle.tm_world.specs.Work.{idle_lately}
@@ -27,6 +28,12 @@ outside_steps p h first (s ∷ past) = one_outside (stream_at p h (now first pas
 abbrev pub inside_steps : Program → ℕ → Hart → List Step → ℕ
 inside_steps p h first [] = 0
 inside_steps p h first (s ∷ past) = one_inside (stream_at p h (now first past).pc) (inside_steps p h first past)
+
+-- How many of its last steps, one after another, hart h has taken inside stream (h, c): how long its stay there is so far, or has been
+-- where it has just left.
+abbrev pub stay_steps : Program → ℕ → ℕ → Hart → List Step → ℕ
+stay_steps p h c first [] = 0
+stay_steps p h c first (s ∷ past) = if inside p h c (now first past).pc then suc (stay_steps p h c first past) else 0
 
 -- how many of those outside are work: no idle read, and none of the three next steps after one
 abbrev pub outside_work : Program → ℕ → Hart → List Step → ℕ

@@ -1,10 +1,11 @@
 // Laws over the definitions, each as the contract of a function that does nothing.
-ghost use Rattle.tm_stays.specs.Laws.{StaysShort, WorksLittle, EndsSoon, PassesAlike, StaysInPhase, LegalWritesAreRight};
+ghost use Rattle.tm_stays.specs.Laws.{EachStayShort, StaysShort, WorksLittle, EndsSoon, PassesAlike, StaysInPhase, LegalWritesAreRight};
 
 use tm_plan::Program;
 
 /// On legal runs the stays in streams are short, so a bound on the steps outside streams on half runs gives one on all steps.
 pub fn short_stays(program: &Program)
+    ensures stay { EachStayShort program.now }
     ensures short { StaysShort program.now }
     ensures work { WorksLittle program.now }
     ensures all { EndsSoon program.now }

@@ -103,8 +103,8 @@ module _ (p : Program) (formed : Formed p) (h : ℕ) (number : h < harts p) (x :
 -- who enters a stream is inside it
 pub started : (p : Program) → Formed p → (h : ℕ) → h < harts p → (from to c : ℕ) → c < case_count p → comes_to p h (Enter c) from to ≡ true → inside p h c to ≡ true
 started p formed h number from to c few e =
-    let (stream, is) = stream-of p.cases c h formed.cases few number in
+    let (stream, is) = stream-of p.cases c h formed.program.cases few number in
     let long = formed.laid.long h c stream number is in
-    let some = (shaped-stream p.cases c h stream formed.cases is).some in
+    let some = (shaped-stream p.cases c h stream formed.program.cases is).some in
     let start : to ≡ start_of p h c = eqb-true to (start_of p h c) (and_parts (to == start_of p h c) (not (inside p h c from)) e).0 in
     inside-true p h c to (omega arith) (omega arith)

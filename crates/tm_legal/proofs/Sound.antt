@@ -1,0 +1,20 @@
+-- Each legal run of a sound program is a half run.
+use Rattle.std.proofs.Common.{ℕ, ◌<◌}
+use Rattle.tm_plan.specs.declared.program.Program.{Program}
+use Rattle.tm_legal.specs.Tame.{Formed}
+use Rattle.tm_legal.specs.Laws.{CourseRunsAreHalf, SoundRunsAreHalf, ClaimedRunsAreHalf}
+use Rattle.tm_legal.proofs.Half.{legal-runs}
+use Rattle.tm_legal.proofs.Tame.{course-tame}
+
+pub course-half : (p : Program) → CourseRunsAreHalf p
+course-half p program typed course =
+    let formed : Formed p = record { program = program; typed = typed; laid = course.laid } in
+    legal-runs p formed (λ h l. course-tame p formed h (course.hart h l))
+
+pub sound-half : (p : Program) → SoundRunsAreHalf p
+sound-half p typed sound = course-half p sound.program typed sound.course
+
+pub claimed-half : (p : Program) → ClaimedRunsAreHalf p
+claimed-half p typed sound spares =
+    let formed : Formed p = record { program = sound.program; typed = typed; laid = sound.laid } in
+    legal-runs p formed (λ h l. record { order = sound.order h l; fresh = sound.fresh h l; spares = spares h l })

@@ -1,0 +1,11 @@
+pub mod Counts
+pub mod Told
+pub mod Meeting
+pub mod Settling
+pub mod Owed
+pub mod PlainLegal
+pub mod States
+pub mod Halts
+pub mod Waiting
+pub mod First
+pub mod Dwords

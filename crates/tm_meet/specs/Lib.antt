@@ -1,0 +1,3 @@
+pub mod First
+pub mod Waits
+pub mod Laws

@@ -1,0 +1,9 @@
+pub mod Accesses
+pub mod Owners
+pub mod Meets
+pub mod Memory
+pub mod PlainMemory
+pub mod Machines
+pub mod Faults
+pub mod Nothing
+pub mod Next

@@ -1,0 +1,61 @@
+-- Laws of runs in which harts meet (this project's own).
+use Rattle.std.specs.Prelude.{◌≢◌, ℕ, ◌^◌, ◌<◌}
+use Rattle.tm_plan.specs.declared.program.Program.{Program}
+use Rattle.tm_world.specs.Place.{harts, halt_of}
+use Rattle.tm_world.specs.Run.{Run, own, now}
+use Rattle.tm_world.specs.Kinds.{Legal, Half, Plain, first_of_hart}
+use Rattle.tm_world.specs.Course.{OnHalf, KeepsOrder, EntersFresh, KeepsWrites, HartCourse}
+use Rattle.tm_world.specs.Whole.{WritesRight}
+use Rattle.tm_world.specs.Work.{HasNext, GoesOn}
+use Rattle.tm_legal.specs.Tame.{Formed}
+use Rattle.tm_memory.specs.Meet.{AllMeet}
+use Rattle.tm_memory.specs.Memory.{OneMemory}
+use Rattle.tm_memory.specs.Faulted.{Change, Faulted, nothing}
+
+-- Harts that keep the course meet.
+abbrev pub CourseMeets : Program → Type 0
+CourseMeets p = Formed p → ((h : ℕ) → h < harts p → HartCourse p h) → AllMeet p
+
+-- Each run of one memory is a half run, where outside streams each hart writes only what it may on half runs.
+abbrev pub MemoryIsHalf : Program → Type 0
+MemoryIsHalf p = Formed p → ((h : ℕ) → h < harts p → OnHalf p h (KeepsWrites p h)) → (r : Run) → OneMemory p r → Half p r
+
+-- Each plain run is a run of one memory.
+abbrev pub PlainIsMemory : Program → Type 0
+PlainIsMemory p = AllMeet p → (r : Run) → Plain p r → OneMemory p r
+
+-- Each plain run is a half run.
+abbrev pub PlainIsHalf : Program → Type 0
+PlainIsHalf p = AllMeet p → (r : Run) → Plain p r → Half p r
+
+-- Each run in which steps of streams are changed, with numbers of 64 bits xored to results, is a run of one memory.
+abbrev pub FaultedIsMemory : Program → Type 0
+FaultedIsMemory p = AllMeet p → (change : ℕ → ℕ → ℕ → Change) → ((h q pc : ℕ) → (change h q pc).result < 2 ^ 64) → (r : Run) → Faulted p change r → OneMemory p r
+
+-- Where nothing is changed it is a plain run, and each plain run is one.
+pub record NothingIsPlain (p : Program) : Type 0 where
+  pub plain : (r : Run) → Faulted p (λ _ _ _. nothing) r → Plain p r
+  pub faulted : (r : Run) → Plain p r → Faulted p (λ _ _ _. nothing) r
+
+-- On legal runs all writes are of bytes that may be written.
+abbrev pub LegalWritesRight : Program → Type 0
+LegalWritesRight p = AllMeet p → (r : Run) → Legal p r → WritesRight p r
+
+-- On half runs no hart gets stuck that doesn't outside streams: where it isn't at halt it has a next step, inside its streams too.
+abbrev pub NoneStuck : Program → Type 0
+NoneStuck p = Formed p → (h : ℕ) → h < harts p → OnHalf p h (KeepsOrder p h) → OnHalf p h (EntersFresh p h) → OnHalf p h (GoesOn p h)
+    → OnHalf p h (λ first own. (now first own).pc ≢ halt_of p h → HasNext p (now first own))
+
+-- Each hart that isn't at halt has a next step in the run.
+abbrev pub GoOn : Program → Run → Type 0
+GoOn p r = (h : ℕ) → h < harts p → (now (first_of_hart r h) (own h r.steps)).pc ≢ halt_of p h → HasNext p (now (first_of_hart r h) (own h r.steps))
+
+-- So on legal runs, on plain runs, and on all runs of one memory.
+pub record Unstuck (p : Program) : Type 0 where
+  pub legal : (r : Run) → Legal p r → GoOn p r
+  pub plain : (r : Run) → Plain p r → GoOn p r
+  pub memory : (r : Run) → OneMemory p r → GoOn p r
+
+-- where harts meet, and on half runs don't get stuck outside streams
+abbrev pub AllUnstuck : Program → Type 0
+AllUnstuck p = AllMeet p → ((h : ℕ) → h < harts p → OnHalf p h (GoesOn p h)) → Unstuck p

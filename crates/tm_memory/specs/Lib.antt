@@ -1,0 +1,4 @@
+pub mod Meet
+pub mod Memory
+pub mod Faulted
+pub mod Laws
