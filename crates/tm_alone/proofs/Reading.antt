@@ -22,15 +22,7 @@ use Rattle.tm_alone.specs.Laws.{Alone}
 use Rattle.tm_alone.proofs.Ways.{Ways, ways-before, held}
 use Rattle.tm_alone.proofs.Settles.{collects}
 use Rattle.tm_stays.proofs.Dwords.{lies, dword_of, dword-place, of-owned}
-
--- run phase i is of this case
-runs : (p : Program) (i : ℕ) → i < case_count p * passes p → round_of_phase p (2 * i + 1) ≡ Some (i / passes p)
-runs p i l =
-    let half : (2 * i + 1) / 2 ≡ i = omega arith in
-    let odd : ((2 * i + 1) % 2 == 1) ≡ true = eq-eqb ((2 * i + 1) % 2) 1 (omega arith) in
-    let few : nat_lt ((2 * i + 1) / 2) (case_count p * passes p) ≡ true = lt-ltb ((2 * i + 1) / 2) (case_count p * passes p) (omega arith) in
-    ap (λ (b : Bool). if b then Some ((2 * i + 1) / 2 / passes p) else None) (and_from ((2 * i + 1) % 2 == 1) (nat_lt ((2 * i + 1) / 2) (case_count p * passes p)) odd few)
-    ∙ ap (λ (n : ℕ). Some (n / passes p)) half
+use Rattle.tm_quiet.proofs.Halves.{runs}
 
 -- what a step of phase q reads at b
 abbrev pub reading : Program → ℕ → ℕ → List Step → Step → Option ℕ

@@ -29,18 +29,14 @@ use Rattle.tm_alone.specs.Laws.{Alone, IsCompared, Silent}
 use Rattle.tm_alone.proofs.Ways.{is-hart}
 use Rattle.tm_alone.proofs.Agree.{passes-agree}
 use Rattle.tm_stays.proofs.Dwords.{lies}
+use Rattle.tm_quiet.proofs.Saved.{eight, map-each, collected-each}
+use Rattle.tm_quiet.proofs.Silent.{each-joined, no-verdict}
 
 -- ---- parts
 
 -- all bytes of a dword are shared
 abbrev Whole : Cases → ℕ → Type 0
 Whole cases d = (j : ℕ) → j < 8 → is_declared cases (d + j) ≡ true
-
--- a line is some dwords
-eight : (lines line : ℕ) → (line ≡ 32) ⊎ ((line ≡ 64) ⊎ (line ≡ 128)) → (t : ℕ) × (lines * line ≡ 8 * t)
-eight lines line (inl e) = (lines * 4, ap (λ (n : ℕ). lines * n) e ∙ (let z : lines * 32 ≡ 8 * (lines * 4) = omega arith in z))
-eight lines line (inr (inl e)) = (lines * 8, ap (λ (n : ℕ). lines * n) e ∙ (let z : lines * 64 ≡ 8 * (lines * 8) = omega arith in z))
-eight lines line (inr (inr e)) = (lines * 16, ap (λ (n : ℕ). lines * n) e ∙ (let z : lines * 128 ≡ 8 * (lines * 16) = omega arith in z))
 
 shared-dword : (cases : Cases) (q : ℕ) → AreShaped cases → is_declared cases (windows_base + 8 * q) ≡ true → Whole cases (windows_base + 8 * q)
 unfolding windows_base window_at
@@ -52,27 +48,11 @@ shared-dword cases q a e j l =
     let (t, z) = eight s.window.lines cases.line a.line in
     window-declared cases (d + j) s.window s.among (within-true (window_at n) (s.window.lines * cases.line) (d + j) (omega arith) (omega arith))
 
--- what holds of each shared dword holds of all that are collected
-collected-each : (P : ℕ → Type 0) (test : ℕ → Bool) (f : ℕ → ℕ) (n a : ℕ) → ((q : ℕ) → test (f q) ≡ true → P (f q)) → Each P (filter test (map f (count_from a n)))
-collected-each P test f zero a h = tt
-collected-each P test f (suc n) a h = by (test (f a)) refl (collected-each P test f n (suc a) h)
-  where
-    rest : List ℕ
-    rest = filter test (map f (count_from (suc a) n))
-
-    by : (b : Bool) → test (f a) ≡ b → Each P rest → Each P (if b then f a ∷ rest else rest)
-    by true e r = (h a e, r)
-    by false e r = r
-
 owned-whole : (cases : Cases) (h : ℕ) → AreShaped cases → All (Whole cases) (owned cases h)
 unfolding owned window_dwords
 owned-whole cases h a =
     All-from_recursion (Whole cases) _
     (collected-each (Whole cases) (λ d. is_declared cases d && (collector cases d == h)) (λ q. windows_base + 8 * q) 768 0 (λ q t. shared-dword cases q a (and_parts (is_declared cases (windows_base + 8 * q)) (collector cases (windows_base + 8 * q) == h) t).0))
-
-map-each : (P : Part → Type 0) (f : ℕ → Part) (n a : ℕ) → ((j : ℕ) → j < a + n → P (f j)) → Each P (map f (count_from a n))
-map-each P f zero a h = tt
-map-each P f (suc n) a h = (h a (omega arith), map-each P f n (suc a) (λ j l. h j (omega arith)))
 
 -- each saved part is fine
 fine : (p : Program) (h i : ℕ) → AreShaped p.cases → i < saved p h → Each (IsCompared p) (parts p h i)
@@ -89,15 +69,6 @@ fine p h i a l = by (nat_lt i 30) refl
         map-each (IsCompared p) (λ j. Byte (dword + j)) 8 0 (λ j m. w j (omega arith))
 
 -- ---- verdicts
-
-each-joined : (P Q R S : Part → Type 0) → ((part : Part) → P part → Q part → R part → S part) → (ps : List Part) → Each P ps → Each Q ps → Each R ps → Each S ps
-each-joined P Q R S f [] x y z = tt
-each-joined P Q R S f (part ∷ ps) x y z = (f part x.0 y.0 z.0, each-joined P Q R S f ps x.1 y.1 z.1)
-
--- a number that is the verdict where no part differs is 0
-no-verdict : (p : Program) (m : CaseMask) (h c : ℕ) (first : Hart) (own : List Step) (v : ℕ) → ((k i : ℕ) → k < passes p → i < saved p h → Same p m h c first own k i) → IsVerdict p m h c first own v → v ≡ 0
-no-verdict p m h c first own v same (agree f) = refl
-no-verdict p m h c first own v same (differ k i l li d f g) = absurd (d (same k i l li))
 
 module _ (p : Program) (a : Alone p) (masks : length p.masks.cases ≡ case_count p) (collecting : OnHalf p 0 (KeepsCollecting p 0)) (keeps : OnHalf p 0 (KeepsVerdicts p 0)) (exact : OnHalf p 0 (WritesExactly p 0)) (has-ends : OnHalf p 0 (HasEnds p 0)) (o : ℕ → List ℕ) where
   same-dword : (past : List Step) → Legal p (earlier o past) → (c : ℕ) → c < case_count p

@@ -82,6 +82,12 @@ alone-held p (s ∷ past) b k =
 
 -- ---- one hart
 
+-- reads are judged by what is owed
+pub reads-same : (f g : ℕ → Option ℕ) (a : Access) → ((b : ℕ) → f b ≡ g b) → Reads f a → Reads g a
+reads-same f g Quiet e r = tt
+reads-same f g (Write addr width value) e r = tt
+reads-same f g (Read addr width value) e r = λ i l. subst (λ (o : Option ℕ). IfSome o (λ b. byte_of value i ≡ b)) (e (addr + i)) (r i l)
+
 module _ (p : Program) (one : harts p ≡ 1) where
   pub all-own : (steps : List Step) → Always (λ past s. hart_of s < harts p) steps → own 0 steps ≡ steps
   all-own [] h = refl
@@ -122,11 +128,6 @@ module _ (p : Program) (one : harts p ≡ 1) where
       let at : Writes (λ b. IsTrue (may_write p (phase_of p past 0) 0 b)) (access_of s) = subst (λ (g : ℕ). Writes (λ b. IsTrue (may_write p (phase_of p past g) g b)) (access_of s)) zero' w.0 in
       (subst (λ (l : List Step). Writes (λ b. IsTrue (may_write p (phase (exit_of p 0) l) 0 b)) (access_of s)) (all-own past h.1) at, keeps past h.1 w.1)
 
-  reads-same : (f g : ℕ → Option ℕ) (a : Access) → ((b : ℕ) → f b ≡ g b) → Reads f a → Reads g a
-  reads-same f g Quiet e r = tt
-  reads-same f g (Write addr width value) e r = tt
-  reads-same f g (Read addr width value) e r = λ i l. subst (λ (o : Option ℕ). IfSome o (λ b. byte_of value i ≡ b)) (e (addr + i)) (r i l)
-
   plain-reads : (steps : List Step) → Always (λ past s. hart_of s < harts p) steps → Keeps p steps
       → Always (λ past s. Reads (legal_owed p past (hart_of s) (phase_of p past (hart_of s))) (access_of s)) steps → Always (λ past s. Reads (plain_owed p past) (access_of s)) steps
   plain-reads [] h k r = tt
@@ -144,7 +145,7 @@ module _ (p : Program) (one : harts p ≡ 1) (rights : (r : Run) → Legal p r �
   legal-reads : (past : List Step) (s : Step) → hart_of s ≡ 0 → own 0 past ≡ past → Keeps p past → Reads (plain_owed p past) (access_of s) → Reads (legal_owed p past (hart_of s) (phase_of p past (hart_of s))) (access_of s)
   legal-reads past s z o k r =
       subst (λ (g : ℕ). Reads (legal_owed p past g (phase_of p past g)) (access_of s)) (sym z)
-      (reads-same p one (plain_owed p past) (legal_owed p past 0 (phase_of p past 0)) (access_of s) (λ b. sym (owed p one past b o k)) r)
+      (reads-same (plain_owed p past) (legal_owed p past 0 (phase_of p past 0)) (access_of s) (λ b. sym (owed p one past b o k)) r)
 
   plain-earlier : (o : ℕ → List ℕ) (steps : List Step) → Plain p (earlier o steps) → Legal p (earlier o steps)
   plain-earlier o [] plain = record { paths = plain.paths; met = tt; reads = tt }

@@ -16,7 +16,7 @@ use Rattle.tm_legal.proofs.Formed.{formed-sizes}
 
 -- ---- lists of harts and cases
 
-any-none : (test : ℕ → Bool) (n a : ℕ) → ((c : ℕ) → a ≤ c → c < a + n → test c ≡ false) → any test (count_from a n) ≡ false
+pub any-none : (test : ℕ → Bool) (n a : ℕ) → ((c : ℕ) → a ≤ c → c < a + n → test c ≡ false) → any test (count_from a n) ≡ false
 any-none test zero a h = refl
 any-none test (suc n) a h = or_from (test a) (any test (count_from (suc a) n)) (h a (omega arith) (omega arith)) (any-none test n (suc a) (λ c l m. h c (omega arith) (omega arith)))
 

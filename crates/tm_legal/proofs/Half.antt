@@ -30,7 +30,7 @@ use Rattle.tm_legal.proofs.Formed.{formed-sizes}
 
 -- ---- machine states
 
-opens-machine : (h : ℕ) (x : List ℕ) → IsOpening h x → IsMachine (first_state x)
+pub opens-machine : (h : ℕ) (x : List ℕ) → IsOpening h x → IsMachine (first_state x)
 unfolding text_base
 opens-machine h x o = record { count = o.count; fits = o.fits; zero = o.zero; counter = omega arith }
 

@@ -56,7 +56,7 @@ single-last p h b (s ∷ past) =
 -- ---- what is owed
 
 -- nobody but h
-another-self : (h : ℕ) → another h (h ∷ []) ≡ false
+pub another-self : (h : ℕ) → another h (h ∷ []) ≡ false
 another-self h = ap (λ (t : Bool). not t || false) (eq-eqb h h refl)
 
 owed-alone : (p : Program) (past : List Step) (h q b : ℕ) (ws : List ℕ) → writers p q b ≡ ws → another h ws ≡ false → legal_owed p past h q b ≡ or_else (wrote p past q b h) (settled p past q b)

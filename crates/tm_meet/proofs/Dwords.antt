@@ -24,7 +24,7 @@ same-line x line (inl e) = subst (λ (n : ℕ). 8 * (x / 8) / n ≡ x / n) (sym 
 same-line x line (inr (inl e)) = subst (λ (n : ℕ). 8 * (x / 8) / n ≡ x / n) (sym e) (omega arith)
 same-line x line (inr (inr e)) = subst (λ (n : ℕ). 8 * (x / 8) / n ≡ x / n) (sym e) (omega arith)
 
-dword-collector : (cases : Cases) (b : ℕ) → AreShaped cases → collector cases (dword_of b) ≡ collector cases b
+pub dword-collector : (cases : Cases) (b : ℕ) → AreShaped cases → collector cases (dword_of b) ≡ collector cases b
 unfolding collector
 dword-collector cases b a =
     let x = b - windows_base in

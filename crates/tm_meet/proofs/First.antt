@@ -36,6 +36,7 @@ use Rattle.tm_meet.proofs.Told.{legal-keeps}
 use Rattle.tm_memory.proofs.Meets.{tame, course-meets, writes-right}
 use Rattle.tm_meet.proofs.Settling.{wrote-there, wrote-other}
 use Rattle.tm_legal.proofs.Formed.{formed-sizes}
+use Rattle.tm_stays.proofs.Entries.{started}
 
 -- ---- what a hart that has signalled in a phase has set there
 
@@ -90,15 +91,6 @@ run-phase p i c l e =
     let few : nat_lt (suc (2 * i) / 2) (case_count p * passes p) ≡ true = lt-ltb (suc (2 * i) / 2) (case_count p * passes p) (omega arith) in
     ap (λ (b : Bool). if b then Some (suc (2 * i) / 2 / passes p) else None) (and_from (suc (2 * i) % 2 == 1) (nat_lt (suc (2 * i) / 2) (case_count p * passes p)) odd few)
     ∙ ap Some (ap (λ (n : ℕ). n / passes p) half ∙ e)
-
--- who enters a stream is inside it
-started : (p : Program) → Formed p → (h : ℕ) → h < harts p → (from to c : ℕ) → c < case_count p → comes_to p h (Enter c) from to ≡ true → inside p h c to ≡ true
-started p formed h number from to c few e =
-    let (stream, is) = stream-of p.cases c h formed.program.cases few number in
-    let long = formed.laid.long h c stream number is in
-    let some = (shaped-stream p.cases c h stream formed.program.cases is).some in
-    let start : to ≡ start_of p h c = eqb-true to (start_of p h c) (and_parts (to == start_of p h c) (not (inside p h c from)) e).0 in
-    inside-true p h c to (omega arith) (omega arith)
 
 -- it has then been in the phase of a pass of the case since before the step
 entered-in : (p : Program) → Formed p → (h : ℕ) → h < harts p → (x : List ℕ) (s : Step) (past : List Step) → HalfPath p h (first_state x) (s ∷ past) → KeepsOrder p h (first_state x) (s ∷ past) → pc_of s ≢ exit_of p h

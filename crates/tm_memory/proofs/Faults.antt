@@ -27,7 +27,7 @@ use Rattle.tm_legal.proofs.Order.{order-no_stray, based, stream-some}
 use Rattle.tm_memory.specs.Meet.{AllMeet}
 use Rattle.tm_memory.specs.Memory.{ReadsOf, MemoryStep, OneMemory}
 use Rattle.tm_memory.specs.Faulted.{Change, access_by, pc_by, state_by, Changed, FaultedStep, Faulted}
-use Rattle.tm_memory.specs.Laws.{FaultedIsMemory}
+use Rattle.tm_memory.specs.Laws.{FaultedIsMemory, FaultedIsHalf}
 use Rattle.tm_memory.proofs.Machines.{half-machine}
 use Rattle.tm_memory.proofs.Memory.{memory-half}
 use Rattle.tm_memory.proofs.PlainMemory.{move-loads}
@@ -148,3 +148,6 @@ module _ (p : Program) (m : AllMeet p) (change : ℕ → ℕ → ℕ → Change)
 
 pub faulted-memory : (p : Program) → FaultedIsMemory p
 faulted-memory p m change small r faulted = all-memory p m change small r.opening r.steps faulted
+
+pub faulted-half : (p : Program) → FaultedIsHalf p
+faulted-half p m change small r faulted = memory-half p m.formed (λ h l. (m.each h l).writes) r (faulted-memory p m change small r faulted)

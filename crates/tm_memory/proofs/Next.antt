@@ -32,6 +32,7 @@ use Rattle.tm_memory.proofs.Meets.{tame}
 use Rattle.tm_memory.proofs.Memory.{memory-half}
 use Rattle.tm_memory.proofs.PlainMemory.{plain-half}
 use Rattle.tm_memory.proofs.Machines.{half-machine}
+use Rattle.tm_runs.proofs.Rows.{decoded-row}
 
 -- ---- a row's access can be made
 
@@ -63,10 +64,6 @@ module _ (p : Program) (formed : Formed p) (h c : ℕ) (stream : Stream) (hart :
   possible (Jumps link goes) read k = tt
   possible (Loads addr width with_sign) read k = reach addr width (k.0 ∙ address p formed h c stream hart w slot bases k.3) (omega (arith, k.1, k.2)) k.3
   possible (Stores addr width value) read k = reach addr width (k.0 ∙ address p formed h c stream hart w slot bases k.3) (omega (arith, k.1, k.2)) k.3
-
-row-of-word : (hart : Hart) (w read : ℕ) (i : Instr) → instr_of w ≡ Some i → row_word hart w read ≡ Some (row hart i read)
-unfolding row_word instr_of
-row-of-word hart w read i e = ap (option_map (λ (j : Instr). row hart j read)) e
 
 -- ---- a hart inside a stream
 
@@ -109,7 +106,7 @@ module _ (p : Program) (formed : Formed p) (h : ℕ) (number : h < harts p) (x :
       let m = half-machine p h x o own path in
       let bases = based p formed h number x own path strays fresh c few i in
       let kind = of-kind slot.instr.op hart.pc (slice_index hart.x slot.instr.rs1) (slice_index hart.x slot.instr.rs2) (low 64 slot.instr.imm) (m.fits slot.instr.rs1) (m.fits slot.instr.rs2) (low-lt 64 slot.instr.imm) in
-      (w, at-word, λ read. ((row hart slot.instr read).0, (row hart slot.instr read).1, row-of-word hart w read slot.instr slot.is, possible p formed h c stream hart w slot bases (effect_at hart slot.instr) read kind))
+      (w, at-word, λ read. ((row hart slot.instr read).0, (row hart slot.instr read).1, decoded-row hart w read slot.instr slot.is, possible p formed h c stream hart w slot bases (effect_at hart slot.instr) read kind))
 
   any-next : (own : List Step) → HalfPath p h (first_state x) own → KeepsOrder p h (first_state x) own → EntersFresh p h (first_state x) own → GoesOn p h (first_state x) own → (now (first_state x) own).pc ≢ halt_of p h → HasNext p (now (first_state x) own)
   any-next own path order fresh goes n = by (stream_at p h (now (first_state x) own).pc) refl

@@ -16,7 +16,7 @@ use Rattle.tm_runs.proofs.Bytes.{within-false}
 use Rattle.tm_runs.proofs.Places.{within-parts}
 use Rattle.tm_legal.specs.Tame.{Formed}
 use Rattle.tm_legal.proofs.Streams.{declared-window}
-use Rattle.tm_legal.proofs.Areas.{those-one, private-writers, may-spares, image-place}
+use Rattle.tm_legal.proofs.Areas.{those-one, private-writers, may-spares, image-place, any-none}
 use Rattle.tm_legal.proofs.Formed.{formed-sizes}
 
 -- ---- lists of harts
@@ -89,10 +89,6 @@ window-place b e = let q = within-parts windows_base windows_size b e in omega (
 flag-place : (h b : ℕ) → h < 8 → is_flag h b ≡ true → (0x80C00000 + 128 * h ≤ b) × (b < 0x80C00000 + 128 * h + 8)
 unfolding flag_at
 flag-place h b l e = let q = within-parts (flag_at h) 8 b e in (omega (arith, q), omega (arith, q))
-
-any-none : (test : ℕ → Bool) (n a : ℕ) → ((c : ℕ) → a ≤ c → c < a + n → test c ≡ false) → any test (count_from a n) ≡ false
-any-none test zero a h = refl
-any-none test (suc n) a h = or_from (test a) (any test (count_from (suc a) n)) (h a (omega arith) (omega arith)) (any-none test n (suc a) (λ c l m. h c (omega arith) (omega arith)))
 
 flag-others : (p : Program) (q h g b : ℕ) → h < 8 → g < 8 → g ≢ h → is_flag h b ≡ true → may_write p q g b ≡ false
 unfolding flag_at verdict_at private_at windows_base

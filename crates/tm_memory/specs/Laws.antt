@@ -32,6 +32,11 @@ PlainIsHalf p = AllMeet p → (r : Run) → Plain p r → Half p r
 abbrev pub FaultedIsMemory : Program → Type 0
 FaultedIsMemory p = AllMeet p → (change : ℕ → ℕ → ℕ → Change) → ((h q pc : ℕ) → (change h q pc).result < 2 ^ 64) → (r : Run) → Faulted p change r → OneMemory p r
 
+-- So it is a half run.
+abbrev pub FaultedIsHalf : Program → Type 0
+FaultedIsHalf p = AllMeet p → (change : ℕ → ℕ → ℕ → Change) → ((h q pc : ℕ) → (change h q pc).result < 2 ^ 64)
+    → (r : Run) → Faulted p change r → Half p r
+
 -- Where nothing is changed it is a plain run, and each plain run is one.
 pub record NothingIsPlain (p : Program) : Type 0 where
   pub plain : (r : Run) → Faulted p (λ _ _ _. nothing) r → Plain p r

@@ -1,5 +1,5 @@
 // Laws over the definitions, each as the contract of a function that does nothing.
-ghost use Rattle.tm_memory.specs.Laws.{CourseMeets, MemoryIsHalf, PlainIsMemory, PlainIsHalf, FaultedIsMemory, NothingIsPlain, LegalWritesRight, NoneStuck, AllUnstuck};
+ghost use Rattle.tm_memory.specs.Laws.{CourseMeets, MemoryIsHalf, PlainIsMemory, PlainIsHalf, FaultedIsMemory, FaultedIsHalf, NothingIsPlain, LegalWritesRight, NoneStuck, AllUnstuck};
 
 use tm_plan::Program;
 
@@ -23,6 +23,7 @@ pub fn one_memory(program: &Program)
 /// Runs whose streams a script has changed are such runs; where it changes nothing they are the plain runs.
 pub fn faulted(program: &Program)
     ensures memory { FaultedIsMemory program.now }
+    ensures half { FaultedIsHalf program.now }
     ensures nothing { NothingIsPlain program.now }
 {
     let _ = program;

@@ -25,13 +25,13 @@ use Rattle.tm_quiet.proofs.Legal.{barriers, holds-on}
 use Rattle.tm_quiet.proofs.Halves.{runs}
 use Rattle.tm_quiet.proofs.First.{opened-at}
 use Rattle.tm_quiet.proofs.Calm.{ways, or-some}
-use Rattle.tm_quiet.proofs.Windows.{run-writers, even-writers, those-none, those-one}
+use Rattle.tm_quiet.proofs.Windows.{run-writers, even-writers}
+use Rattle.tm_legal.proofs.Areas.{those-one}
+use Rattle.tm_legal.proofs.Areas.{those-none}
 use Rattle.tm_quiet.proofs.Collects.{reading, unread-unwritten, got-read}
 use Rattle.tm_quiet.proofs.Stays.{Through}
 use Rattle.tm_quiet.proofs.Ends.{Made, Ended, after-run, flags-ended}
-
-another-self : (h : ℕ) → another h (h ∷ []) ≡ false
-another-self h = ap (λ (t : Bool). not t || false) (eq-eqb h h refl)
+use Rattle.tm_legal.proofs.Settling.{another-self}
 
 module _ (p : Program) (formed : Formed p) (course : Course p) (o : ℕ → List ℕ) (opens : (h : ℕ) → h < harts p → IsOpening h (o h)) (c : ℕ) (case : Case) (at : slice_get p.cases.cases c ≡ Some case) where
   few : c < case_count p

@@ -24,29 +24,11 @@ use Rattle.tm_legal.proofs.Streams.{any-one}
 use Rattle.tm_stays.proofs.Dwords.{lies, dword_of, dword-place, of-owned}
 use Rattle.tm_stays.proofs.Options.{or-none}
 use Rattle.tm_quiet.proofs.Halves.{runs}
+use Rattle.tm_meet.proofs.Dwords.{dword-collector}
 
 -- what a step of hart g's phase n reads at b
 abbrev pub reading : Program → ℕ → ℕ → ℕ → List Step → Step → Option ℕ
 reading p g b n past s = if phase (exit_of p g) past == n then got (access_of s) b else None
-
--- a line's dwords have one collector
-dword-collector : (cases : Cases) (b : ℕ) → AreShaped cases → windows_base ≤ b → collector cases (dword_of b) ≡ collector cases b
-unfolding collector
-dword-collector cases b shaped low = ap (λ (n : ℕ). n % cases.harts) (by cases.line shaped.line)
-  where
-    at : (k line : ℕ) → line ≡ 8 * k → (dword_of b - windows_base) / line ≡ (b - windows_base) / line
-    at k line e =
-        let d = b - windows_base in
-        let base : dword_of b - windows_base ≡ 8 * (d / 8) = omega arith in
-        let some : 0 < 8 = omega arith in
-        ap (λ (n : ℕ). n / line) base
-        ∙ (ap (λ (n : ℕ). 8 * (d / 8) / n) e
-        ∙ (mul-div-mul_left (d / 8) k some ∙ (div-div-eq-div-mul d 8 k ∙ sym (ap (λ (n : ℕ). d / n) e))))
-
-    by : (line : ℕ) → (line ≡ 32) ⊎ ((line ≡ 64) ⊎ (line ≡ 128)) → (dword_of b - windows_base) / line ≡ (b - windows_base) / line
-    by line (inl e) = at 4 line e
-    by line (inr (inl e)) = at 8 line e
-    by line (inr (inr e)) = at 16 line e
 
 module _ (p : Program) (formed : Formed p) (g : ℕ) (first : Hart) (c b : ℕ) (shared : IsTrue (is_declared p.cases b)) (mine : collector p.cases b ≡ g) (i : ℕ) (of : i / passes p ≡ c) (few : i < case_count p * passes p) (n : ℕ) (next : n ≡ 2 * i + 2) where
   pub collects-at : (s : Step) (past : List Step) → KeepsCollecting p g first (s ∷ past) → phase (exit_of p g) past ≡ n → Collects p g n past s
@@ -61,7 +43,7 @@ module _ (p : Program) (formed : Formed p) (g : ℕ) (first : Hart) (c b : ℕ) 
   place = dword-place p.cases b (lies p.cases b formed.program.cases shared)
 
   pub dword : (P : ℕ → Type 0) → All P (owned p.cases g) → P (dword_of b)
-  dword P all = of-owned P p.cases g b place.2 place.3 (dword-collector p.cases b formed.program.cases low ∙ mine) all
+  dword P all = of-owned P p.cases g b place.2 place.3 (dword-collector p.cases b formed.program.cases ∙ mine) all
     where
       low : windows_base ≤ b
       low = omega (arith, place.0)

@@ -30,7 +30,11 @@ use Rattle.tm_quiet.proofs.Slots.{is_calm, calm-parts}
 use Rattle.tm_quiet.proofs.Ways.{Ways, ways-before, outside-spares}
 use Rattle.tm_quiet.proofs.Stays.{state, Through, leaves, state-reg, state-byte}
 use Rattle.tm_quiet.proofs.Halves.{inside-off, in-stream, entered-least, entered-most}
-use Rattle.tm_quiet.proofs.Counts.{signalled, this_phase-exit, this_phase-other, still-none, flags-most}
+use Rattle.tm_quiet.proofs.Counts.{flags-most}
+use Rattle.tm_meet.proofs.Counts.{signalled}
+use Rattle.tm_memory.proofs.Accesses.{still-writes}
+use Rattle.tm_meet.proofs.Counts.{this_phase-other}
+use Rattle.tm_meet.proofs.Counts.{this_phase-exit}
 
 -- entering one stream is entering
 entering-enters : (c : ℕ) (ms : List Mark) → weight (entering c) ms ≤ weight enters ms
@@ -168,7 +172,7 @@ module _ (p : Program) (formed : Formed p) (h : ℕ) (number : h < harts p) (c :
               let en : entered p h (first_state x) past ≡ suc i = omega arith in
               let out : inside p h c (at-pc past) ≡ false = false_from_ne_true (inside p h c (at-pc past)) (λ y. inside-off p formed h number x past before.known.half before.order c few y leaving) in
               let still = w.barrier.0.still (w.barrier.0.leave z).signalled in
-              kept s past (λ r b shared. still-none p h b (access_of s) still) (behind past before run en out)
+              kept s past (λ r b shared. still-writes p h b (access_of s) still) (behind past before run en out)
         ]
       ]
 

@@ -23,7 +23,8 @@ use Rattle.tm_stays.proofs.Turns.{turned, order-before}
 use Rattle.tm_world.specs.Verdict.{HasEnds}
 use Rattle.tm_stays.proofs.Entries.{entered, entered-more, some-entry, at-exit, leaves-phase, started}
 use Rattle.tm_quiet.specs.Laws.{IsCompared, EndsThere}
-use Rattle.tm_quiet.proofs.Halves.{stands, inside-off, in-stream, entered-most}
+use Rattle.tm_quiet.proofs.Halves.{inside-off, in-stream, entered-most}
+use Rattle.tm_runs.proofs.Paths.{stands}
 use Rattle.tm_quiet.proofs.Collects.{reading, collects-at, dword, unread}
 use Rattle.tm_quiet.proofs.Saved.{saved-compared}
 use Rattle.tm_stays.proofs.Dwords.{dword_of}

@@ -13,11 +13,6 @@ use Rattle.tm_legal.specs.Tame.{Formed}
 use Rattle.tm_stays.proofs.Turns.{turned, exits-inside, exits-phase, at_exit, not-at-exit}
 use Rattle.tm_stays.proofs.Entries.{entered, inside-entered}
 
--- a step of a half path stands at its hart's program counter
-pub stands : (p : Program) (h : ℕ) (o : Option ℕ) (before : Hart) (past : List Step) (s : Step) → HalfStep p h o before past s → pc_of s ≡ before.pc
-stands p h None before past s f = f.0.place
-stands p h (Some c) before past s f = f.place
-
 -- run phase i is of this case
 pub runs : (p : Program) (i : ℕ) → i < case_count p * passes p → case_of_phase p (2 * i + 1) ≡ Some (i / passes p)
 runs p i l =

@@ -32,7 +32,7 @@ abbrev Whole : Cases → ℕ → ℕ → Type 0
 Whole cases h d = (j : ℕ) → j < 8 → (is_declared cases (d + j) ≡ true) × (collector cases (d + j) ≡ h)
 
 -- a line is some dwords
-eight : (lines line : ℕ) → (line ≡ 32) ⊎ ((line ≡ 64) ⊎ (line ≡ 128)) → (t : ℕ) × (lines * line ≡ 8 * t)
+pub eight : (lines line : ℕ) → (line ≡ 32) ⊎ ((line ≡ 64) ⊎ (line ≡ 128)) → (t : ℕ) × (lines * line ≡ 8 * t)
 eight lines line (inl e) = (lines * 4, ap (λ (n : ℕ). lines * n) e ∙ (let z : lines * 32 ≡ 8 * (lines * 4) = omega arith in z))
 eight lines line (inr (inl e)) = (lines * 8, ap (λ (n : ℕ). lines * n) e ∙ (let z : lines * 64 ≡ 8 * (lines * 8) = omega arith in z))
 eight lines line (inr (inr e)) = (lines * 16, ap (λ (n : ℕ). lines * n) e ∙ (let z : lines * 128 ≡ 8 * (lines * 16) = omega arith in z))
@@ -62,7 +62,7 @@ dword-collected cases q j a l =
     ap (λ (n : ℕ). n / cases.line % cases.harts) x ∙ (ap (λ (n : ℕ). n % cases.harts) (one-line cases.line q j a.line l) ∙ ap (λ (n : ℕ). n / cases.line % cases.harts) (sym y))
 
 -- what holds of each dword that passes a test holds of all that are collected
-collected-each : (P : ℕ → Type 0) (test : ℕ → Bool) (f : ℕ → ℕ) (n a : ℕ) → ((q : ℕ) → test (f q) ≡ true → P (f q)) → Each P (filter test (map f (count_from a n)))
+pub collected-each : (P : ℕ → Type 0) (test : ℕ → Bool) (f : ℕ → ℕ) (n a : ℕ) → ((q : ℕ) → test (f q) ≡ true → P (f q)) → Each P (filter test (map f (count_from a n)))
 collected-each P test f zero a h = tt
 collected-each P test f (suc n) a h = by (test (f a)) refl (collected-each P test f n (suc a) h)
   where
@@ -81,7 +81,7 @@ owned-whole cases h a =
     let z = and_parts (is_declared cases (windows_base + 8 * q)) (collector cases (windows_base + 8 * q) == h) t in
     (dword-shared cases q a z.0 j l, dword-collected cases q j a l ∙ eqb-true (collector cases (windows_base + 8 * q)) h z.1)))
 
-map-each : (P : Part → Type 0) (f : ℕ → Part) (n a : ℕ) → ((j : ℕ) → j < a + n → P (f j)) → Each P (map f (count_from a n))
+pub map-each : (P : Part → Type 0) (f : ℕ → Part) (n a : ℕ) → ((j : ℕ) → j < a + n → P (f j)) → Each P (map f (count_from a n))
 map-each P f zero a h = tt
 map-each P f (suc n) a h = (h a (omega arith), map-each P f n (suc a) (λ j l. h j (omega arith)))
 

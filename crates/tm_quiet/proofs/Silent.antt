@@ -31,12 +31,12 @@ use Rattle.tm_quiet.proofs.Saved.{saved-compared}
 use Rattle.tm_quiet.proofs.Exists.{ends-there}
 use Rattle.tm_quiet.proofs.Agree.{formed-of, masked-case, parts-agree}
 
-each-joined : (P Q R S : Part → Type 0) → ((part : Part) → P part → Q part → R part → S part) → (ps : List Part) → Each P ps → Each Q ps → Each R ps → Each S ps
+pub each-joined : (P Q R S : Part → Type 0) → ((part : Part) → P part → Q part → R part → S part) → (ps : List Part) → Each P ps → Each Q ps → Each R ps → Each S ps
 each-joined P Q R S f [] x y z = tt
 each-joined P Q R S f (part ∷ ps) x y z = (f part x.0 y.0 z.0, each-joined P Q R S f ps x.1 y.1 z.1)
 
 -- a number that is the verdict where no part differs is 0
-no-verdict : (p : Program) (m : CaseMask) (h c : ℕ) (first : Hart) (own : List Step) (v : ℕ) → ((k i : ℕ) → k < passes p → i < saved p h → Same p m h c first own k i) → IsVerdict p m h c first own v → v ≡ 0
+pub no-verdict : (p : Program) (m : CaseMask) (h c : ℕ) (first : Hart) (own : List Step) (v : ℕ) → ((k i : ℕ) → k < passes p → i < saved p h → Same p m h c first own k i) → IsVerdict p m h c first own v → v ≡ 0
 no-verdict p m h c first own v same (agree f) = refl
 no-verdict p m h c first own v same (differ k i l li d f g) = absurd (d (same k i l li))
 

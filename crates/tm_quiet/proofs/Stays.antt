@@ -37,6 +37,7 @@ use Rattle.tm_quiet.proofs.Effects.{owed_at}
 use Rattle.tm_quiet.proofs.Moves.{Move, obeys}
 use Rattle.tm_quiet.proofs.Ways.{byte_now, Ways, ways-before, fresh-entry}
 use Rattle.tm_legal.proofs.Formed.{formed-sizes}
+use Rattle.tm_legal.proofs.Alone.{reads-same}
 
 -- registers and bytes as one state: a register goes by its number, a byte by its address
 abbrev pub joint : (ℕ → Bool) → (ℕ → ℕ) → (ℕ → ℕ) → ℕ → ℕ
@@ -50,11 +51,6 @@ joint-byte test reg byte r l t = ap₂ (λ (a b : Bool). if a then reg r else (i
 
 joint-other : (test : ℕ → Bool) (reg byte : ℕ → ℕ) (r : ℕ) → 32 ≤ r → test r ≡ false → joint test reg byte r ≡ 0
 joint-other test reg byte r l t = ap₂ (λ (a b : Bool). if a then reg r else (if b then byte r else 0)) (le-ltb r 32 l) t
-
-pub reads-alike : (f g : ℕ → Option ℕ) (a : Access) → ((b : ℕ) → f b ≡ g b) → Reads f a → Reads g a
-reads-alike f g Quiet e r = tt
-reads-alike f g (Write addr width value) e r = tt
-reads-alike f g (Read addr width value) e r = λ i l. subst (λ (o : Option ℕ). IfSome o (λ b. byte_of value i ≡ b)) (e (addr + i)) (r i l)
 
 unwrap-twice : (w o : Option ℕ) (d : ℕ) → unwrap_or (or_else w o) d ≡ unwrap_or w (unwrap_or o d)
 unwrap-twice None o d = refl
@@ -148,7 +144,7 @@ module _ (p : Program) (formed : Formed p) (h : ℕ) (number : h < harts p) (c :
             to = λ r l. joint-reg (is_calm p.cases c h) (λ q. slice_index s.after.x q) (byte_now p h case (s ∷ past)) r l;
             calm = calm-next;
             others = λ b l k. joint-other (is_calm p.cases c h) (λ q. slice_index s.after.x q) (byte_now p h case (s ∷ past)) b l k ∙ sym (joint-other (is_calm p.cases c h) (λ q. slice_index hart.x q) (byte_now p h case past) b l k);
-            reads = reads-alike (owed_at (is_calm p.cases c h) (byte_now p h case past)) (owed_at (is_calm p.cases c h) (state past)) (access_of s) owed-same (w.calm.0 c case at inside');
+            reads = reads-same (owed_at (is_calm p.cases c h) (byte_now p h case past)) (owed_at (is_calm p.cases c h) (state past)) (access_of s) owed-same (w.calm.0 c case at inside');
           },
           omega (arith, on.from, on.aligned, even),
         )

@@ -21,9 +21,12 @@ use Rattle.tm_legal.specs.Tame.{Formed}
 use Rattle.tm_legal.proofs.Own.{own-here, own-there}
 use Rattle.tm_legal.proofs.Phases.{in_phase-here, in_phase-there}
 use Rattle.tm_legal.proofs.Areas.{private-writers}
-use Rattle.tm_quiet.proofs.Counts.{still-none, still-flag, flag-le}
+use Rattle.tm_memory.proofs.Accesses.{still-flags}
+use Rattle.tm_memory.proofs.Accesses.{still-writes}
+use Rattle.tm_meet.proofs.Counts.{writes-le}
 use Rattle.tm_quiet.proofs.Legal.{barriers}
-use Rattle.tm_quiet.proofs.Windows.{any-none, those-one}
+use Rattle.tm_legal.proofs.Areas.{those-one}
+use Rattle.tm_legal.proofs.Areas.{any-none}
 use Rattle.tm_legal.proofs.Formed.{formed-sizes}
 
 -- ---- flags
@@ -138,7 +141,7 @@ module _ (p : Program) (formed : Formed p) (h : ℕ) (number : h < harts p) (s :
     ]
       where
         skip : (phase (exit_of p h) (own h before) ≡ n) ⊎ (phase (exit_of p h) (own h before) ≡ n → ⊥) → last_write b (in_phase (exit_of p h) n (s ∷ own h before)) ≡ last_write b (in_phase (exit_of p h) n (own h before))
-        skip (inl e) = ap (last_write b) (in_phase-here (exit_of p h) n s (own h before) e) ∙ ap (λ (z : Option ℕ). or_else z (last_write b (in_phase (exit_of p h) n (own h before)))) (still-none p h b (access_of s) still)
+        skip (inl e) = ap (last_write b) (in_phase-here (exit_of p h) n s (own h before) e) ∙ ap (λ (z : Option ℕ). or_else z (last_write b (in_phase (exit_of p h) n (own h before)))) (still-writes p h b (access_of s) still)
         skip (inr d) = ap (last_write b) (in_phase-there (exit_of p h) n s (own h before) d)
 
     settled-same : (n b : ℕ) → settled p with-it n b ≡ settled p without n b
@@ -157,7 +160,7 @@ module _ (p : Program) (formed : Formed p) (h : ℕ) (number : h < harts p) (s :
     flags-same g = elim (cases_eq g h) [
       | inr d ↦ ap (flag_writes g) (own-other g d)
       | inl e ↦ subst (λ (k : ℕ). flag_writes k (own k with-it) ≡ flag_writes k (own k without)) (sym e)
-          (ap (flag_writes h) own-with ∙ (ap (λ (t : Bool). if t then suc (flag_writes h (own h before)) else flag_writes h (own h before)) (still-flag p h (access_of s) still) ∙ ap (flag_writes h) (sym own-without)))
+          (ap (flag_writes h) own-with ∙ (ap (λ (t : Bool). if t then suc (flag_writes h (own h before)) else flag_writes h (own h before)) (still-flags p h h (access_of s) still) ∙ ap (flag_writes h) (sym own-without)))
     ]
 
     phase-same : (g : ℕ) → g ≢ h → phase_of p with-it g ≡ phase_of p without g
@@ -193,7 +196,7 @@ module _ (p : Program) (formed : Formed p) (h : ℕ) (number : h < harts p) (s :
   flags-more g (t ∷ others) =
       let r = flags-more g others in
       elim (cases_eq (hart_of t) g) [
-        | inl e ↦ let a = ap (flag_writes g) (own-here g t (others ++ before) e) in let b = flag-le g t (own g (others ++ before)) in omega arith
+        | inl e ↦ let a = ap (flag_writes g) (own-here g t (others ++ before) e) in let b = writes-le g t (own g (others ++ before)) in omega arith
         | inr n ↦ let a = ap (flag_writes g) (own-there g t (others ++ before) n) in omega arith
       ]
 

@@ -18,32 +18,12 @@ use Rattle.tm_stays.proofs.Right.{run-odd}
 use Rattle.tm_stays.proofs.Dwords.{lies}
 use Rattle.tm_quiet.proofs.Lists.{any-those}
 use Rattle.tm_legal.proofs.Formed.{formed-sizes}
-
-pub any-none : (test : ℕ → Bool) (n a : ℕ) → ((c : ℕ) → a ≤ c → c < a + n → test c ≡ false) → any test (count_from a n) ≡ false
-any-none test zero a h = refl
-any-none test (suc n) a h = or_from (test a) (any test (count_from (suc a) n)) (h a (omega arith) (omega arith)) (any-none test n (suc a) (λ c l m. h c (omega arith) (omega arith)))
+use Rattle.tm_legal.proofs.Areas.{any-none, those-none, those-one}
 
 -- two tests that are alike pass the same
 those-alike : (f g : ℕ → Bool) (n a : ℕ) → ((c : ℕ) → a ≤ c → c < a + n → f c ≡ g c) → those f (count_from a n) ≡ those g (count_from a n)
 those-alike f g zero a h = refl
 those-alike f g (suc n) a h = ap₂ (λ (b : Bool) (xs : List ℕ). if b then a ∷ xs else xs) (h a (omega arith) (omega arith)) (those-alike f g n (suc a) (λ c l m. h c (omega arith) (omega arith)))
-
-pub those-none : (test : ℕ → Bool) (n a : ℕ) → ((c : ℕ) → a ≤ c → c < a + n → test c ≡ false) → those test (count_from a n) ≡ []
-those-none test zero a h = refl
-those-none test (suc n) a h = ap (λ (b : Bool). if b then a ∷ those test (count_from (suc a) n) else those test (count_from (suc a) n)) (h a (omega arith) (omega arith)) ∙ those-none test n (suc a) (λ c l m. h c (omega arith) (omega arith))
-
-pub those-one : (test : ℕ → Bool) (n a g : ℕ) → a ≤ g → g < a + n → test g ≡ true → ((c : ℕ) → a ≤ c → c < a + n → c ≢ g → test c ≡ false) → those test (count_from a n) ≡ g ∷ []
-those-one test zero a g l m t h = absurd (omega arith)
-those-one test (suc n) a g l m t h = by (a == g) refl (λ k. those-one test n (suc a) g k (omega arith) t (λ c x y z. h c (omega arith) (omega arith) z))
-  where
-    by : (b : Bool) → (a == g) ≡ b → (suc a ≤ g → those test (count_from (suc a) n) ≡ g ∷ []) → (if test a then a ∷ those test (count_from (suc a) n) else those test (count_from (suc a) n)) ≡ g ∷ []
-    by true e later =
-        let same : a ≡ g = eqb-true a g e in
-        ap (λ (b : Bool). if b then a ∷ those test (count_from (suc a) n) else those test (count_from (suc a) n)) (ap test same ∙ t)
-        ∙ ap₂ (λ (x : ℕ) (xs : List ℕ). x ∷ xs) same (those-none test n (suc a) (λ c x y. h c (omega arith) (omega arith) (λ z. omega arith)))
-    by false e later =
-        let ne : a ≢ g = λ z. true≢false (sym (eq-eqb a g z) ∙ e) in
-        ap (λ (b : Bool). if b then a ∷ those test (count_from (suc a) n) else those test (count_from (suc a) n)) (h a (omega arith) (omega arith) ne) ∙ later (omega arith)
 
 module _ (p : Program) (formed : Formed p) (b : ℕ) (shared : is_declared p.cases b ≡ true) where
   pub in-window : is_window b ≡ true

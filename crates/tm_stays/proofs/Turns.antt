@@ -23,6 +23,7 @@ use Rattle.tm_legal.proofs.Streams.{stream-of, shaped-stream, inside-parts}
 use Rattle.tm_legal.proofs.Order.{stream-none, stream-some, sum-part, order-no_stray, entered}
 use Rattle.tm_stays.specs.Laws.{StaysInPhase}
 use Rattle.tm_stays.proofs.Fronts.{exits, entering, ending, Turns, way-turns}
+use Rattle.tm_runs.proofs.Paths.{stands}
 
 -- ---- what arrives
 
@@ -290,10 +291,6 @@ exit-start p formed h c l few =
 -- one where the test holds
 abbrev pub at_exit : Bool → ℕ
 at_exit b = if b then 1 else 0
-
-stands : (p : Program) (h : ℕ) (o : Option ℕ) (before : Hart) (past : List Step) (s : Step) → HalfStep p h o before past s → pc_of s ≡ before.pc
-stands p h None before past s f = f.0.place
-stands p h (Some c) before past s f = f.place
 
 phase-more : (exit : ℕ) (s : Step) (past : List Step) → phase exit (s ∷ past) ≡ phase exit past + at_exit (pc_of s == exit)
 phase-more exit s past = by (pc_of s == exit)
