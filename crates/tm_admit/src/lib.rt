@@ -7,6 +7,3 @@ pub mod laws;
 mod slots;
 
 pub use form::{AdmitFault, admit};
-
-#[cfg(test)]
-mod tests;

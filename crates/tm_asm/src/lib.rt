@@ -11,6 +11,3 @@ pub use fault::AsmFault;
 pub use print::print_line;
 pub use read::parse_line;
 pub use shape::name as op_name;
-
-#[cfg(test)]
-mod tests;

@@ -15,6 +15,3 @@ pub struct Pos {
     pub line: u32,
     pub col: u32,
 }
-
-#[cfg(test)]
-mod tests;

@@ -9,6 +9,3 @@ mod instrs;
 pub use blocks::{put_collect, put_constant, put_copy, put_load_registers, put_save_registers};
 pub use compare::{Comparison, put_compare};
 pub use instrs::{add, addi, and, beq, bne, jump, jump_back, ld, sd, slli, xor};
-
-#[cfg(test)]
-mod tests;

@@ -12,6 +12,3 @@ pub use emits::emit_fault;
 pub use fault::RuleFault;
 pub use mixes::mix_fault;
 pub use teams::is_in_team;
-
-#[cfg(test)]
-mod tests;

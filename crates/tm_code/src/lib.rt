@@ -6,6 +6,3 @@ mod fault;
 
 pub use code::{Code, Label};
 pub use fault::CodeFault;
-
-#[cfg(test)]
-mod tests;

@@ -9,8 +9,6 @@ mod plan;
 mod sections;
 mod segments;
 mod symbols;
-#[cfg(test)]
-mod tests;
 mod write;
 
 pub use parts::{Parts, Plan, Symbol};

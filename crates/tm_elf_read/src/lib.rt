@@ -4,8 +4,6 @@
 mod names;
 mod read;
 mod symbols;
-#[cfg(test)]
-mod tests;
 
 pub use read::read_elf;
 pub use tm_elf_head::{ElfFault, first_difference};

@@ -4,8 +4,6 @@
 mod bytes;
 mod faults;
 mod lines;
-#[cfg(test)]
-mod tests;
 mod token;
 mod words;
 

@@ -5,6 +5,3 @@ mod hart;
 mod parts;
 
 pub use hart::{HartCode, hart_code};
-
-#[cfg(test)]
-mod tests;

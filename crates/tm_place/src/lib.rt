@@ -12,6 +12,3 @@ pub use accesses::{may_load, may_store};
 pub use choosing::choice;
 pub use parting::part_size;
 pub use placement::Placement;
-
-#[cfg(test)]
-mod tests;

@@ -1,10 +1,11 @@
 // Whole runs of a built image: one as the table has it, and half runs in which the stream ends otherwise in one pass.
 use crate::machine::Machine;
-use crate::setting::TOPOLOGY;
 use std::alloc::Global;
 use std::test::Fail;
 use tm_image::{Image, build};
 use tm_plan::Program;
+
+const TOPOLOGY: &[u8] = b"cores = 1\nthreads = 1\nline = 64\n";
 
 const TEMPLATE: &[u8] =
     b"template t\npasses 2\nwindow 0 true 1\ncase a\nbody all\nemit addi x6, x5, 1\nemit add x7, x6, x6\nemit xor x8, x7, x6\n";

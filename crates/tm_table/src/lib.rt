@@ -12,6 +12,3 @@ pub use coding::{decode, encode, fits};
 pub use instr::{Instr, Op};
 pub use state::{Access, Cpu};
 pub use step::{exec, needs_read};
-
-#[cfg(test)]
-mod tests;

@@ -3,8 +3,6 @@
 
 mod read;
 mod system;
-#[cfg(test)]
-mod tests;
 
 pub use read::parse_topology;
 pub use system::{TopoFault, TopoKey, Topology};

@@ -1,5 +1,0 @@
-use Rattle.tm_checks.proofs.Systems.{system_of}
-use Rattle.tm_admit.proofs.tests.shown.Goals as goal
-
-pub admit-requires : goal.admit-requires
-admit-requires c = system_of c.in-Ok-parse_topology.topo c.in-Ok-parse_topology.ensures.range
