@@ -64,3 +64,15 @@ fn accesses(rt: HostRuntime) {
     assert!(rt; !may_load(&p, 0, 0x80E8_1040, 1));
     assert!(rt; !may_load(&p, 0, 0x80E8_1800, 1));
 }
+
+// Words of ChaCha8 streams, as another program computes them; the first is the test vector of a zero key.
+#[test]
+fn draws(rt: HostRuntime) {
+    assert!(rt; draw(0, 0, 0, 0, 0) == 0x2FEF_003E);
+    assert!(rt; draw(0, 0, 0, 0, 15) == 0x42FE_0C0E);
+    assert!(rt; draw(0x0123_4567_89AB_CDEF, 31, 7, 255, 6) == 0xD866_4534);
+    assert!(rt; draw(0xFFFF_FFFF_FFFF_FFFF, 63, 63, 1023, 15) == 0x03CC_3718);
+    let words = Draws::of(0x0123_4567_89AB_CDEF, 31, 7, 255);
+    assert!(rt; words.word(6) == 0xD866_4534);
+    assert!(rt; words.pick(6, 27) == choice(0xD866_4534, 27));
+}
