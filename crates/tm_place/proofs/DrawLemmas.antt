@@ -7,17 +7,8 @@ use Rattle.tm_place.specs.Numbers.{choice}
 use Rattle.std.proofs.lemmas.List.{take_more_set, take_all, map-append}
 use Rattle.rand_chacha.specs.ChaCha.{ChaCha, of_seed, next_word}
 use Rattle.tm_plan.specs.Collected.{count_from}
+use Rattle.tm_plan.proofs.Counted.{counted-more}
 use Rattle.tm_place.specs.Draws.{key, draw, slot_draws}
-
-pub counted : (a k x : ℕ) → x ≡ a + k → count_from a (suc k) ≡ count_from a k ++ x ∷ []
-counted a zero x is = let same : a ≡ x = omega arith in rw same refl
-counted a (suc k) x is = ap (λ xs. a ∷ xs) (counted (suc a) k x (omega arith))
-
--- one more image of a number
-pub counted-more : {B : Type 0} (f : ℕ → B) (k : ℕ) → map f (count_from 0 (k + 1)) ≡ map f (count_from 0 k) ++ f k ∷ []
-counted-more f k =
-    let more : count_from 0 (k + 1) ≡ count_from 0 k ++ k ∷ [] = rw add-one (counted 0 k k (omega arith)) in
-    ap (map f) more ∙ map-append f (count_from 0 k) (k ∷ [])
 
 -- a generator before word d of slot i of hart h in case c
 abbrev pub before : (seed c h i d : ℕ) → ChaCha
