@@ -11,15 +11,6 @@ use Rattle.tm_admit.specs.Admitting.{slots_of, written_out}
 taken : {A : Type 0} (xs : List A) (k : ℕ) (d x : A) → k < length xs → x ≡ get_or xs k d → take (k + 1) xs ≡ take k xs ++ x ∷ []
 taken xs k d x within is = take_more xs k d within ∙ ap (λ y. take k xs ++ y ∷ []) (sym is)
 
-counted : (a k x : ℕ) → x ≡ a + k → count_from a (suc k) ≡ count_from a k ++ x ∷ []
-counted a zero x is = let same : a ≡ x = omega arith in rw same refl
-counted a (suc k) x is = ap (λ xs. a ∷ xs) (counted (suc a) k x (omega arith))
-
-pub counted-more : {B : Type 0} (f : ℕ → B) (k : ℕ) → map f (count_from 0 (k + 1)) ≡ map f (count_from 0 k) ++ f k ∷ []
-counted-more f k =
-    let more : count_from 0 (k + 1) ≡ count_from 0 k ++ k ∷ [] = rw add-one (counted 0 k k (omega arith)) in
-    ap (map f) more ∙ map-append f (count_from 0 k) (k ∷ [])
-
 pub written-none : written_out [] ≡ []
 unfolding written_out
 written-none = refl

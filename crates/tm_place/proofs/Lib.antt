@@ -5,3 +5,5 @@ pub mod AllowedLemmas
 pub mod ApartLemmas
 pub mod PlacementLemmas
 mod Rows
+pub mod DrawLemmas
+pub mod PlaceLemmas

@@ -5,3 +5,5 @@ pub mod Placed
 pub mod Allowed
 pub mod Ruled
 pub mod Laws
+pub mod Draws
+pub mod Placing

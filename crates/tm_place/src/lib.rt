@@ -3,12 +3,16 @@
 
 mod accesses;
 mod choosing;
+mod drawing;
 pub mod laws;
 mod parting;
 mod placement;
+mod placing;
 mod spot;
 
 pub use accesses::{may_load, may_store};
 pub use choosing::choice;
+pub use drawing::{Draws, draw};
 pub use parting::part_size;
 pub use placement::Placement;
+pub use placing::place;

@@ -5,6 +5,7 @@ use Rattle.std.proofs.Math.Nat.{div-div-eq-div-mul, pow-succ'}
 use Rattle.std.proofs.lemmas.Bool.Decides.{nat_tests}
 use Rattle.tm_table.specs.declared.state.Access.TheVariants.{Write}
 use Rattle.tm_plan.specs.Map.{within}
+pub use Rattle.tm_plan.proofs.Within.{within-true}
 use Rattle.tm_world.specs.Place.{byte_of}
 use Rattle.tm_world.specs.Run.{written}
 use Rattle.tm_runs.specs.World.{joined}
@@ -46,9 +47,6 @@ joined-lt f (suc n) h =
     let q = joined-lt (λ j. f (suc j)) n (λ j. h (suc j)) in
     let e = pow-succ' 256 n in
     omega arith
-
-pub within-true : (a n b : ℕ) → a ≤ b → b < a + n → within a n b ≡ true
-within-true a n b p q = grind (arith, nat_tests)
 
 pub within-false : (a n b : ℕ) → (b < a) ⊎ (a + n ≤ b) → within a n b ≡ false
 within-false a n b h = grind (arith, nat_tests)

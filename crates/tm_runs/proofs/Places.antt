@@ -7,13 +7,11 @@ use Rattle.tm_plan.specs.declared.program.Program.{Program}
 use Rattle.tm_plan.specs.Map.{guest_base, guest_end, text_base, tables_base, private_at, private_size, windows_base, windows_size, within}
 use Rattle.tm_world.specs.Place.{is_text, is_table, is_private, is_window, image_byte, word_at, byte_of}
 use Rattle.tm_runs.specs.World.{Sizes, holds, is_fixed_dword, is_private_dword, is_guest_dword}
+pub use Rattle.tm_plan.proofs.Within.{within-parts}
 use Rattle.tm_runs.proofs.Bytes.{within-true, within-false, byte-lt}
 
 holds-true : (base n a : ℕ) → holds base n a ≡ true → (base ≤ a) × (a + 8 ≤ base + n)
 holds-true base n a h = grind (arith, nat_tests)
-
-pub within-parts : (a n b : ℕ) → within a n b ≡ true → (a ≤ b) × (b < a + n)
-within-parts a n b h = grind (arith, nat_tests)
 
 pub or-cases : (b c : Bool) → (b || c) ≡ true → (b ≡ true) ⊎ (c ≡ true)
 or-cases true c h = inl refl
