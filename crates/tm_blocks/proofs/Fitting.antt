@@ -2,7 +2,7 @@
 use Rattle.std.proofs.Common.{◌≡◌, ℕ, ◌%◌, ◌<◌, ◌≤◌, rules}
 use Rattle.std.proofs.lemmas.Int.{ints}
 use Rattle.tm_table.specs.Words.{Fits}
-use Rattle.tm_blocks.specs.Instrs.{addi, slli, add, xor, and, ld, sd, beq, bne, jump, jump_back}
+use Rattle.tm_blocks.specs.Instrs.{addi, slli, add, xor, and, ld, sd, beq, bne, jump, jump_back, subi, bne_back, bltu_back, go_to, fence}
 
 pub addi_fits : (rd rs1 n : ℕ) → rd < 32 → rs1 < 32 → n < 2048 → Fits (addi rd rs1 n)
 unfolding Fits
@@ -47,3 +47,23 @@ jump_fits n e h = search (rules, ints)
 pub jump_back_fits : (n : ℕ) → n % 2 ≡ 0 → 2 ≤ n → n ≤ 1048576 → Fits (jump_back n)
 unfolding Fits
 jump_back_fits n e l h = search (rules, ints)
+
+pub subi_fits : (rd rs1 n : ℕ) → rd < 32 → rs1 < 32 → 1 ≤ n → n ≤ 2048 → Fits (subi rd rs1 n)
+unfolding Fits
+subi_fits rd rs1 n a b l h = search (rules, ints)
+
+pub bne_back_fits : (rs1 rs2 n : ℕ) → rs1 < 32 → rs2 < 32 → n % 2 ≡ 0 → 2 ≤ n → n ≤ 4096 → Fits (bne_back rs1 rs2 n)
+unfolding Fits
+bne_back_fits rs1 rs2 n a b e l h = search (rules, ints)
+
+pub bltu_back_fits : (rs1 rs2 n : ℕ) → rs1 < 32 → rs2 < 32 → n % 2 ≡ 0 → 2 ≤ n → n ≤ 4096 → Fits (bltu_back rs1 rs2 n)
+unfolding Fits
+bltu_back_fits rs1 rs2 n a b e l h = search (rules, ints)
+
+pub go_to_fits : (rs1 : ℕ) → rs1 < 32 → Fits (go_to rs1)
+unfolding Fits
+go_to_fits rs1 a = search (rules, ints)
+
+pub fence_fits : Fits fence
+unfolding Fits
+fence_fits = search (rules, ints)

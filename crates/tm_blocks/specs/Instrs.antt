@@ -1,7 +1,7 @@
 -- The instructions of which support code is made (RV64I 2.1), and the words of a list of them.
 use Rattle.std.specs.Prelude.{ℕ, ◌-◌, pos, negsuc, List, map}
 use Rattle.tm_table.specs.declared.instr.Instr.{Instr}
-use Rattle.tm_table.specs.declared.instr.Op.TheVariants.{Addi, Slli, Add, Xor, And, Ld, Sd, Beq, Bne, Jal}
+use Rattle.tm_table.specs.declared.instr.Op.TheVariants.{Addi, Slli, Add, Xor, And, Ld, Sd, Beq, Bne, Bltu, Jal, Jalr, Fence}
 use Rattle.tm_table.specs.Words.{word_of}
 
 -- rd = x[rs1] + n
@@ -47,6 +47,26 @@ jump n = record { op = Jal; rd = 0; rs1 = 0; rs2 = 0; imm = pos n }
 -- n bytes back, n at least 1
 abbrev pub jump_back : ℕ → Instr
 jump_back n = record { op = Jal; rd = 0; rs1 = 0; rs2 = 0; imm = negsuc (n - 1) }
+
+-- rd = x[rs1] - n, n at least 1
+abbrev pub subi : (rd rs1 n : ℕ) → Instr
+subi rd rs1 n = record { op = Addi; rd = rd; rs1 = rs1; rs2 = 0; imm = negsuc (n - 1) }
+
+-- n bytes back, n at least 1, where x[rs1] and x[rs2] differ
+abbrev pub bne_back : (rs1 rs2 n : ℕ) → Instr
+bne_back rs1 rs2 n = record { op = Bne; rd = 0; rs1 = rs1; rs2 = rs2; imm = negsuc (n - 1) }
+
+-- n bytes back, n at least 1, where x[rs1] is less than x[rs2]
+abbrev pub bltu_back : (rs1 rs2 n : ℕ) → Instr
+bltu_back rs1 rs2 n = record { op = Bltu; rd = 0; rs1 = rs1; rs2 = rs2; imm = negsuc (n - 1) }
+
+-- to the address in a register
+abbrev pub go_to : ℕ → Instr
+go_to rs1 = record { op = Jalr; rd = 0; rs1 = rs1; rs2 = 0; imm = pos 0 }
+
+-- all reads and writes before come before all behind it (RV64I 2.7)
+abbrev pub fence : Instr
+fence = record { op = Fence; rd = 0; rs1 = 0; rs2 = 0; imm = pos 51 }
 
 -- the words of instructions
 abbrev pub words_of : List Instr → List ℕ

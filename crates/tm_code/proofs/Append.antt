@@ -8,7 +8,7 @@ use Rattle.tm_table.specs.declared.instr.Op.{Op}
 use Rattle.tm_table.specs.declared.instr.Instr.{Instr}
 use Rattle.tm_code.specs.declared.code.Item.{Item}
 use Rattle.tm_code.specs.declared.code.Item.TheVariants.{Plain, Branch, Jump}
-use Rattle.tm_code.specs.Sheet.{Sheet, Appends, AppendsFor, KeepsPlaces, KeepsOpen, instrs, resolved, branching, jumping, distance, placed, place_of}
+use Rattle.tm_code.specs.Sheet.{Sheet, Appends, AppendsFor, KeepsPlaces, KeepsOpen, instrs, resolved, branching, jumping, distance, placed, place_of, plain, puts}
 use Rattle.tm_code.proofs.Words.{instrs-append}
 
 pub appends_nothing : (s : Sheet) → Appends s s []
@@ -161,3 +161,36 @@ appends_forward {s0 = s0} {s1 = s1} {s2 = s2} {s3 = s3} {block = block} label is
   where
     none_some : (p : ℕ) → Some None ≡ Some (Some p) → ⊥
     none_some p e = cc
+
+-- ---- plain instructions
+
+plain-append : (a b : List Instr) → plain (a ++ b) ≡ plain a ++ plain b
+plain-append [] b = refl
+plain-append (i ∷ a) b = ap (λ (l : List Item). Plain i ∷ l) (plain-append a b)
+
+pub puts-none : (s : Sheet) → puts s [] ≡ s
+unfolding puts
+puts-none s = ap (λ (l : List Item). record { items = l; places = s.places }) (append-nil s.items)
+
+-- one block after another
+pub puts-then : (s : Sheet) (a b : List Instr) → puts (puts s a) b ≡ puts s (a ++ b)
+unfolding puts
+puts-then s a b =
+    ap (λ (l : List Item). record { items = l; places = s.places }) (append_assoc s.items (plain a) (plain b) ∙ ap (λ (l : List Item). s.items ++ l) (sym (plain-append a b)))
+
+plain-instrs : (ps : List (Option ℕ)) (at : ℕ) (is : List Instr) → instrs ps at (plain is) ≡ is
+plain-instrs ps at [] = refl
+plain-instrs ps at (i ∷ is) = ap (λ (l : List Instr). i ∷ l) (plain-instrs ps (at + 1) is)
+
+-- instructions that were put are a block that was appended
+pub appends_puts : (s : Sheet) (is : List Instr) → Appends s (puts s is) is
+unfolding puts
+appends_puts s is = record { extra = plain is; items = refl; places = λ label p h. h; open' = λ label h. h; words = λ ps h. plain-instrs ps (length s.items) is }
+
+plain-length : (is : List Instr) → length (plain is) ≡ length is
+plain-length [] = refl
+plain-length (i ∷ is) = ap suc (plain-length is)
+
+pub length-puts : (s : Sheet) (is : List Instr) → length (puts s is).items ≡ length s.items + length is
+unfolding puts
+length-puts s is = length-append s.items (plain is) ∙ ap (λ (n : ℕ). length s.items + n) (plain-length is)

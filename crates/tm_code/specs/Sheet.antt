@@ -159,3 +159,19 @@ pub record AppendsFor (label : ℕ) (old new : Sheet) (block : ℕ → List Inst
   pub places : KeepsPlaces old.places new.places
   pub open' : KeepsOpen old.places new.places
   pub words : (ps : List (Option ℕ)) (p : ℕ) → KeepsPlaces new.places ps → slice_get ps label ≡ Some (Some p) → instrs ps (length old.items) extra ≡ block p
+
+-- ---- plain instructions
+
+-- instructions as words to come
+abbrev pub plain : List Instr → List Item
+plain [] = []
+plain (i ∷ is) = Plain i ∷ plain is
+
+-- code with these instructions behind its words, and its labels as they were
+unfoldable pub puts : Sheet → List Instr → Sheet
+puts s is = record { items = s.items ++ plain is; places = s.places }
+
+-- each instruction fits into a word
+abbrev pub AllFit : List Instr → Type 0
+AllFit [] = Unit {0}
+AllFit (i ∷ is) = Fits i × AllFit is

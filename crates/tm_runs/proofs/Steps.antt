@@ -1,8 +1,9 @@
 -- One step of each kind of instruction. Each rule takes the address or value in plain form, with the equation that says so.
-use Rattle.std.proofs.Common.{◌≡◌, ◌≢◌, ℕ, suc, ◌+◌, ◌*◌, ◌%◌, ◌^◌, ◌<◌, Some, Bool, true, false, true≢false, not, ◌==◌, refl, sym, ap, ◌∙◌, subst, eqb-true, eq-eqb, ne_eqb}
+use Rattle.std.proofs.Common.{◌≡◌, ◌≢◌, ℕ, suc, ◌+◌, ◌*◌, ◌/◌, ◌%◌, ◌^◌, ◌<◌, ◌≤◌, Some, Bool, true, false, true≢false, not, ◌==◌, nat_lt, refl, sym, ap, ◌∙◌, subst, eqb-true, eq-eqb, ne_eqb}
+use Rattle.std.proofs.lemmas.Bool.{ltb-true, ltb-false, lt-ltb, le-ltb}
 use Rattle.std.specs.Prelude.{IsTrue, if◌then◌else◌, bit_and, bit_xor}
 use Rattle.tm_table.specs.declared.instr.Op.{Op}
-use Rattle.tm_table.specs.declared.instr.Op.TheVariants.{Lui, Addi, Slli, Add, Xor, And, Ld, Sd, Beq, Bne, Jal}
+use Rattle.tm_table.specs.declared.instr.Op.TheVariants.{Lui, Addi, Slli, Add, Xor, And, Ld, Sd, Beq, Bne, Bltu, Jal, Jalr, Fence}
 use Rattle.tm_table.specs.declared.instr.Instr.{Instr}
 use Rattle.tm_table.specs.declared.state.Access.TheVariants.{Quiet, Write}
 use Rattle.tm_table.specs.Words.{low}
@@ -30,6 +31,11 @@ branches i s op b o is = ap (λ (p : Op). effect p s.pc (get s.regs i.rs1) (get 
 either : {R : Type 0} (x y : ℕ) (b : Bool) → (x == y) ≡ b → (x ≡ y → R) → (x ≢ y → R) → R
 either x y true e f g = f (eqb-true x y e)
 either x y false e f g = g (λ q. true≢false (sym (eq-eqb x y q) ∙ e))
+
+-- whether one number is less than another
+less : {R : Type 0} (x y : ℕ) (b : Bool) → nat_lt x y ≡ b → (x < y → R) → (y ≤ x → R) → R
+less x y true e f g = f (ltb-true x y e)
+less x y false e f g = g (ltb-false x y e)
 
 module _ {w : World} {G Q : State → Type 0} {n : ℕ} {s : State} where
   -- a step of a known effect
@@ -119,3 +125,23 @@ module _ {w : World} {G Q : State → Type 0} {n : ℕ} {s : State} where
   step_jal {i = i} pc o at is g h =
       let there : lands i.op (word64 (s.pc + low 64 i.imm)) (target s.pc i.imm) ≡ pc = ap (λ (p : Op). lands p (word64 (s.pc + low 64 i.imm)) (target s.pc i.imm)) o ∙ is in
       step_of (Jumps (word64 (s.pc + 4)) (word64 (s.pc + low 64 i.imm))) at (ap (λ (p : Op). effect p s.pc (get s.regs i.rs1) (get s.regs i.rs2) (low 64 i.imm)) o) tt (λ _ _. subst (λ (x : ℕ). G (jumped i x s)) (sym there) g) (λ _ _. subst (λ (x : ℕ). Takes w G Q n (jumped i x s)) (sym there) h)
+
+  -- a fence only goes on
+  pub step_fence : {i : Instr} → i.op ≡ Fence → w.text s.pc ≡ Some i → G (branched i (s.pc + 4) s) → Takes w G Q n (branched i (s.pc + 4) s) → Takes w G Q (suc n) s
+  unfolding effect
+  step_fence {i = i} o at = goes_on at (branches i s Fence false o refl)
+
+  -- a branch where the first is less, both ways
+  pub step_bltu : {i : Instr} (pc : ℕ) → i.op ≡ Bltu → w.text s.pc ≡ Some i → target s.pc i.imm ≡ pc → (get s.regs i.rs1 < get s.regs i.rs2 → G (branched i pc s) × Takes w G Q n (branched i pc s)) → (get s.regs i.rs2 ≤ get s.regs i.rs1 → G (branched i (s.pc + 4) s) × Takes w G Q n (branched i (s.pc + 4) s)) → Takes w G Q (suc n) s
+  unfolding effect
+  step_bltu {i = i} pc o at is f g =
+      less (get s.regs i.rs1) (get s.regs i.rs2) (nat_lt (get s.regs i.rs1) (get s.regs i.rs2)) refl
+      (λ lt. taken pc at (branches i s Bltu true o (ap Branches (lt-ltb _ _ lt))) is (f lt).0 (f lt).1)
+      (λ le. goes_on at (branches i s Bltu false o (ap Branches (le-ltb _ _ le))) (g le).0 (g le).1)
+
+  -- a jump to the address in a register
+  pub step_jalr : {i : Instr} (pc : ℕ) → i.op ≡ Jalr → w.text s.pc ≡ Some i → word64 (get s.regs i.rs1 + low 64 i.imm) / 2 * 2 ≡ pc → G (jumped i pc s) → Takes w G Q n (jumped i pc s) → Takes w G Q (suc n) s
+  unfolding effect
+  step_jalr {i = i} pc o at is g h =
+      let there : lands i.op (word64 (get s.regs i.rs1 + low 64 i.imm) / 2 * 2) (target s.pc i.imm) ≡ pc = ap (λ (p : Op). lands p (word64 (get s.regs i.rs1 + low 64 i.imm) / 2 * 2) (target s.pc i.imm)) o ∙ is in
+      step_of (Jumps (word64 (s.pc + 4)) (word64 (get s.regs i.rs1 + low 64 i.imm) / 2 * 2)) at (ap (λ (p : Op). effect p s.pc (get s.regs i.rs1) (get s.regs i.rs2) (low 64 i.imm)) o) tt (λ _ _. subst (λ (x : ℕ). G (jumped i x s)) (sym there) g) (λ _ _. subst (λ (x : ℕ). Takes w G Q n (jumped i x s)) (sym there) h)

@@ -1,0 +1,10 @@
+pub mod Lists
+pub mod Made
+pub mod Told
+pub mod Signal
+pub mod Wait
+pub mod Meet
+pub mod Logs
+pub mod Passing
+pub mod Worlds
+pub mod Way

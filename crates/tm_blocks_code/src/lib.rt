@@ -1,0 +1,14 @@
+//! Parts of support code as words of labelled code: the instructions, and blocks that set, load and save registers.
+//! Their words and laws are those of `tm_blocks`, whose calls append the same blocks to plain words, for programs of
+//! one hart; the calls here take their place where labels are needed, for programs of many harts.
+#![tactic(auto)]
+
+mod blocks;
+mod instrs;
+mod put;
+
+pub use blocks::{put_constant, put_load_registers, put_save_registers};
+pub use instrs::{
+    add, addi, and, beq, bltu_back, bne, bne_back, fence, go_to, jump, ld, sd, slli, subi, xor,
+};
+pub use put::put_all;

@@ -1,0 +1,4 @@
+pub mod Strides
+pub mod Windows
+pub mod Reach
+pub mod Places
