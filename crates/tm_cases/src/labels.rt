@@ -1,8 +1,8 @@
 // Labelled code: a branch or a jump over so many words, forward or back.
 use crate::show::{put, small, words_of};
 use std::alloc::Global;
+use tm_asm::{Code, CodeFault, Label};
 use tm_base::{Bytes, NoMemory, Words};
-use tm_code::{Code, CodeFault, Label};
 use tm_table::{Instr, Op, decode};
 
 /// `forward N` and `back N` branch, `jump N` and `jump_back N` jump, over N words of `addi x0, x0, 0`.

@@ -5,7 +5,7 @@ ghost use Rattle.tm_place.specs.Limits.{IsWindow, is_line_size};
 use crate::show::{number, small, words_of};
 use tm_base::{Bytes, NoMemory, push_decimal, push_hex};
 use tm_place::{Placement, choice, may_load, may_store, part_size};
-use tm_plan::{
+use tm_plan_map::{
     Kind2, Window, flag_addr, private_base, save_addr, table_addr, verdict_addr, window_base,
 };
 

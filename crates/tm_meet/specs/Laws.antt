@@ -1,8 +1,8 @@
 -- Laws of runs in which harts meet (this project's own).
 use Rattle.std.specs.Prelude.{◌≡◌, ◌≢◌, ℕ, suc, ◌+◌, ◌<◌, ◌≤◌, Some, IsTrue, unwrap_or, if◌then◌else◌}
 use Rattle.tm_plan.specs.declared.program.Program.{Program}
-use Rattle.tm_plan.specs.Map.{flag_at}
-use Rattle.tm_plan.specs.Collected.{any}
+use Rattle.tm_plan_map.specs.Map.{flag_at}
+use Rattle.tm_base.specs.Lists.{any}
 use Rattle.tm_world.specs.Place.{harts, image_byte, byte_of}
 use Rattle.tm_world.specs.Run.{Run, Always, hart_of, own, phase, last_write}
 use Rattle.tm_world.specs.Writers.{settled}

@@ -1,7 +1,8 @@
 -- Laws of runs in which harts meet (this project's own).
 use Rattle.std.specs.Prelude.{ℕ, suc, ◌+◌, ◌*◌, ◌<◌, ◌≤◌, length, IsFalse}
 use Rattle.tm_plan.specs.declared.program.Program.{Program}
-use Rattle.tm_plan.specs.Collected.{count_from, sum_of, work_of, budget_of}
+use Rattle.tm_plan.specs.Collected.{sum_of, work_of, budget_of}
+use Rattle.tm_base.specs.Lists.{count_from}
 use Rattle.tm_world.specs.Place.{harts, passes, exit_of}
 use Rattle.tm_world.specs.Run.{Run, Always, hart_of, own, phase}
 use Rattle.tm_world.specs.Course.{OnHalf, last_phase}

@@ -16,7 +16,7 @@ phase_work p h first q [] = 0
 phase_work p h first q (s ∷ past) =
     if idle_lately p h 4 (s ∷ past) then phase_work p h first q past
     else (if phase (exit_of p h) past == q then one_outside (stream_at p h (now first past).pc) (phase_work p h first q past)
-        else phase_work p h first q past)
+    else phase_work p h first q past)
 
 -- At most so much work outside streams: to set up a pass, to run it, to end it, and to compare the passes of a round case.
 pub record Pace : Type 0 where
