@@ -1,5 +1,5 @@
 // Lists that grow. A contract sees each as the list of its elements.
-ghost use Rattle.std.specs.Prelude.{◌≡◌, ℕ, List, [], ◌∷◌, ◌++◌, OnOk, OnErr};
+ghost use Rattle.std.specs.Prelude.{◌≡◌, ℕ, List, [], ◌∷◌, ◌++◌, OnOk, OnErr, IfOk};
 
 use std::alloc::Global;
 use std::marker::Model;
@@ -30,6 +30,15 @@ impl Bytes {
         Bytes {
             items: Vec::new(alloc),
         }
+    }
+
+    /// A copy of a slice.
+    pub fn copy_of(alloc: Global, xs: &[u8]) -> Result<Self, NoMemory>
+        ensures { IfOk result (λ copy. copy ≡ xs.now) }
+    {
+        let mut copy = Bytes::new(alloc);
+        copy.append(xs)?;
+        Ok(copy)
     }
 
     /// The bytes of a vector.

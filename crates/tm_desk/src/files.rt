@@ -39,14 +39,6 @@ pub fn find<'a>(files: &'a [File], name: &[u8]) -> Option<&'a Bytes>
     }
 }
 
-fn copy_of(alloc: Global, bytes: &[u8]) -> Result<Bytes, NoMemory>
-    ensures { IfOk result (λ b. b ≡ bytes.now) }
-{
-    let mut copy = Bytes::new(alloc);
-    copy.append(bytes)?;
-    Ok(copy)
-}
-
 /// Puts a file in the place of the one of its name, or changes nothing.
 pub fn put(alloc: Global, files: &mut Vec<File>, name: &[u8], bytes: &[u8]) -> Result<(), NoMemory>
     ensures ok { OnOk result (file_of files.new.items name.now ≡ Some bytes.now) }
@@ -55,8 +47,8 @@ pub fn put(alloc: Global, files: &mut Vec<File>, name: &[u8], bytes: &[u8]) -> R
     ensures err { OnErr result (files.new.items ≡ files.old.items) }
 {
     let file = File {
-        name: copy_of(alloc, name)?,
-        bytes: copy_of(alloc, bytes)?,
+        name: Bytes::copy_of(alloc, name)?,
+        bytes: Bytes::copy_of(alloc, bytes)?,
     };
     let place = place_of(files, name);
     if place < files.len() {
@@ -80,5 +72,5 @@ pub fn whole(alloc: Global, file: &Bytes, max: u64) -> Result<Bytes, DeskError>
     if file.as_slice().len() as u64 > max {
         return Err(DeskError::TooLong { max });
     }
-    copy_of(alloc, file.as_slice()).map_err(|_| DeskError::NoMemory)
+    Bytes::copy_of(alloc, file.as_slice()).map_err(|_| DeskError::NoMemory)
 }

@@ -68,11 +68,11 @@ fn parts_of(
     let symbols = symbols_of(alloc, &program.marks)?;
     Ok(Parts {
         text,
-        tables: copy_of(alloc, program.tables.as_slice())?,
+        tables: Bytes::copy_of(alloc, program.tables.as_slice())?,
         plan: Plan {
             seed,
-            topo: copy_of(alloc, topo)?,
-            template: copy_of(alloc, template)?,
+            topo: Bytes::copy_of(alloc, topo)?,
+            template: Bytes::copy_of(alloc, template)?,
         },
         symbols,
     })
@@ -98,14 +98,6 @@ fn put_symbol(
 ) -> Result<(), NoMemory>
     ensures { OnOk result (symbols.new ≡ symbols.old ++ symbol name.now addr ∷ []) }
 {
-    let name = copy_of(alloc, name)?;
+    let name = Bytes::copy_of(alloc, name)?;
     symbols.push(Symbol { name, addr })
-}
-
-fn copy_of(alloc: Global, bytes: &[u8]) -> Result<Bytes, NoMemory>
-    ensures { IfOk result (λ copy. copy ≡ bytes.now) }
-{
-    let mut copy = Bytes::new(alloc);
-    copy.append(bytes)?;
-    Ok(copy)
 }

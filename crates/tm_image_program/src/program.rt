@@ -144,7 +144,7 @@ fn cases_of(alloc: Global, test: &[u8], case: &[u8], words: &[u32]) -> Result<Ca
     let mut cases = List::new(alloc);
     cases.push(case_of(alloc, case, words)?)?;
     Ok(Cases {
-        name: text(alloc, test)?,
+        name: Bytes::copy_of(alloc, test)?,
         harts: 1,
         line: 64,
         passes: 2,
@@ -165,18 +165,10 @@ fn case_of(alloc: Global, name: &[u8], words: &[u32]) -> Result<Case, NoMemory>
         regs: first_registers(),
     })?;
     Ok(Case {
-        name: text(alloc, name)?,
+        name: Bytes::copy_of(alloc, name)?,
         streams,
         first: zeros(alloc)?,
     })
-}
-
-fn text(alloc: Global, bytes: &[u8]) -> Result<Bytes, NoMemory>
-    ensures { IfOk result (λ text. text ≡ bytes.now) }
-{
-    let mut text = Bytes::new(alloc);
-    text.append(bytes)?;
-    Ok(text)
 }
 
 // All registers begin at 0 but the bases of the windows and of the private area.

@@ -1,5 +1,6 @@
 -- The limits of a placement's numbers (this project's own).
 use Rattle.std.specs.Prelude.{ℕ, ◌*◌, ◌<◌, ◌≤◌, ◌≡◌, List, Option, Some, None, slice_get, slice_index, IsTrue}
+use Rattle.tm_base.specs.Limits.{image_version, most_harts}
 use Rattle.tm_plan_map.specs.declared.windows.Window.{Window}
 use Rattle.tm_plan_map.specs.declared.windows.Kind2.TheVariants.{Own}
 use Rattle.tm_place.specs.Numbers.{is_line_size, part_size}
@@ -14,7 +15,7 @@ pub record IsWindow (harts line w : ℕ) (v : Window) : Type 0 where
 
 -- A placement's numbers.
 pub record IsPlacement (harts line part : ℕ) (shape : List (Option Window)) (hot : List ℕ) : Type 0 where
-  pub count : (1 ≤ harts) × (harts ≤ 8)
+  pub count : (1 ≤ harts) × (harts ≤ most_harts image_version)
   pub size : IsTrue (is_line_size line)
   pub share : part ≡ part_size line harts
   -- window w stands at place w

@@ -1,5 +1,6 @@
 -- Tests that no rule refuses: all of their numbers, registers, accesses and targets are as streams need them. Source: this project.
 use Rattle.std.specs.Prelude.{ℕ, ◌+◌, ◌-◌, ◌*◌, ◌%◌, ◌==◌, ◌<◌, ◌≤◌, ◌≡◌, ◌≢◌, IsTrue, IsFalse, List, length, find, slice_get, Some, All, AllPairs}
+use Rattle.tm_base.specs.Limits.{image_version, most_harts, most_cases}
 use Rattle.tm_table.specs.declared.instr.Instr.{Instr}
 use Rattle.tm_table.specs.Words.{low, Fits}
 use Rattle.tm_plan_map.specs.Slots.{is_access, is_barred, is_jump, load_width, store_width, slot_addr, slot_target}
@@ -69,13 +70,13 @@ sharing_in a = record { harts = a.harts; line = a.line; part = a.part; window = 
 
 -- A test that no rule refuses (this project).
 pub record IsRuled (a : Admitted) : Type 0 where
-  pub harts : (1 ≤ a.harts) × (a.harts ≤ 8)
+  pub harts : (1 ≤ a.harts) × (a.harts ≤ most_harts image_version)
   pub line : IsTrue (is_line_size a.line)
   pub part : a.part ≡ part_size a.line a.harts
   pub bias : a.bias ≤ 100
   pub passes : (2 ≤ a.passes) × (a.passes ≤ 8)
   pub windows : All (IsRuledWindow a.harts a.line) a.windows
   pub apart : AllPairs (λ v w. v.number ≢ w.number) a.windows
-  pub count : (1 ≤ length a.cases) × (length a.cases ≤ 32)
+  pub count : (1 ≤ length a.cases) × (length a.cases ≤ most_cases image_version)
   pub names : AllPairs (λ c d. c.name ≢ d.name) a.cases
   pub each : All (IsRuledCase (sharing_in a) a.windows) a.cases

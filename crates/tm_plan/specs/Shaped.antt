@@ -1,5 +1,6 @@
 -- Which cases, masks and programs the calls of the workspace take (this project's own).
 use Rattle.std.specs.Prelude.{◌≡◌, ◌≢◌, ◌⊎◌, ℕ, ◌+◌, ◌-◌, ◌*◌, ◌%◌, ◌^◌, ◌<◌, ◌≤◌, length, All, AllPairs, Contains, IsTrue, IsFalse, slice_get, slice_index, Some}
+use Rattle.tm_base.specs.Limits.{image_version, most_harts, most_cases}
 use Rattle.tm_table.specs.declared.instr.Instr.{Instr}
 use Rattle.tm_table.specs.Words.{low}
 use Rattle.tm_plan.specs.declared.cases.Cases.{Cases}
@@ -57,8 +58,8 @@ pub record IsShapedWindow (line : ℕ) (w : Window) : Type 0 where
 
 -- Shaped cases: all numbers lie within the limits.
 pub record AreShaped (all : Cases) : Type 0 where
-  pub harts : (1 ≤ all.harts) × (all.harts ≤ 8)
-  pub count : (1 ≤ length all.cases) × (length all.cases ≤ 32)
+  pub harts : (1 ≤ all.harts) × (all.harts ≤ most_harts image_version)
+  pub count : (1 ≤ length all.cases) × (length all.cases ≤ most_cases image_version)
   pub passes : (2 ≤ all.passes) × (all.passes ≤ 8)
   pub line : (all.line ≡ 32) ⊎ ((all.line ≡ 64) ⊎ (all.line ≡ 128))
   pub windows : All (IsShapedWindow all.line) all.windows

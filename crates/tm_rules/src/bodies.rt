@@ -4,10 +4,9 @@ ghost use Rattle.tm_base.specs.Lists.{count_from};
 ghost use Rattle.tm_rules_slot.specs.Teams.{IsSystem, harts_of};
 ghost use Rattle.tm_rules.specs.Admitting as admitting;
 
-use crate::form::copy;
 use crate::slots::{one_slot, written_out};
 use std::alloc::Global;
-use tm_base::{List, NoMemory};
+use tm_base::{List, NoMemory, Text};
 use tm_plan_map::{AdmittedCase, SlotList};
 use tm_rules_slot::is_in_team;
 use tm_tmpl_types::{BodyDecl, CaseDecl};
@@ -34,7 +33,7 @@ fn case_of(alloc: Global, topo: &Topology, case: &CaseDecl) -> Result<AdmittedCa
     requires { IsSystem topo.now }
     ensures { IfOk result (λ all. all ≡ admitting.admitted_case topo.now case.now) }
 {
-    let name = copy(alloc, case.name.as_slice())?;
+    let name = Text::copy_of(alloc, case.name.as_slice())?;
     let bodies = bodies_of(alloc, topo, case.bodies.as_slice())?;
     Ok(AdmittedCase { name, bodies })
 }

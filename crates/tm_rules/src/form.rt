@@ -40,7 +40,7 @@ fn admitted(alloc: Global, t: &Template, topo: &Topology) -> Result<Admitted, No
     ensures { IfOk result (λ a. a ≡ admitting.admitted_of topo.now t.now) }
 {
     let harts = topo.cores * topo.threads;
-    let name = copy(alloc, t.name.as_slice())?;
+    let name = Text::copy_of(alloc, t.name.as_slice())?;
     let windows = all_windows(alloc, t.windows.as_slice())?;
     let cases = cases_of(alloc, topo, t.cases.as_slice())?;
     Ok(Admitted {
@@ -53,15 +53,6 @@ fn admitted(alloc: Global, t: &Template, topo: &Topology) -> Result<Admitted, No
         windows,
         cases,
     })
-}
-
-// A copy of a text.
-pub fn copy(alloc: Global, text: &[u8]) -> Result<Text, NoMemory>
-    ensures { IfOk result (λ copy. copy ≡ text.now) }
-{
-    let mut copy = Text::new(alloc);
-    copy.append(text)?;
-    Ok(copy)
 }
 
 // The windows that statements declare.

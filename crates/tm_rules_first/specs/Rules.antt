@@ -3,6 +3,7 @@
 use Rattle.std.specs.Prelude.{ℕ, ◌≡◌, ◌≢◌, ◌<◌, ◌+◌, ◌-◌, ◌*◌, ◌^◌, ◌==◌, min, Bool, true, not, ◌&&◌, nat_le, nat_lt, if◌then◌else◌, List, [], ◌∷◌, ◌++◌, length, slice_get, find, Option, Some, None, option_map}
 use Rattle.std.specs.List.{list_any}
 use Rattle.std.specs.Str.{bytes_eq}
+use Rattle.tm_base.specs.Limits.{image_version, most_cases}
 use Rattle.tm_base.specs.declared.Pos.{Pos}
 use Rattle.tm_plan_map.specs.declared.windows.Window.{Window}
 use Rattle.tm_place.specs.Numbers.{part_size}
@@ -152,7 +153,7 @@ body_checks topo shape before b = put_at b.at (body_rules topo before b.whom (sl
 -- the rules of a case of a name, of so many in all, behind those before it: it isn't the 33rd, and its name is new (this project)
 unfoldable pub case_rules : (count : ℕ) → List CaseDecl → (name : List ℕ) → List (Option RuleFault)
 case_rules count before name =
-    unless (not (length before == 32)) (Cases count)
+    unless (not (length before == most_cases image_version)) (Cases count)
     ∷ unless (not (list_any (λ d. bytes_eq d.name name) before)) TwiceName
     ∷ []
 

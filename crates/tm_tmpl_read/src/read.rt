@@ -249,9 +249,8 @@ fn copy(alloc: Global, part: &[u8]) -> Result<Text, TmplFault>
     ensures ok { IfOk result (λ copied. copied ≡ part.now) }
     ensures err { IfErr result (λ e. e ≡ TmplFault.NoMemory) }
 {
-    let mut copied = Text::new(alloc);
-    match copied.append(part) {
-        Ok(()) => Ok(copied),
+    match Text::copy_of(alloc, part) {
+        Ok(copied) => Ok(copied),
         Err(_) => Err(TmplFault::NoMemory),
     }
 }

@@ -5,6 +5,7 @@ use Rattle.std.specs.Ordering.{nat_cmp, is_lt}
 use Rattle.std.specs.Cmp.Lexicographic.{slice_cmp}
 use Rattle.toml.specs.Data.{Data, Members, no_members, member, get_member, as_integer}
 use Rattle.toml.specs.Parse.{parse_document}
+use Rattle.tm_base.specs.Limits.{image_version, most_harts}
 use Rattle.tm_topo.specs.declared.system.Topology.{Topology}
 use Rattle.tm_topo.specs.declared.system.TopoKey.{TopoKey}
 use Rattle.tm_topo.specs.declared.system.TopoKey.TheVariants.{Cores, Threads, Line, Bias}
@@ -47,8 +48,8 @@ unknown_key ms = least (filter (λ k. not (is_known k)) (keys_of ms))
 
 -- the numbers that a key may have
 abbrev pub allows : TopoKey → ℕ → Bool
-allows Cores n = nat_le 1 n && nat_le n 8
-allows Threads n = nat_le 1 n && nat_le n 8
+allows Cores n = nat_le 1 n && nat_le n (most_harts image_version)
+allows Threads n = nat_le 1 n && nat_le n (most_harts image_version)
 allows Line n = (n == 32 || n == 64) || n == 128
 allows Bias n = nat_le n 100
 
@@ -81,9 +82,9 @@ abbrev pub and_then : {A B : Type 0} → Result A TopoFault → (A → Result B 
 and_then (Ok x) f = f x
 and_then (Err e) f = Err e
 
--- at most 8 harts
+-- no more harts than an image may have
 abbrev pub within_harts : Topology → Result Topology TopoFault
-within_harts t = if nat_le (t.cores * t.threads) 8 then Ok t else Err (TooManyHarts (t.cores * t.threads))
+within_harts t = if nat_le (t.cores * t.threads) (most_harts image_version) then Ok t else Err (TooManyHarts (t.cores * t.threads))
 
 -- the numbers, key by key, and their product
 unfoldable pub numbers_in : Members → Result Topology TopoFault
