@@ -30,6 +30,7 @@ use Rattle.tm_legal.proofs.Half.{legal-runs}
 use Rattle.tm_memory.specs.Laws.{NoneStuck, AllUnstuck}
 use Rattle.tm_memory.proofs.Meets.{tame}
 use Rattle.tm_memory.proofs.Memory.{memory-half}
+use Rattle.tm_memory.proofs.Faults.{faulted-half}
 use Rattle.tm_memory.proofs.PlainMemory.{plain-half}
 use Rattle.tm_memory.proofs.Machines.{half-machine}
 use Rattle.tm_runs.proofs.Rows.{decoded-row}
@@ -124,4 +125,5 @@ all-unstuck p m goes = record {
   legal = λ r legal h l. none-stuck p m.formed h l (m.each h l).order (m.each h l).fresh (goes h l) r (legal-runs p m.formed (tame p m) r legal);
   plain = λ r plain h l. none-stuck p m.formed h l (m.each h l).order (m.each h l).fresh (goes h l) r (plain-half p m r plain);
   memory = λ r memory h l. none-stuck p m.formed h l (m.each h l).order (m.each h l).fresh (goes h l) r (memory-half p m.formed (λ g k. (m.each g k).writes) r memory);
+  faulted = λ change small r faulted h l. none-stuck p m.formed h l (m.each h l).order (m.each h l).fresh (goes h l) r (faulted-half p m change small r faulted);
 }

@@ -5,8 +5,8 @@ use Rattle.tm_world.specs.Place.{harts}
 use Rattle.tm_world.specs.Course.{OnHalf, KeepsOrder, EntersFresh, KeepsWrites, KeepsBarrier}
 use Rattle.tm_legal.specs.Tame.{Formed}
 
--- On half runs hart h comes to its marks in order, enters its streams with fresh registers, writes outside streams only what it may,
--- and keeps the barrier.
+-- On half runs hart h comes to its marks in order, enters its streams with fresh registers, writes outside streams
+-- only what it may, and keeps the barrier.
 pub record Meets (p : Program) (h : ℕ) : Type 0 where
   pub order : OnHalf p h (KeepsOrder p h)
   pub fresh : OnHalf p h (EntersFresh p h)
