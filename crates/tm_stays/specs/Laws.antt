@@ -22,7 +22,7 @@ EachStayShort p = Formed p → (h : ℕ) → h < harts p → Tame p h → (c : �
     → stream_in p.cases c h ≡ Some stream
     → OnLegal p h (λ first own. stay_steps p h c first own ≤ length stream.words)
 
--- On a legal run a tame hart takes inside its streams, in each pass, at most as many steps as they have words.
+-- On a legal run all stays of a tame hart take together at most as many steps as its streams have words, for each pass.
 abbrev pub StaysShort : Program → Type 0
 StaysShort p = Formed p → (h : ℕ) → h < harts p → Tame p h
     → OnLegal p h (λ first own. inside_steps p h first own ≤ passes p * words_in h p.cases.cases)
