@@ -18,3 +18,4 @@ pub mod Owned
 pub mod Exact
 pub mod Silent
 pub mod Together
+pub mod Typed

@@ -22,6 +22,7 @@ use Rattle.tm_course.proofs.Laying.{one-case, shaped, start-is, end-is, exit-is,
 use Rattle.tm_course.proofs.Course.{order, fresh, goes, spares, few-outside, stream-is}
 use Rattle.tm_course.proofs.Grounded.{halt-word}
 use Rattle.tm_course.proofs.Way.{most_steps}
+use Rattle.tm_course.proofs.Typed.{typed}
 
 -- ---- pairs of a list
 
@@ -129,7 +130,7 @@ module _ (p : Program) (case : Case) (stream : Stream) (mask : CaseMask) (is : I
   -- ---- the bound
 
   pub formed : Formed p
-  formed = record { sizes = is.sizes; cases = is.program.cases; laid = laid }
+  formed = record { program = is.program; typed = typed p case stream mask is; laid = laid }
 
   pub tame : Tame p 0
   tame = record { order = order p case stream mask is; fresh = fresh p case stream mask is; spares = spares p case stream mask is }

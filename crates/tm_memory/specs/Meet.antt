@@ -1,5 +1,5 @@
 -- What each hart keeps on half runs, so that the harts of a program meet at their barrier (this project's own).
-use Rattle.std.specs.Prelude.{ℕ, ◌-◌, ◌<◌}
+use Rattle.std.specs.Prelude.{ℕ, ◌<◌}
 use Rattle.tm_plan.specs.declared.program.Program.{Program}
 use Rattle.tm_world.specs.Place.{harts}
 use Rattle.tm_world.specs.Course.{OnHalf, KeepsOrder, EntersFresh, KeepsWrites, KeepsBarrier}

@@ -39,7 +39,7 @@ abbrev pub EndsSoon : Program → Type 0
 EndsSoon p = Formed p → (h : ℕ) → h < harts p → Tame p h → (m : ℕ)
     → OnHalf p h (λ first own. outside_steps p h first own ≤ m)
     → OnLegal p h (λ first own. (length own ≤ m + passes p * words_in h p.cases.cases)
-        × (work_steps p h own ≤ m + passes p * words_in h p.cases.cases))
+    × (work_steps p h own ≤ m + passes p * words_in h p.cases.cases))
 
 -- no word of the stream is a load
 abbrev pub HasNoLoad : Stream → Type 0
@@ -51,14 +51,14 @@ abbrev pub PassesAlike : Program → Type 0
 PassesAlike p = Formed p → (h : ℕ) → h < harts p → Tame p h → (c : ℕ) (stream : Stream)
     → stream_in p.cases c h ≡ Some stream → HasNoLoad stream
     → OnLegal p h (λ first own. (k k' x v v' : ℕ) → end_value p h c k first own (Register x) ≡ Some v
-        → end_value p h c k' first own (Register x) ≡ Some v' → v ≡ v')
+    → end_value p h c k' first own (Register x) ≡ Some v' → v ≡ v')
 
 -- On each half run a hart that keeps the order of its marks is inside a stream of a case only in the run phase of a
 -- pass of that case.
 abbrev pub StaysInPhase : Program → Type 0
 StaysInPhase p = Formed p → (h : ℕ) → h < harts p → OnHalf p h (KeepsOrder p h)
     → OnHalf p h (λ first own. (c : ℕ) → stream_at p h (now first own).pc ≡ Some c
-        → case_of_phase p (phase (exit_of p h) own) ≡ Some c)
+    → case_of_phase p (phase (exit_of p h) own) ≡ Some c)
 
 -- Where outside streams tame harts write only what they may on half runs, they write only that on legal runs, inside
 -- streams too.

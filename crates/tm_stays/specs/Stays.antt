@@ -40,7 +40,7 @@ abbrev pub outside_work : Program → ℕ → Hart → List Step → ℕ
 outside_work p h first [] = 0
 outside_work p h first (s ∷ past) =
     if idle_lately p h 4 (s ∷ past) then outside_work p h first past
-        else one_outside (stream_at p h (now first past).pc) (outside_work p h first past)
+    else one_outside (stream_at p h (now first past).pc) (outside_work p h first past)
 
 -- the words of hart h's streams in these cases
 abbrev pub words_in : ℕ → List Case → ℕ
