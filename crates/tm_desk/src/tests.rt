@@ -1,63 +1,9 @@
 use super::*;
+use std::cell::Cell;
 use std::fmt::Display;
 use std::fs;
 use std::io::{self, ErrorKind, Print};
 use std::test::Fail;
-use tm_base::List;
-
-#[test]
-fn a_desk_in_memory_fails_where_told(rt: HostRuntime) -> Result<(), Fail> {
-    let alloc = rt.alloc();
-    let mut fails = List::new(alloc);
-    fails.push(2)?;
-    fails.push(7)?;
-    let mut desk = MemDesk::new(alloc, fails);
-    desk.put_file("a", b"one")?;
-    desk.put_file("b", b"other")?;
-    assert_eq!(rt; desk.read("a", 3)?.as_slice(), b"one".as_slice());
-    assert!(rt; matches!(desk.read("a", 3), Err(DeskError::Failed)));
-    assert!(rt; matches!(desk.read("a", 2), Err(DeskError::TooLong { max: 2 })));
-    assert!(rt; matches!(desk.read("none", 2), Err(DeskError::Failed)));
-    desk.write("a", b"")?;
-    assert_eq!(rt; desk.read("a", 0)?.as_slice(), b"".as_slice());
-    assert_eq!(rt; desk.write("a", b"lost"), Err(DeskError::Failed));
-    assert_eq!(rt; desk.read("b", 5)?.as_slice(), b"other".as_slice());
-    Ok(())
-}
-
-#[test]
-fn a_calm_desk_holds_an_empty_file_under_every_other_name(rt: HostRuntime) -> Result<(), Fail> {
-    let mut desk = CalmDesk::new(rt.alloc());
-    desk.put_file("a", b"one")?;
-    desk.write("b", b"two")?;
-    for (name, held) in [("a", "one"), ("b", "two"), ("c", "")] {
-        assert_eq!(rt;
-            desk.read(name, 3)?.as_slice(),
-            held.as_bytes(),
-            "at {name}"
-        );
-    }
-    assert!(rt; matches!(desk.read("a", 2), Err(DeskError::TooLong { max: 2 })));
-    Ok(())
-}
-
-#[test]
-fn a_sink_in_memory_takes_pieces_and_fails_where_told(rt: HostRuntime) -> Result<(), Fail> {
-    let alloc = rt.alloc();
-    let mut fails = List::new(alloc);
-    fails.push(4)?;
-    let mut sink = MemSink::new(alloc, 2, fails);
-    put_all(&mut sink, b"abcde")?;
-    assert_eq!(rt; sink.taken(), b"abcde".as_slice());
-    assert_eq!(rt; put_all(&mut sink, b"f"), Err(SinkError::Failed));
-    assert_eq!(rt; sink.taken(), b"abcde".as_slice());
-    assert_eq!(rt; sink.put(b"fgh"), Ok(2));
-    assert_eq!(rt; sink.taken(), b"abcdefg".as_slice());
-    let mut calm = CalmSink::new(alloc);
-    assert_eq!(rt; calm.put(b"abc"), Ok(3));
-    assert_eq!(rt; calm.taken(), b"abc".as_slice());
-    Ok(())
-}
 
 #[test]
 fn real_files_are_written_and_read(rt: HostRuntime) -> Result<(), Fail> {
@@ -93,8 +39,39 @@ fn a_real_sink_takes_bytes_or_counts_a_fault(rt: HostRuntime) -> Result<(), Fail
     Ok(())
 }
 
+/// A file longer than what one write or read of the system moves is written and read back whole.
+#[test]
+fn a_long_file_is_written_and_read(rt: HostRuntime) -> Result<(), Fail> {
+    let alloc = rt.alloc();
+    let mut desk = RealDesk::new(alloc, rt.clone()?);
+    let mut bytes = vec![in alloc; b'x'; 300_000]?;
+    if let Some(last) = bytes.last_mut() {
+        *last = b'y';
+    }
+    desk.write(LONG_FILE, bytes.as_slice())?;
+    let held = desk.read(LONG_FILE, 300_000)?;
+    assert!(rt; held.as_slice() == bytes.as_slice());
+    assert!(rt; matches!(desk.read(LONG_FILE, 299_999), Err(DeskError::TooLong { max: 299_999 })));
+    fs::remove_file(&rt, LONG_FILE)?;
+    Ok(())
+}
+
+/// A stream that takes one byte at a time gets all of them, in order.
+#[test]
+fn a_slow_stream_gets_all_bytes(rt: HostRuntime) -> Result<(), Fail> {
+    let taken = Cell::new(0);
+    let mut sink = RealSink::new(Slow { taken: &taken });
+    put_all(&mut sink, b"abcdef")?;
+    assert_eq!(rt; taken.get(), 0x6162_6364_6566);
+    assert_eq!(rt; sink.faults, 0);
+    Ok(())
+}
+
 /// The file that the test of the real desk writes and removes.
 const FILE: &str = "tm_desk_real_file";
+
+/// The file of the test of long files.
+const LONG_FILE: &str = "tm_desk_long_file";
 
 /// What a stream answers, what its sink makes of it, and the faults after it.
 const REFUSALS: [(Option<ErrorKind>, SinkError, u64); 3] = [
@@ -126,6 +103,36 @@ impl Print for Refusing {
         match self.answer {
             Some(kind) => Err(kind.into()),
             None => Ok(0),
+        }
+    }
+}
+
+/// A stream that takes one byte at a time, into a number.
+#[derive(Drop)]
+struct Slow<'a> {
+    taken: &'a Cell<u64>,
+}
+
+impl Print for Slow<'_> {
+    fn print<D: Display + Drop>(&self, _value: D) -> io::Result<()> {
+        Ok(())
+    }
+
+    fn println<D: Display + Drop>(&self, _value: D) -> io::Result<()> {
+        Ok(())
+    }
+
+    fn write_all(&self, _bytes: &[u8]) -> io::Result<()> {
+        Ok(())
+    }
+
+    fn write_some(&self, bytes: &[u8]) -> io::Result<usize> {
+        match bytes {
+            [] => Ok(0),
+            [first, ..] => {
+                self.taken.set((self.taken.get() << 8) | u64::from(*first));
+                Ok(1)
+            }
         }
     }
 }
