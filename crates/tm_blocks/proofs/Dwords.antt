@@ -10,7 +10,7 @@ use Rattle.tm_runs.specs.Machine.{World, State, Table, put, get, computes, loade
 use Rattle.tm_runs.specs.Runs.{Within, IsQuiet}
 use Rattle.tm_runs.proofs.Compose.{within_map}
 use Rattle.tm_runs.proofs.Steps.{branched}
-use Rattle.tm_runs.proofs.Tables.{put_other}
+use Rattle.tm_runs.proofs.Tables.{put_other, get_put_fits}
 use Rattle.tm_blocks.specs.Laws.{Uses, Usable, Changeable, stored_all}
 
 -- every register has 64 bits
@@ -18,12 +18,7 @@ abbrev pub Fit : Table → Type 0
 Fit f = (r : ℕ) → get f r < 2 ^ 64
 
 pub fit_put : (f : Table) (r v : ℕ) → v < 2 ^ 64 → Fit f → Fit (put f r v)
-fit_put f r v small h zero = omega arith
-fit_put f r v small h (suc x) = by (nat_eq (suc x) r)
-  where
-    by : (b : Bool) → (if b then v else f (suc x)) < 2 ^ 64
-    by true = small
-    by false = h (suc x)
+fit_put f r v small h = get_put_fits f r v h small
 
 -- where three registers alone change
 pub fit_three : (f g : Table) → get g 6 < 2 ^ 64 → get g 7 < 2 ^ 64 → get g 8 < 2 ^ 64 → ((r : ℕ) → r ≢ 6 → r ≢ 7 → r ≢ 8 → get g r ≡ get f r) → Fit f → Fit g

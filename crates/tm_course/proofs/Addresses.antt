@@ -1,5 +1,6 @@
 -- Where the words and bytes of one hart's program stand, in numbers, around a stream of n words.
-use Rattle.std.proofs.Common.{ℕ, ◌+◌, ◌*◌, Bool, not, ◌&&◌, nat_le, nat_lt}
+use Rattle.std.proofs.Common.{ℕ, ◌+◌, ◌*◌, List, Bool, not, ◌&&◌, nat_le, nat_lt}
+use Rattle.tm_world.specs.Lists.{count}
 use Rattle.tm_world.specs.Course.{writes_in}
 use Rattle.tm_runs.specs.Machine.{Table, Entry}
 
@@ -76,6 +77,10 @@ shared = 2162688000
 -- the entry's step is outside the stream
 abbrev pub is_out : ℕ → Entry → Bool
 is_out n e = not (nat_le start_at e.pc && nat_lt e.pc (end_at n))
+
+-- the steps outside the stream
+abbrev pub steps_out : ℕ → List Entry → ℕ
+steps_out n log = count (is_out n) log
 
 -- the entry writes the verdict cell
 abbrev pub reports : Entry → Bool

@@ -10,9 +10,9 @@ use Rattle.tm_runs.specs.Machine.{World, State, Entry, Table, get, put, loaded, 
 use Rattle.tm_runs.specs.Runs.{Takes, Now, At, IsQuiet}
 use Rattle.tm_runs.specs.Course.{Sofar, Good, Calm}
 use Rattle.tm_runs.proofs.Compose.{takes_then, takes_map}
-use Rattle.tm_runs.proofs.Tables.{at_front, at_next, put_same, put_other, get_put, get_put_other}
+use Rattle.tm_runs.proofs.Tables.{get_put_fits, at_front, at_next, put_same, put_other, get_put, get_put_other}
 use Rattle.tm_runs.proofs.Steps.{written, branched, step_ld, step_sd, step_addi, step_beq_taken, step_beq_on}
-use Rattle.tm_runs.proofs.Story.{calmly, good, sofar-one}
+use Rattle.tm_runs.proofs.Story.{count-grows, calmly, good, sofar-one}
 use Rattle.tm_blocks.specs.Instrs.{addi, ld, sd, beq}
 use Rattle.tm_blocks.specs.Blocks.{constant, copy, load_registers_but_last}
 use Rattle.tm_blocks.specs.Laws.{Uses, Among, Nowhere, EachAccess, copies, after_last_load}
@@ -20,10 +20,10 @@ use Rattle.tm_blocks.proofs.Lengths.{length-constant, length-load_registers_but_
 use Rattle.tm_blocks.proofs.Constant.{constant_runs}
 use Rattle.tm_blocks.proofs.Collect.{copy_runs}
 use Rattle.tm_blocks.proofs.Registers.{load_all_but_last_runs, last_load_runs}
-use Rattle.tm_course.proofs.Ground.{Ground, Fact, Hold, is_out, fresh_in, entry_at, arrive_at, exit_at, run_at, start_at, end_at, between_at, last_at, halt_at, registers_at, first_at, tables_end, private, count_at, shared, arrive_part, choose_part}
+use Rattle.tm_course.proofs.Ground.{Ground, Fact, Hold, is_out, steps_out, fresh_in, entry_at, arrive_at, exit_at, run_at, start_at, end_at, between_at, last_at, halt_at, registers_at, first_at, tables_end, private, count_at, shared, arrive_part, choose_part}
 use Rattle.tm_course.proofs.Calm.{IsMild, mild-uses, mild-quiet, plain, calm, calm-does}
 use Rattle.tm_course.proofs.Notes.{Same, Blank, IsZero, same-then, same-part, same-low, same-one, same-exit, blank-same, low-quiet, low-uses, reads-uses, among-low, zero-copies, accesses-of}
-use Rattle.tm_course.proofs.Memory.{fits-put, stored-below, stored-count, stored-tables, usable-table, back-table, usable-shared, free-shared, among-behind}
+use Rattle.tm_course.proofs.Memory.{stored-below, stored-count, stored-tables, usable-table, back-table, usable-shared, free-shared, among-behind}
 
 -- the same instructions at the same address
 pub moved_to : (text : ℕ → Rattle.std.specs.Prelude.Option Instr) (a b : ℕ) (code : List Instr) → b ≡ a → At text a code → At text b code
@@ -33,13 +33,13 @@ module _ (w : World) (mark : ℕ → ℕ → List Mark) (n : ℕ) (image : Table
   -- ---- to the exit mark
 
   pub begin : (rest : List Mark) (s : State) → way ≡ rest → 49 ≤ most → s.pc ≡ entry_at → s.log ≡ [] → s.mem count_at ≡ 0 → ((a : ℕ) → registers_at ≤ a → a + 8 ≤ tables_end → s.mem a ≡ image a) → ((r : ℕ) → get s.regs r < 2 ^ 64)
-      → ((j : ℕ) → j < 8 → image (first_at + 8 * j) ≡ 0) → Takes w (λ t. Good mark (Fact n image) (is_out n) way most t.log) (λ t. Hold mark n image 0 arrive_at [] 49 t × Blank n 0 t) 49 s
+      → ((j : ℕ) → j < 8 → image (first_at + 8 * j) ≡ 0) → Takes w (λ t. Good mark (Fact n image) (steps_out n) way most t.log) (λ t. Hold mark n image 0 arrive_at [] 49 t × Blank n 0 t) 49 s
   begin rest s front few at-entry none count tables fits blank =
-      let so : Sofar mark (Fact n image) (is_out n) [] 0 s.log = subst (λ (log : List _). Sofar mark (Fact n image) (is_out n) [] 0 log) (sym none) (record { way = refl; story = tt; few = omega arith }) in
+      let so : Sofar mark (Fact n image) (steps_out n) [] 0 s.log = subst (λ (log : List _). Sofar mark (Fact n image) (steps_out n) [] 0 log) (sym none) (record { way = refl; story = tt; few = omega arith }) in
       let code = copy first_at shared 8 in
       let at0 = at_front w.text entry_at (constant 31 private) code ground.entry in
       takes_then
-      (calmly mark (Fact n image) (is_out n) way [] rest most 0 front (omega arith)
+      (calmly mark (Fact n image) (steps_out n) (count-grows (is_out n)) way [] rest most 0 front (omega arith)
       (calm-does w mark n ground image s.pc (s.pc + 44) IsQuiet (record { exit = inl (omega arith); stream = inl (omega arith); halt = omega arith }) mild-quiet) so
       (constant_runs 31 private (omega arith) (omega arith) w s (moved_to w.text entry_at s.pc (constant 31 private) at-entry at0)))
       (λ t q.
@@ -63,7 +63,7 @@ module _ (w : World) (mark : ℕ → ℕ → List Mark) (n : ℕ) (image : Table
         },
         blank-same none (same-then a b),
       ))
-      (calmly mark (Fact n image) (is_out n) way [] rest most 11 front (omega arith)
+      (calmly mark (Fact n image) (steps_out n) (count-grows (is_out n)) way [] rest most 11 front (omega arith)
       (calm-does w mark n ground image t.pc (t.pc + 4 * (22 + 2 * 8)) (Uses (Among first_at 8) (Among shared 8)) (record { exit = inl (omega (arith, p.pc)); stream = inl (omega (arith, p.pc)); halt = omega (arith, p.pc) }) (mild-uses (Among first_at 8) (Among shared 8) (λ a h. among-behind w mark n ground shared 8 a (omega arith) h)))
       q.2
       (copy_runs first_at shared 8 w t (usable-table w mark n ground first_at 8 (omega arith) (omega arith) refl) (usable-shared w mark n ground) (free-shared w mark n ground) (inl (omega arith)) at1)))
@@ -71,14 +71,14 @@ module _ (w : World) (mark : ℕ → ℕ → List Mark) (n : ℕ) (image : Table
   -- ---- one step
 
   abbrev Told : State → Type 0
-  Told t = Good mark (Fact n image) (is_out n) way most t.log
+  Told t = Good mark (Fact n image) (steps_out n) way most t.log
 
   -- a calm step
-  calm-one : (ms : List Mark) (k : ℕ) (e : Entry) (log : List Entry) → Calm mark (Fact n image) e → Sofar mark (Fact n image) (is_out n) ms k log → Sofar mark (Fact n image) (is_out n) ms (suc k) (e ∷ log)
-  calm-one ms k e log c so = let m = sofar-one mark (Fact n image) (is_out n) ms [] k e log c.mark (c.fact log) so in record { way = m.way ∙ append-nil ms; story = m.story; few = m.few }
+  calm-one : (ms : List Mark) (k : ℕ) (e : Entry) (log : List Entry) → Calm mark (Fact n image) e → Sofar mark (Fact n image) (steps_out n) ms k log → Sofar mark (Fact n image) (steps_out n) ms (suc k) (e ∷ log)
+  calm-one ms k e log c so = let m = sofar-one mark (Fact n image) (steps_out n) (count-grows (is_out n)) ms [] k e log c.mark (c.fact log) so in record { way = m.way ∙ append-nil ms; story = m.story; few = m.few }
 
-  here : (ms rest : List Mark) (k : ℕ) (log : List Entry) → way ≡ ms ++ rest → k ≤ most → Sofar mark (Fact n image) (is_out n) ms k log → Good mark (Fact n image) (is_out n) way most log
-  here ms rest k log front l so = good mark (Fact n image) (is_out n) way ms rest most k log front l so
+  here : (ms rest : List Mark) (k : ℕ) (log : List Entry) → way ≡ ms ++ rest → k ≤ most → Sofar mark (Fact n image) (steps_out n) ms k log → Good mark (Fact n image) (steps_out n) way most log
+  here ms rest k log front l so = good mark (Fact n image) (steps_out n) way ms rest most k log front l so
 
   read-mild : (a v : ℕ) → IsMild (Read a 8 v)
   read-mild a v = record { silent = refl; spares = tt }
@@ -91,18 +91,18 @@ module _ (w : World) (mark : ℕ → ℕ → List Mark) (n : ℕ) (image : Table
       let code = moved_to w.text arrive_at s.pc arrive_part h.pc ground.arrive in
       let place : word64 (get s.regs 31 + 256) ≡ count_at = rw h.base refl in
       let area = ground.own count_at (omega arith) (omega arith) in
-      let c1 : (v : ℕ) → Sofar mark (Fact n image) (is_out n) ms (suc o) (loaded (ld 1 256 31) count_at v s).log = λ v. calm-one ms o _ s.log (calm w mark n ground image _ (λ e. omega (arith, h.pc)) (λ e. omega (arith, h.pc)) (inl (omega (arith, h.pc))) (read-mild count_at v)) h.sofar in
+      let c1 : (v : ℕ) → Sofar mark (Fact n image) (steps_out n) ms (suc o) (loaded (ld 1 256 31) count_at v s).log = λ v. calm-one ms o _ s.log (calm w mark n ground image _ (λ e. omega (arith, h.pc)) (λ e. omega (arith, h.pc)) (inl (omega (arith, h.pc))) (read-mild count_at v)) h.sofar in
       step_ld count_at refl code.0 place (refl, area.2) (λ v _ _. here ms (Exit ∷ rest) (suc o) _ front (omega arith) (c1 v))
       (λ v _ back.
       let value : v ≡ k = back area.0 ∙ h.count in
       let s1 = loaded (ld 1 256 31) count_at v s in
-      let c2 : Sofar mark (Fact n image) (is_out n) ms (suc (suc o)) (computes (addi 1 1 1) s1 (suc k)).log = calm-one ms (suc o) _ s1.log (calm w mark n ground image _ (λ e. omega (arith, h.pc)) (λ e. omega (arith, h.pc)) (inl (omega (arith, h.pc))) (mild-quiet Quiet refl)) (c1 v) in
+      let c2 : Sofar mark (Fact n image) (steps_out n) ms (suc (suc o)) (computes (addi 1 1 1) s1 (suc k)).log = calm-one ms (suc o) _ s1.log (calm w mark n ground image _ (λ e. omega (arith, h.pc)) (λ e. omega (arith, h.pc)) (inl (omega (arith, h.pc))) (mild-quiet Quiet refl)) (c1 v) in
       step_addi (suc k) refl code.1.0 (omega (arith, value)) (here ms (Exit ∷ rest) (suc (suc o)) _ front (omega arith) c2)
       (let s2 = computes (addi 1 1 1) s1 (suc k) in
       let e3 = written (sd 1 256 31) count_at s2 in
       let next : s2.pc + 4 ≡ exit_at = omega (arith, h.pc) in
       let mild : IsMild (Write count_at 8 (suc k)) = mild-uses Nowhere (Among count_at 1) (λ a g. among-behind w mark n ground count_at 1 a (omega arith) g) (Write count_at 8 (suc k)) (refl, record { index = 0; below = omega arith; is = refl }) in
-      let c3 : Sofar mark (Fact n image) (is_out n) (ms ++ Exit ∷ []) (suc (suc (suc o))) e3.log = sofar-one mark (Fact n image) (is_out n) ms (Exit ∷ []) (suc (suc o)) _ s2.log (ap (mark s2.pc) next ∙ ground.exit s2.pc) (plain w mark n ground image _ (λ e. omega (arith, h.pc)) (λ e. omega (arith, h.pc)) mild s2.log) c2 in
+      let c3 : Sofar mark (Fact n image) (steps_out n) (ms ++ Exit ∷ []) (suc (suc (suc o))) e3.log = sofar-one mark (Fact n image) (steps_out n) (count-grows (is_out n)) ms (Exit ∷ []) (suc (suc o)) _ s2.log (ap (mark s2.pc) next ∙ ground.exit s2.pc) (plain w mark n ground image _ (λ e. omega (arith, h.pc)) (λ e. omega (arith, h.pc)) mild s2.log) c2 in
       step_sd count_at refl code.1.1.0 place (refl, area.2) area.1 (here (ms ++ Exit ∷ []) rest (suc (suc (suc o))) _ behind (omega arith) c3)
       (Now ((
         record {
@@ -110,8 +110,8 @@ module _ (w : World) (mark : ℕ → ℕ → List Mark) (n : ℕ) (image : Table
           base = h.base;
           count = put_same s.mem count_at (suc k);
           tables = λ a l m. put_other s.mem count_at (suc k) a (λ e. omega arith) ∙ h.tables a l m;
-          fits = fits-put (put s.regs 1 v) 1 (suc k) (fits-put s.regs 1 v h.fits (omega (arith, value))) (omega arith);
-          sofar = subst (λ (x : ℕ). Sofar mark (Fact n image) (is_out n) (ms ++ Exit ∷ []) x e3.log) (omega arith) c3;
+          fits = get_put_fits (put s.regs 1 v) 1 (suc k) (get_put_fits s.regs 1 v h.fits (omega (arith, value))) (omega arith);
+          sofar = subst (λ (x : ℕ). Sofar mark (Fact n image) (steps_out n) (ms ++ Exit ∷ []) x e3.log) (omega arith) c3;
         },
         same-then (same-one n _ s s1 refl (inl (omega (arith, h.pc))) (omega arith) (λ _ _ _ _. refl) (λ z. omega (arith, z, h.pc)))
             (same-then (same-one n _ s1 s2 refl (inl (omega (arith, h.pc))) tt (λ _ _ _ _. refl) (λ z. omega (arith, z, h.pc)))
@@ -133,30 +133,30 @@ module _ (w : World) (mark : ℕ → ℕ → List Mark) (n : ℕ) (image : Table
       let code = moved_to w.text exit_at s.pc (choose_part n) h.pc ground.choose in
       let place : word64 (get s.regs 31 + 256) ≡ count_at = rw h.base refl in
       let area = ground.own count_at (omega arith) (omega arith) in
-      let c1 : (v : ℕ) → Sofar mark (Fact n image) (is_out n) ms (o + 1) (loaded (ld 1 256 31) count_at v s).log = λ v. subst (λ (x : ℕ). Sofar mark (Fact n image) (is_out n) ms x (loaded (ld 1 256 31) count_at v s).log) (omega arith) (calm-one ms o _ s.log (calm w mark n ground image _ (λ e. omega (arith, h.pc)) (λ e. omega (arith, h.pc)) (inl (omega (arith, h.pc))) (read-mild count_at v)) h.sofar) in
+      let c1 : (v : ℕ) → Sofar mark (Fact n image) (steps_out n) ms (o + 1) (loaded (ld 1 256 31) count_at v s).log = λ v. subst (λ (x : ℕ). Sofar mark (Fact n image) (steps_out n) ms x (loaded (ld 1 256 31) count_at v s).log) (omega arith) (calm-one ms o _ s.log (calm w mark n ground image _ (λ e. omega (arith, h.pc)) (λ e. omega (arith, h.pc)) (inl (omega (arith, h.pc))) (read-mild count_at v)) h.sofar) in
       step_ld count_at refl code.0 place (refl, area.2) (λ v _ _. here ms rest (o + 1) _ front few (c1 v))
       (λ v _ back.
       let value : v ≡ k = back area.0 ∙ h.count in
-      Now ((record { pc = omega (arith, h.pc); base = h.base; count = h.count; tables = h.tables; fits = fits-put s.regs 1 v h.fits (omega (arith, value)); sofar = c1 v }, value), same-exit n _ s _ refl (inl (omega (arith, h.pc))) (omega arith) (λ _ _ _ _. refl) h.pc))
+      Now ((record { pc = omega (arith, h.pc); base = h.base; count = h.count; tables = h.tables; fits = get_put_fits s.regs 1 v h.fits (omega (arith, value)); sofar = c1 v }, value), same-exit n _ s _ refl (inl (omega (arith, h.pc))) (omega arith) (λ _ _ _ _. refl) h.pc))
 
   -- a number into x2
   number : (ms rest : List Mark) (k o m place : ℕ) (s : State) → way ≡ ms ++ rest → o + 1 ≤ most → m < 2 ^ 11 → w.text place ≡ Some (addi 2 0 m) → exit_at < place → place + 4 < start_at → With k place ms o s → Takes w Told (λ t. (With k (place + 4) ms (o + 1) t × (get t.regs 2 ≡ m)) × Same n 0 s t) 1 s
   number ms rest k o m place s front few small at lo hi h =
-      let c1 : Sofar mark (Fact n image) (is_out n) ms (o + 1) (computes (addi 2 0 m) s m).log = subst (λ (x : ℕ). Sofar mark (Fact n image) (is_out n) ms x (computes (addi 2 0 m) s m).log) (omega arith) (calm-one ms o _ s.log (calm-read _ (λ e. omega (arith, h.0.pc)) (λ e. omega (arith, h.0.pc)) (inl (omega (arith, h.0.pc))) refl) h.0.sofar) in
+      let c1 : Sofar mark (Fact n image) (steps_out n) ms (o + 1) (computes (addi 2 0 m) s m).log = subst (λ (x : ℕ). Sofar mark (Fact n image) (steps_out n) ms x (computes (addi 2 0 m) s m).log) (omega arith) (calm-one ms o _ s.log (calm-read _ (λ e. omega (arith, h.0.pc)) (λ e. omega (arith, h.0.pc)) (inl (omega (arith, h.0.pc))) refl) h.0.sofar) in
       step_addi m refl (subst (λ (x : ℕ). w.text x ≡ Some (addi 2 0 m)) (sym h.0.pc) at) (omega arith) (here ms rest (o + 1) _ front few c1)
-      (Now (((record { pc = omega (arith, h.0.pc); base = h.0.base; count = h.0.count; tables = h.0.tables; fits = fits-put s.regs 2 m h.0.fits (omega arith); sofar = c1 }, h.1), refl), same-one n _ s _ refl (inl (omega (arith, h.0.pc))) tt (λ _ _ _ _. refl) (λ z. omega (arith, z, h.0.pc))))
+      (Now (((record { pc = omega (arith, h.0.pc); base = h.0.base; count = h.0.count; tables = h.0.tables; fits = get_put_fits s.regs 2 m h.0.fits (omega arith); sofar = c1 }, h.1), refl), same-one n _ s _ refl (inl (omega (arith, h.0.pc))) tt (λ _ _ _ _. refl) (λ z. omega (arith, z, h.0.pc))))
 
   -- a branch that goes on, where the count is another number
   pass_by : (ms rest : List Mark) (k o m d place : ℕ) (s : State) → way ≡ ms ++ rest → o + 1 ≤ most → k ≢ m → w.text place ≡ Some (beq 1 2 d) → exit_at < place → place + 4 < start_at → With k place ms o s → get s.regs 2 ≡ m → Takes w Told (λ t. With k (place + 4) ms (o + 1) t × Same n 0 s t) 1 s
   pass_by ms rest k o m d place s front few other at lo hi h two =
-      let c1 : Sofar mark (Fact n image) (is_out n) ms (o + 1) (branched (beq 1 2 d) (s.pc + 4) s).log = subst (λ (x : ℕ). Sofar mark (Fact n image) (is_out n) ms x (branched (beq 1 2 d) (s.pc + 4) s).log) (omega arith) (calm-one ms o _ s.log (calm-read _ (λ e. omega (arith, h.0.pc)) (λ e. omega (arith, h.0.pc)) (inl (omega (arith, h.0.pc))) refl) h.0.sofar) in
+      let c1 : Sofar mark (Fact n image) (steps_out n) ms (o + 1) (branched (beq 1 2 d) (s.pc + 4) s).log = subst (λ (x : ℕ). Sofar mark (Fact n image) (steps_out n) ms x (branched (beq 1 2 d) (s.pc + 4) s).log) (omega arith) (calm-one ms o _ s.log (calm-read _ (λ e. omega (arith, h.0.pc)) (λ e. omega (arith, h.0.pc)) (inl (omega (arith, h.0.pc))) refl) h.0.sofar) in
       step_beq_on refl (subst (λ (x : ℕ). w.text x ≡ Some (beq 1 2 d)) (sym h.0.pc) at) (λ e. other (sym h.1 ∙ (e ∙ two))) (here ms rest (o + 1) _ front few c1)
       (Now ((record { pc = omega (arith, h.0.pc); base = h.0.base; count = h.0.count; tables = h.0.tables; fits = h.0.fits; sofar = c1 }, h.1), same-one n _ s _ refl (inl (omega (arith, h.0.pc))) tt (λ _ _ _ _. refl) (λ z. omega (arith, z, h.0.pc))))
 
   -- a branch that is taken, to an address behind the stream
   turn_off : (ms rest : List Mark) (k o d place to : ℕ) (s : State) → way ≡ ms ++ rest → o + 1 ≤ most → w.text place ≡ Some (beq 1 2 d) → place + d ≡ to → exit_at < place → place < start_at → end_at n < to → to < halt_at n → With k place ms o s → get s.regs 2 ≡ k → Takes w Told (λ t. Hold mark n image k to ms (o + 1) t × Same n 0 s t) 1 s
   turn_off ms rest k o d place to s front few at goes after' before lo hi h two =
-      let c1 : Sofar mark (Fact n image) (is_out n) ms (o + 1) (branched (beq 1 2 d) to s).log = subst (λ (x : ℕ). Sofar mark (Fact n image) (is_out n) ms x (branched (beq 1 2 d) to s).log) (omega arith) (calm-one ms o _ s.log (calm-read _ (λ e. omega arith) (λ e. omega arith) (inr lo) refl) h.0.sofar) in
+      let c1 : Sofar mark (Fact n image) (steps_out n) ms (o + 1) (branched (beq 1 2 d) to s).log = subst (λ (x : ℕ). Sofar mark (Fact n image) (steps_out n) ms x (branched (beq 1 2 d) to s).log) (omega arith) (calm-one ms o _ s.log (calm-read _ (λ e. omega arith) (λ e. omega arith) (inr lo) refl) h.0.sofar) in
       step_beq_taken to refl (subst (λ (x : ℕ). w.text x ≡ Some (beq 1 2 d)) (sym h.0.pc) at) (h.1 ∙ sym two) (omega (arith, h.0.pc)) (here ms rest (o + 1) _ front few c1)
       (Now (record { pc = refl; base = h.0.base; count = h.0.count; tables = h.0.tables; fits = h.0.fits; sofar = c1 }, same-one n _ s _ refl (inl (omega (arith, h.0.pc))) tt (λ _ _ _ _. refl) (λ z. omega (arith, z, h.0.pc))))
 
@@ -194,7 +194,7 @@ module _ (w : World) (mark : ℕ → ℕ → List Mark) (n : ℕ) (image : Table
       let back = back-table w mark n ground registers_at 31 (omega arith) (omega arith) in
       let code = load_registers_but_last registers_at in
       takes_then
-      (calmly mark (Fact n image) (is_out n) way ms (Enter 0 ∷ rest) most o front (omega arith)
+      (calmly mark (Fact n image) (steps_out n) (count-grows (is_out n)) way ms (Enter 0 ∷ rest) most o front (omega arith)
       (calm-does w mark n ground image s.pc (s.pc + 164) (Uses (Among registers_at 30) Nowhere) (record { exit = inr (omega (arith, h.pc)); stream = inl (omega (arith, h.pc)); halt = omega (arith, h.pc) }) (mild-uses (Among registers_at 30) Nowhere (λ a x. absurd x)))
       h.sofar
       (load_all_but_last_runs registers_at w s usable back (moved_to w.text run_at s.pc code h.pc (at_front w.text run_at code (ld 31 240 31 ∷ []) ground.run))))
@@ -206,9 +206,9 @@ module _ (w : World) (mark : ℕ → ℕ → List Mark) (n : ℕ) (image : Table
       let u = after_last_load registers_at t in
       let next : t.pc + 4 ≡ start_at = omega (arith, h.pc, p.pc) in
       let fresh : (r : ℕ) → 1 ≤ r → r < 32 → get u.regs r ≡ fresh_in image r = first t s (λ i l. p.loaded i l ∙ h.tables (registers_at + 8 * i) (omega arith) (omega arith)) last in
-      let so : Sofar mark (Fact n image) (is_out n) (ms ++ Enter 0 ∷ []) (o + 42) u.log =
-      subst (λ (x : ℕ). Sofar mark (Fact n image) (is_out n) (ms ++ Enter 0 ∷ []) x u.log) (omega arith)
-      (sofar-one mark (Fact n image) (is_out n) ms (Enter 0 ∷ []) (o + 41) _ t.log (ap (mark t.pc) next ∙ ground.enter t.pc (inl (omega (arith, next)))) (record {
+      let so : Sofar mark (Fact n image) (steps_out n) (ms ++ Enter 0 ∷ []) (o + 42) u.log =
+      subst (λ (x : ℕ). Sofar mark (Fact n image) (steps_out n) (ms ++ Enter 0 ∷ []) x u.log) (omega arith)
+      (sofar-one mark (Fact n image) (steps_out n) (count-grows (is_out n)) ms (Enter 0 ∷ []) (o + 41) _ t.log (ap (mark t.pc) next ∙ ground.enter t.pc (inl (omega (arith, next)))) (record {
         fresh = λ _ _. fresh;
         verdict = λ e. absurd (true≢false (sym e));
         exact = λ x e. cc;
@@ -221,7 +221,7 @@ module _ (w : World) (mark : ℕ → ℕ → List Mark) (n : ℕ) (image : Table
           base = last ∙ base;
           count = ap (λ (f : Table). f count_at) p.mem ∙ h.count;
           tables = λ a l m. ap (λ (f : Table). f a) p.mem ∙ h.tables a l m;
-          fits = fits-put t.regs 31 v (p.fits h.fits) e.small;
+          fits = get_put_fits t.regs 31 v (p.fits h.fits) e.small;
           sofar = so;
         },
         same-then (same-low n private s.pc (s.pc + 164) (Uses (Among registers_at 30) Nowhere) s t (inl (omega (arith, h.pc))) (inr (omega (arith, h.pc))) (low-uses (Among registers_at 30) Nowhere (λ a g. among-low registers_at 30 a (omega arith) g) (λ a g. absurd g)) q.1 (λ a _ _ _. ap (λ (f : Table). f a) p.mem))

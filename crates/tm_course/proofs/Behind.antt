@@ -6,7 +6,7 @@ use Rattle.std.proofs.lemmas.Bool.Decides.{nat_tests}
 use Rattle.tm_table.specs.declared.state.Access.{Access}
 use Rattle.tm_table.specs.declared.state.Access.TheVariants.{Quiet, Read, Write}
 use Rattle.tm_plan.specs.Collected.{any}
-use Rattle.tm_world.specs.Lists.{count, or_else}
+use Rattle.tm_world.specs.Lists.{or_else}
 use Rattle.tm_world.specs.Place.{byte_of}
 use Rattle.tm_world.specs.Run.{got}
 use Rattle.tm_world.specs.Marks.{Mark, End, Halt}
@@ -15,9 +15,9 @@ use Rattle.tm_runs.specs.Machine.{World, State, Entry, Table, Strays, StreamAcce
 use Rattle.tm_runs.specs.Runs.{Takes, Keeps, Now, At, Does, Since}
 use Rattle.tm_runs.specs.Course.{Sofar, Good}
 use Rattle.tm_runs.proofs.Compose.{takes_then, takes_map, keeps_map}
-use Rattle.tm_runs.proofs.Tables.{at_front, at_next, get_put_zero}
+use Rattle.tm_runs.proofs.Tables.{get_put_fits, at_front, at_next, get_put_zero}
 use Rattle.tm_runs.proofs.Steps.{jumped, step_jal}
-use Rattle.tm_runs.proofs.Story.{calmly, good, sofar-one, stream-story}
+use Rattle.tm_runs.proofs.Story.{count-stays, count-grows, calmly, good, sofar-one, stream-story}
 use Rattle.tm_blocks.specs.Instrs.{sd, jump_back}
 use Rattle.tm_blocks.specs.Blocks.{save_registers, copy, collect}
 use Rattle.tm_blocks.specs.Compare.{compare_but_last}
@@ -26,17 +26,17 @@ use Rattle.tm_blocks.proofs.Lengths.{length-save_registers, length-copy, length-
 use Rattle.tm_blocks.proofs.Collect.{copy_runs, collect_runs}
 use Rattle.tm_blocks.proofs.Registers.{save_registers_runs}
 use Rattle.tm_blocks.proofs.Whole.{compare_but_last_runs, last_store_runs}
-use Rattle.tm_course.proofs.Ground.{Ground, Fact, Hold, is_out, is_end, is_halt, reports, arrive_at, exit_at, start_at, end_at, between_at, last_at, halt_at, registers_at, mask_at, first_at, bytes_at, tables_end, cell, private, count_at, save_0, save_1, shared}
-use Rattle.tm_course.proofs.Calm.{mild-uses, mild-quiet, calm, calm-does, calm-one, silent, ended}
+use Rattle.tm_course.proofs.Ground.{Ground, Fact, Hold, is_out, steps_out, is_halt, reports, arrive_at, exit_at, start_at, end_at, between_at, last_at, halt_at, registers_at, mask_at, first_at, bytes_at, tables_end, cell, private, count_at, save_0, save_1, shared}
+use Rattle.tm_course.proofs.Calm.{mild-uses, mild-quiet, calm, calm-does, calm-one, silent}
 use Rattle.tm_course.proofs.Notes.{is_in, phase_at, left, first_read, first_got, outs, IsZero, Same, SameFrom, Stayed, Left, SavedRegisters, SavedState, Clear, HasRegisters, PassTold, Judged, clear-same, clear-save, pass-told, told-same, told-save, same-then, same-from, same-part, same-low, same-one, low-uses, reads-uses, among-low, zero-copies, low-copies, accesses-of, each-append, outs-more, phase-same, left-same, read-other, read-here, or-none}
 use Rattle.tm_course.proofs.FirstReads.{got-append, copies-none, copies-some}
 use Rattle.tm_blocks.proofs.Pointwise.{saved_register, saved_other, collected_register, collected_shared, collected_other}
-use Rattle.tm_course.proofs.Memory.{fits-put, stored-below, stored-count, stored-tables, usable-table, back-table, usable-own, back-own, free-own, usable-shared, free-shared, usable-cell, free-cell, among-behind}
+use Rattle.tm_course.proofs.Memory.{stored-below, stored-count, stored-tables, usable-table, back-table, usable-own, back-own, free-own, usable-shared, free-shared, usable-cell, free-cell, among-behind}
 use Rattle.tm_course.proofs.Begin.{moved_to}
 
 module _ (w : World) (mark : ℕ → ℕ → List Mark) (n : ℕ) (image : Table) (ground : Ground w mark n) (way : List Mark) (most : ℕ) where
   abbrev Told : State → Type 0
-  Told t = Good mark (Fact n image) (is_out n) way most t.log
+  Told t = Good mark (Fact n image) (steps_out n) way most t.log
 
   -- ---- the stream
 
@@ -134,7 +134,7 @@ module _ (w : World) (mark : ℕ → ℕ → List Mark) (n : ℕ) (image : Table
       → Keeps w Told (λ t. Hold mark n image k (end_at n) (ms ++ End 0 ∷ []) o t × Stayed n s t × Left n s t) s
   stay ms rest k o s front behind few h =
       keeps_map (λ t g. g) (λ t q. (record { pc = q.1; base = q.0.base; count = q.0.count; tables = q.0.tables; fits = q.0.fits; sofar = q.2 }, q.0.stayed, at-end t q.1 q.0.here))
-      (stream-story mark (Fact n image) (is_out n) w 0 start_at (end_at n) ground.stream ground.inner ground.end in-stream (Stays k s) (kept k s) (fact k s) way ms (End 0 ∷ rest) rest most o front behind few
+      (stream-story mark (Fact n image) (steps_out n) w 0 start_at (end_at n) ground.stream ground.inner ground.end (λ e log a b. count-stays (is_out n) e log (in-stream e a b)) (Stays k s) (kept k s) (fact k s) way ms (End 0 ∷ rest) rest most o front behind few
       s (record { base = h.base; count = h.count; tables = h.tables; fits = h.fits; stayed = record { phase = refl; left = λ _ _. refl; read = λ _ _ _. refl; outs = refl; mem = λ _ _ _. refl }; here = inl (omega (arith, h.pc, ground.some), refl) }) h.pc (omega (arith, ground.some)) h.sofar)
     where
       at-end : (t : State) → t.pc ≡ end_at n → ((t.pc < end_at n) × (left n (phase_at s.log) t.log ≡ left n (phase_at s.log) s.log)) ⊎ ((end_at n ≤ t.pc) × Left n s t) → Left n s t
@@ -146,15 +146,15 @@ module _ (w : World) (mark : ℕ → ℕ → List Mark) (n : ℕ) (image : Table
   jump : (ms rest : List Mark) (k o b place : ℕ) (s : State) → way ≡ ms ++ rest → o + 1 ≤ most → w.text place ≡ Some (jump_back b) → 1 ≤ b → arrive_at + b ≡ place → place < 2 ^ 63 → end_at n ≤ place → Hold mark n image k place ms o s → Takes w Told (λ t. Hold mark n image k arrive_at ms (o + 1) t × Same n 0 s t) 1 s
   jump ms rest k o b place s front few at some goes low behind h =
       let e = jumped (jump_back b) arrive_at s in
-      let so : Sofar mark (Fact n image) (is_out n) ms (o + 1) e.log = subst (λ (x : ℕ). Sofar mark (Fact n image) (is_out n) ms x e.log) (omega arith) (calm-one w mark n ground image ms o _ s.log (calm w mark n ground image _ (λ z. omega arith) (λ z. omega arith) (inl (omega arith)) (mild-quiet Quiet refl)) h.sofar) in
-      step_jal arrive_at refl (subst (λ (x : ℕ). w.text x ≡ Some (jump_back b)) (sym h.pc) at) (omega (arith, h.pc)) (good mark (Fact n image) (is_out n) way ms rest most (o + 1) e.log front few so)
+      let so : Sofar mark (Fact n image) (steps_out n) ms (o + 1) e.log = subst (λ (x : ℕ). Sofar mark (Fact n image) (steps_out n) ms x e.log) (omega arith) (calm-one w mark n ground image ms o _ s.log (calm w mark n ground image _ (λ z. omega arith) (λ z. omega arith) (inl (omega arith)) (mild-quiet Quiet refl)) h.sofar) in
+      step_jal arrive_at refl (subst (λ (x : ℕ). w.text x ≡ Some (jump_back b)) (sym h.pc) at) (omega (arith, h.pc)) (good mark (Fact n image) (steps_out n) way ms rest most (o + 1) e.log front few so)
       (Now (
         record {
           pc = refl;
           base = get_put_zero s.regs (s.pc + 4) 31 ∙ h.base;
           count = h.count;
           tables = h.tables;
-          fits = fits-put s.regs 0 (s.pc + 4) h.fits (omega (arith, h.pc));
+          fits = get_put_fits s.regs 0 (s.pc + 4) h.fits (omega (arith, h.pc));
           sofar = so;
         },
         same-one n _ s e refl (inr (omega (arith, h.pc))) tt (λ _ _ _ _. refl) (λ z. omega (arith, z, h.pc)),
@@ -167,7 +167,7 @@ module _ (w : World) (mark : ℕ → ℕ → List Mark) (n : ℕ) (image : Table
       let area = ground.few in
       let back = jump_back (4 * (80 + n)) ∷ [] in
       takes_then
-      (calmly mark (Fact n image) (is_out n) way ms rest most o front (omega arith)
+      (calmly mark (Fact n image) (steps_out n) (count-grows (is_out n)) way ms rest most o front (omega arith)
       (calm-does w mark n ground image s.pc (s.pc + 120) (Uses Nowhere (Among private 30)) (record { exit = inr (omega (arith, h.pc)); stream = inr (omega (arith, h.pc)); halt = omega (arith, h.pc) }) (mild-uses Nowhere (Among private 30) (λ a g. among-behind w mark n ground private 30 a (omega arith) g)))
       h.sofar
       (save_registers_runs w s private h.base (usable-own w mark n ground private 30 (omega arith) (omega arith) refl) (free-own w mark n ground private 30 (omega arith) (omega arith)) (moved_to w.text (end_at n) s.pc save_registers h.pc (at_front w.text (end_at n) save_registers back ground.leave))))
@@ -233,7 +233,7 @@ module _ (w : World) (mark : ℕ → ℕ → List Mark) (n : ℕ) (image : Table
         },
         saved-state s u save c r.1 (inr (omega (arith, h.pc))) (inr (omega (arith, h.pc))) (omega arith),
       ))
-      (calmly mark (Fact n image) (is_out n) way ms rest most o front few
+      (calmly mark (Fact n image) (steps_out n) (count-grows (is_out n)) way ms rest most o front few
       (calm-does w mark n ground image s.pc (s.pc + 4 * (82 + 2 * 8)) (Uses (Collects private shared 8) (Among save 38)) (record { exit = inr (omega (arith, h.pc)); stream = inr (omega (arith, h.pc)); halt = omega (arith, h.pc) }) (mild-uses (Collects private shared 8) (Among save 38) (λ a g. among-behind w mark n ground save 38 a (omega arith) g)))
       h.sofar
       (collect_runs shared save 8 w s private h.base (usable-own w mark n ground private 30 (omega arith) (omega arith) refl) (back-own w mark n ground private 30 (omega arith) (omega arith)) (usable-shared w mark n ground) (usable-own w mark n ground save 38 (omega arith) (omega arith) al) (free-own w mark n ground save 38 (omega arith) (omega arith)) (inl (omega arith)) (moved_to w.text place s.pc (collect shared save 8) h.pc code)))
@@ -260,7 +260,7 @@ module _ (w : World) (mark : ℕ → ℕ → List Mark) (n : ℕ) (image : Table
         },
         b,
       ))
-      (calmly mark (Fact n image) (is_out n) way ms rest most o front few
+      (calmly mark (Fact n image) (steps_out n) (count-grows (is_out n)) way ms rest most o front few
       (calm-does w mark n ground image s.pc (s.pc + 4 * (22 + 2 * 8)) (Uses (Among first_at 8) (Among shared 8)) (record { exit = inr (omega (arith, h.pc)); stream = inr (omega (arith, h.pc)); halt = omega (arith, h.pc) }) (mild-uses (Among first_at 8) (Among shared 8) (λ a g. among-behind w mark n ground shared 8 a (omega arith) g)))
       h.sofar
       (copy_runs first_at shared 8 w s (usable-table w mark n ground first_at 8 (omega arith) (omega arith) refl) (usable-shared w mark n ground) (free-shared w mark n ground) (inl (omega arith)) (moved_to w.text place s.pc (copy first_at shared 8) h.pc code)))
@@ -286,11 +286,11 @@ module _ (w : World) (mark : ℕ → ℕ → List Mark) (n : ℕ) (image : Table
   -- The hart has come to halt, and its log tells all that it should, with a verdict.
   pub record Done (t : State) : Type 0 where
     pub pc : t.pc ≡ halt_at n
-    pub told : Good mark (Fact n image) (is_out n) way most t.log
+    pub told : Good mark (Fact n image) (steps_out n) way most t.log
     pub written : any reports t.log ≡ true
 
-  pub finish : (ms : List Mark) (k o : ℕ) (s : State) → way ≡ ms ++ (Halt ∷ []) → any is_halt ms ≡ false → count is_end ms ≡ 2 → o + 456 ≤ most → Clear n 4 4 4 s → PassTold n 1 save_0 s.log s.mem → HasRegisters n 3 s → Hold mark n image k (last_at n) ms o s → Takes w Told Done 456 s
-  finish ms k o s front none ends few clear told0 regs h =
+  pub finish : (ms : List Mark) (k o : ℕ) (s : State) → way ≡ ms ++ (Halt ∷ []) → any is_halt ms ≡ false → o + 456 ≤ most → Clear n 4 4 4 s → PassTold n 1 save_0 s.log s.mem → HasRegisters n 3 s → Hold mark n image k (last_at n) ms o s → Takes w Told Done 456 s
+  finish ms k o s front none few clear told0 regs h =
       let small = ground.few in
       let one = collect shared save_1 8 in
       let two = compare_but_last save_0 save_1 mask_at bytes_at cell 1 8 in
@@ -299,7 +299,7 @@ module _ (w : World) (mark : ℕ → ℕ → List Mark) (n : ℕ) (image : Table
       let last-at = at_next w.text (last_at n) (last_at n + 1820) (one ++ two) three 455 (length-append one two ∙ length-two) (omega arith) ground.last in
       takes_then (collected ms (Halt ∷ []) k o save_1 (last_at n) s front (omega arith) (omega arith) (omega arith) (at_front w.text (last_at n) one two front-at) (omega arith) (omega arith) refl h)
       (λ t q. takes_then
-      (calmly mark (Fact n image) (is_out n) way ms (Halt ∷ []) most (o + 98) front (omega arith)
+      (calmly mark (Fact n image) (steps_out n) (count-grows (is_out n)) way ms (Halt ∷ []) most (o + 98) front (omega arith)
       (calm-does w mark n ground image t.pc (t.pc + 4 * (301 + 7 * 8)) (Uses (Compares save_0 save_1 mask_at bytes_at 8) Nowhere) (record { exit = inr (omega (arith, q.0.pc)); stream = inr (omega (arith, q.0.pc)); halt = omega (arith, q.0.pc) }) (mild-uses (Compares save_0 save_1 mask_at bytes_at 8) Nowhere (λ a g. absurd g)))
       q.0.sofar
       (compare_but_last_runs save_0 save_1 mask_at bytes_at cell 1 8 (omega arith) (omega arith) w t (record {
@@ -331,16 +331,15 @@ module _ (w : World) (mark : ℕ → ℕ → List Mark) (n : ℕ) (image : Table
       } in
       let halts : mark u.pc (u.pc + 4) ≡ Halt ∷ [] = ap (mark u.pc) next ∙ ground.halt u.pc in
       let quiet : any reports u.log ≡ false = silent w mark n ground image u.log r.2.story (ap (λ (l : List Mark). any is_halt l) r.2.way ∙ none) in
-      let both : 2 ≤ count (λ e. e.next == end_at n) u.log = omega (arith, ended w mark n ground image u.log, ap (λ (l : List Mark). count is_end l) r.2.way, ends) in
-      let so : Sofar mark (Fact n image) (is_out n) (ms ++ Halt ∷ []) (suc (o + 98 + 357)) v.log =
-      sofar-one mark (Fact n image) (is_out n) ms (Halt ∷ []) (o + 98 + 357) _ u.log halts (record {
+      let so : Sofar mark (Fact n image) (steps_out n) (ms ++ Halt ∷ []) (suc (o + 98 + 357)) v.log =
+      sofar-one mark (Fact n image) (steps_out n) (count-grows (is_out n)) ms (Halt ∷ []) (o + 98 + 357) _ u.log halts (record {
         fresh = λ at _ r _ _. absurd (omega (arith, at, next));
-        verdict = λ _. ((get u.regs 8, refl), quiet, both, next);
+        verdict = λ _. ((get u.regs 8, refl), quiet, next);
         exact = λ x e. subst (Judged n image u.log) (write-value e) judged;
         halt = λ _. refl;
         spares = λ _ i _. omega arith;
       }) r.2 in
-      let told : Told v = good mark (Fact n image) (is_out n) way (ms ++ Halt ∷ []) [] most (suc (o + 98 + 357)) v.log (front ∙ sym (append-nil (ms ++ Halt ∷ []))) (omega arith) so in
+      let told : Told v = good mark (Fact n image) (steps_out n) way (ms ++ Halt ∷ []) [] most (suc (o + 98 + 357)) v.log (front ∙ sym (append-nil (ms ++ Halt ∷ []))) (omega arith) so in
       takes_map (λ x e. subst Told (sym e) told) (λ x e. subst Done (sym e) (record { pc = next; told = told; written = refl }))
       (last_store_runs cell w u (usable-cell w mark n ground) (free-cell w mark n ground) (moved_to w.text (last_at n + 1820) u.pc three (omega (arith, c.pc, q.0.pc)) last-at) c.place)))
     where

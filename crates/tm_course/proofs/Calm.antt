@@ -1,6 +1,5 @@
 -- Parts of support code whose steps come to no mark and write no verdict.
-use Rattle.std.proofs.Common.{eq-eqb, suc, [], ◌∷◌, ◌++◌, ◌==◌, ◌||◌, ap, append-nil, ◌≡◌, ◌≢◌, ◌⊎◌, inl, inr, ℕ, ◌+◌, ◌<◌, ◌≤◌, Bool, true, false, true≢false, refl, sym, ◌∙◌, arith, List}
-use Rattle.std.specs.Prelude.{if◌then◌else◌}
+use Rattle.std.proofs.Common.{suc, [], ◌∷◌, ◌++◌, ◌||◌, ap, append-nil, ◌≡◌, ◌≢◌, ◌⊎◌, inl, inr, ℕ, ◌+◌, ◌<◌, ◌≤◌, Bool, true, false, true≢false, refl, sym, ◌∙◌, arith, List}
 use Rattle.std.proofs.lemmas.Bool.Decides.{nat_tests}
 use Rattle.tm_table.specs.declared.state.Access.{Access}
 use Rattle.tm_table.specs.declared.state.Access.TheVariants.{Quiet, Read, Write}
@@ -10,11 +9,10 @@ use Rattle.tm_world.specs.Run.{Writes}
 use Rattle.tm_runs.specs.Machine.{World, Table, Entry}
 use Rattle.tm_runs.specs.Runs.{Does}
 use Rattle.tm_plan.specs.Collected.{any}
-use Rattle.tm_world.specs.Lists.{count}
 use Rattle.tm_runs.specs.Course.{Sofar, Story, Calm, trail}
-use Rattle.tm_runs.proofs.Story.{sofar-one}
+use Rattle.tm_runs.proofs.Story.{count-grows, sofar-one}
 use Rattle.tm_blocks.specs.Laws.{Uses}
-use Rattle.tm_course.proofs.Ground.{Ground, Fact, is_out, is_end, is_halt, reports, exit_at, start_at, end_at, halt_at, cell}
+use Rattle.tm_course.proofs.Ground.{Ground, Fact, is_out, steps_out, is_halt, reports, exit_at, start_at, end_at, halt_at, cell}
 
 -- an access that writes behind the verdict cell, if it writes
 pub record IsMild (a : Access) : Type 0 where
@@ -79,8 +77,8 @@ module _ (w : World) (mark : ℕ → ℕ → List Mark) (n : ℕ) (ground : Grou
       by-stream (inr p) = inr (omega (arith, d.least))
 
   -- one calm entry more
-  pub calm-one : (ms : List Mark) (k : ℕ) (e : Entry) (log : List Entry) → Calm mark (Fact n image) e → Sofar mark (Fact n image) (is_out n) ms k log → Sofar mark (Fact n image) (is_out n) ms (suc k) (e ∷ log)
-  calm-one ms k e log c so = let m = sofar-one mark (Fact n image) (is_out n) ms [] k e log c.mark (c.fact log) so in record { way = m.way ∙ append-nil ms; story = m.story; few = m.few }
+  pub calm-one : (ms : List Mark) (k : ℕ) (e : Entry) (log : List Entry) → Calm mark (Fact n image) e → Sofar mark (Fact n image) (steps_out n) ms k log → Sofar mark (Fact n image) (steps_out n) ms (suc k) (e ∷ log)
+  calm-one ms k e log c so = let m = sofar-one mark (Fact n image) (steps_out n) (count-grows (is_out n)) ms [] k e log c.mark (c.fact log) so in record { way = m.way ∙ append-nil ms; story = m.story; few = m.few }
 
   -- ---- what the marks say of the log
 
@@ -100,27 +98,6 @@ module _ (w : World) (mark : ℕ → ℕ → List Mark) (n : ℕ) (ground : Grou
       by : (b : Bool) → reports x ≡ b → any reports past ≡ false → (b || any reports past) ≡ false
       by false r before = before
       by true r before =
-          let at : x.next ≡ halt_at n = (story.0.verdict r).3 in
+          let at : x.next ≡ halt_at n = (story.0.verdict r).2 in
           let halts : any is_halt (mark x.pc x.next) ≡ true = ap (λ (ms : List Mark). any is_halt ms) (ap (mark x.pc) at ∙ ground.halt x.pc) in
           absurd (true≢false (sym halts ∙ or-false-right _ _ (sym (any-append (trail mark past) (mark x.pc x.next)) ∙ e)))
-
-  count-append : (ms ks : List Mark) → count is_end (ms ++ ks) ≡ count is_end ms + count is_end ks
-  count-append [] ks = omega arith
-  count-append (x ∷ ms) ks = by (is_end x) (count-append ms ks)
-    where
-      by : (b : Bool) → count is_end (ms ++ ks) ≡ count is_end ms + count is_end ks → (if b then suc (count is_end (ms ++ ks)) else count is_end (ms ++ ks)) ≡ (if b then suc (count is_end ms) else count is_end ms) + count is_end ks
-      by true e = omega arith
-      by false e = e
-
-  -- each end that was come to is an end of the stream
-  pub ended : (log : List Entry) → count is_end (trail mark log) ≤ count (λ t. t.next == end_at n) log
-  ended [] = omega arith
-  ended (x ∷ past) = by (x.next == end_at n) refl (ended past)
-    where
-      whole : count is_end (trail mark past ++ mark x.pc x.next) ≡ count is_end (trail mark past) + count is_end (mark x.pc x.next)
-      whole = count-append (trail mark past) (mark x.pc x.next)
-
-      by : (b : Bool) → (x.next == end_at n) ≡ b → count is_end (trail mark past) ≤ count (λ t. t.next == end_at n) past
-          → count is_end (trail mark past ++ mark x.pc x.next) ≤ (if b then suc (count (λ t. t.next == end_at n) past) else count (λ t. t.next == end_at n) past)
-      by true e l = omega (arith, whole, ground.one_end x.pc x.next)
-      by false e l = omega (arith, whole, ground.no_end x.pc x.next (λ q. true≢false (sym (eq-eqb x.next (end_at n) q) ∙ e)))

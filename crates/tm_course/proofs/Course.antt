@@ -3,7 +3,6 @@ use Rattle.std.proofs.Common.{◌≡◌, ◌⊎◌, inl, inr, ℕ, zero, suc, �
 use Rattle.std.specs.Prelude.{slice_get, slice_index, IsTrue, IsFalse, flat_map, if◌then◌else◌}
 use Rattle.std.proofs.lemmas.Bool.{cases_lt}
 use Rattle.std.proofs.lemmas.Bool.Decides.{nat_tests}
-use Rattle.tm_table.specs.declared.state.Access.TheVariants.{Write}
 use Rattle.tm_plan.specs.declared.cases.Case.{Case}
 use Rattle.tm_plan.specs.declared.cases.Stream.{Stream}
 use Rattle.tm_plan.specs.declared.masks.CaseMask.{CaseMask}
@@ -11,12 +10,12 @@ use Rattle.tm_plan.specs.declared.program.Program.{Program}
 use Rattle.tm_plan.specs.Map.{text_base, tables_base, verdict_at}
 use Rattle.tm_plan.specs.Collected.{any, count_from}
 use Rattle.tm_world.specs.Lists.{count, IsFront}
-use Rattle.tm_world.specs.Place.{harts, case_count, passes, start_of, inside, is_text, is_table}
+use Rattle.tm_world.specs.Place.{harts, passes, start_of, inside, is_text, is_table}
 use Rattle.tm_world.specs.Run.{Step, Always, now, first_state, pc_of, access_of}
 use Rattle.tm_world.specs.Writers.{stream_in}
 use Rattle.tm_world.specs.Kinds.{IsOpening, HalfPath, stream_at}
 use Rattle.tm_world.specs.Marks.{Mark, Enter, Halt, comes_to, whole_way, pass_way, arrivals}
-use Rattle.tm_world.specs.Course.{OnHalf, KeepsOrder, EntersFresh, KeepsVerdicts, HasAllVerdicts, IsFresh, WritesVerdict, writes_in}
+use Rattle.tm_world.specs.Course.{OnHalf, KeepsOrder, EntersFresh, HasAllVerdicts, IsFresh, writes_in}
 use Rattle.tm_world.specs.Work.{GoesOn}
 use Rattle.tm_runs.specs.Machine.{State, Entry, get}
 use Rattle.tm_runs.specs.Runs.{Keeps, Stopped}
@@ -25,13 +24,13 @@ use Rattle.tm_runs.specs.Shadow.{entry_of, entries_of}
 use Rattle.tm_runs.specs.Course.{trail, Story, Good}
 use Rattle.tm_runs.proofs.Bytes.{within-false}
 use Rattle.tm_runs.proofs.Worlds.{stopped}
-use Rattle.tm_runs.proofs.Paths.{always, told-log, goes-on, on-half, any-entries, count-entries, stands, visited-trail}
+use Rattle.tm_runs.proofs.Paths.{always, told-log, goes-on, on-half, any-entries, stands, visited-trail}
 use Rattle.tm_legal.specs.Tame.{SparesImage, OutsideSpares}
 use Rattle.tm_legal.proofs.Inside.{writes-map}
 use Rattle.tm_stays.specs.Stays.{outside_steps, one_outside}
 use Rattle.tm_course.specs.OneHart.{IsOfOneHart}
-use Rattle.tm_course.proofs.Ground.{Fact, is_out, reports, start_at, end_at, halt_at, cell}
-use Rattle.tm_course.proofs.Laying.{one-case, start-is, end-is, halt-is, stream-in, stream-out}
+use Rattle.tm_course.proofs.Ground.{Fact, is_out, steps_out, reports, start_at, end_at, halt_at, cell}
+use Rattle.tm_course.proofs.Laying.{sizes, one-case, start-is, end-is, halt-is, stream-in, stream-out}
 use Rattle.tm_course.proofs.Tables.{register-dword, base-dword, count-dword, first-blank}
 use Rattle.tm_course.proofs.Grounded.{ground}
 use Rattle.tm_course.proofs.Behind.{Done}
@@ -49,7 +48,7 @@ module _ (p : Program) (case : Case) (stream : Stream) (mask : CaseMask) (is : I
   image = image_dword p
 
   abbrev Told : State → Type 0
-  Told t = Good (arrivals p 0) (Fact size image) (is_out size) both_passes most_steps t.log
+  Told t = Good (arrivals p 0) (Fact size image) (steps_out size) both_passes most_steps t.log
 
   abbrev End' : State → Type 0
   End' = Done (world_of p 0) (arrivals p 0) size image (ground p case stream mask is) both_passes most_steps
@@ -69,8 +68,8 @@ module _ (p : Program) (case : Case) (stream : Stream) (mask : CaseMask) (is : I
   stops t d = stopped p 0 t (ap (stream_at p 0) (halt-is p case stream mask is) ∙ stream-out p case stream mask is (halt_at size) (inr (omega arith))) (d.pc ∙ sym (halt-is p case stream mask is))
 
   -- what the log of each half run tells
-  tells : (H : List Entry → Type 0) → H [] → ((log : List Entry) → Good (arrivals p 0) (Fact size image) (is_out size) both_passes most_steps log → H log) → (x : List ℕ) → IsOpening 0 x → (own : List Step) → HalfPath p 0 (first_state x) own → H (entries_of own)
-  tells H none f x o own path = told-log p 0 is.sizes few x o Told End' (opens x o) stops H none (λ t g. f t.log g) (λ t d. f t.log d.told) own path
+  tells : (H : List Entry → Type 0) → H [] → ((log : List Entry) → Good (arrivals p 0) (Fact size image) (steps_out size) both_passes most_steps log → H log) → (x : List ℕ) → IsOpening 0 x → (own : List Step) → HalfPath p 0 (first_state x) own → H (entries_of own)
+  tells H none f x o own path = told-log p 0 (sizes p case stream mask is) few x o Told End' (opens x o) stops H none (λ t g. f t.log g) (λ t d. f t.log d.told) own path
 
   -- the fact of a step on a half run
   pub fact-of : (x : List ℕ) → IsOpening 0 x → (past : List Step) (s : Step) → HalfPath p 0 (first_state x) (s ∷ past) → Fact size image (entries_of past) (entry_of s)
@@ -128,7 +127,7 @@ module _ (p : Program) (case : Case) (stream : Stream) (mask : CaseMask) (is : I
       absurd (none-some no)
 
   fresh-step : (x : List ℕ) → IsOpening 0 x → (past : List Step) (s : Step) → HalfPath p 0 (first_state x) (s ∷ past)
-      → (c : ℕ) (other : Stream) → stream_in p.cases c 0 ≡ Some other → IsTrue (comes_to p 0 (Enter c) (now (first_state x) past).pc s.after.pc) → IsFresh other s.after
+      → (c : ℕ) (other : Stream) → stream_in p.cases c 0 ≡ Some other → IsTrue (comes_to p 0 (Enter c) (now (first_state x) past).pc s.after.pc) → IsFresh other.regs s.after
   fresh-step x o past s path c other e comes =
       let same = stream-is c other e in
       let here : comes_to p 0 (Enter 0) (now (first_state x) past).pc s.after.pc ≡ true = subst (λ (d : ℕ). comes_to p 0 (Enter d) (now (first_state x) past).pc s.after.pc ≡ true) same.0 comes in
@@ -138,30 +137,13 @@ module _ (p : Program) (case : Case) (stream : Stream) (mask : CaseMask) (is : I
       λ r l m. (fact-of x o past s path).fresh at out r l m ∙ (register-dword p case stream mask is r l m ∙ ap (λ (q : Stream). slice_index q.regs r) same.1)
 
   pub fresh : OnHalf p 0 (EntersFresh p 0)
-  fresh = on-half p 0 (EntersFresh p 0) few (λ x o own path. steps (λ past s. (c : ℕ) (other : Stream) → stream_in p.cases c 0 ≡ Some other → IsTrue (comes_to p 0 (Enter c) (now (first_state x) past).pc s.after.pc) → IsFresh other s.after) x (fresh-step x o) own path)
+  fresh = on-half p 0 (EntersFresh p 0) few (λ x o own path. steps (λ past s. (c : ℕ) (other : Stream) → stream_in p.cases c 0 ≡ Some other → IsTrue (comes_to p 0 (Enter c) (now (first_state x) past).pc s.after.pc) → IsFresh other.regs s.after) x (fresh-step x o) own path)
 
   -- ---- verdicts
 
-  cell-is : verdict_at 0 0 ≡ cell
+  pub cell-is : verdict_at 0 0 ≡ cell
   unfolding verdict_at
   cell-is = refl
-
-  verdict-step : (x : List ℕ) → IsOpening 0 x → (past : List Step) (s : Step) → HalfPath p 0 (first_state x) (s ∷ past)
-      → (c g : ℕ) → c < case_count p → g < harts p → IsTrue (writes_in (verdict_at c g) 8 (access_of s)) → (g ≡ 0) × WritesVerdict p 0 c past s
-  verdict-step x o past s path zero zero l m e =
-      let f = (fact-of x o past s path).verdict (ap (λ (a : ℕ). writes_in a 8 (access_of s)) (sym cell-is) ∙ e) in (
-        refl,
-        record {
-          value = (f.0.0, f.0.1 ∙ ap (λ (a : ℕ). Write a 8 f.0.0) (sym cell-is));
-          once = ap (λ (a : ℕ). any (λ (t : Step). writes_in a 8 (access_of t)) past) cell-is ∙ (any-entries (λ t. writes_in cell 8 (access_of t)) reports (λ t. refl) past ∙ f.1);
-          ended = omega (arith, f.2, is.passes, count-entries (λ t. t.after.pc == end_at size) (λ e. e.next == end_at size) (λ t. refl) past, ap (λ (a : ℕ). count (λ (t : Step). t.after.pc == a) past) (end-is p case stream mask is));
-        },
-      )
-  verdict-step x o past s path zero (suc g) l m e = absurd (omega (arith, is.harts))
-  verdict-step x o past s path (suc c) g l m e = absurd (omega (arith, one-case p case stream mask is))
-
-  pub verdicts : OnHalf p 0 (KeepsVerdicts p 0)
-  verdicts = on-half p 0 (KeepsVerdicts p 0) few (λ x o own path. steps (λ past s. (c g : ℕ) → c < case_count p → g < harts p → IsTrue (writes_in (verdict_at c g) 8 (access_of s)) → (g ≡ 0) × WritesVerdict p 0 c past s) x (verdict-step x o) own path)
 
   all-of : (x : List ℕ) → IsOpening 0 x → (own : List Step) → HalfPath p 0 (first_state x) own → HasAllVerdicts p 0 (first_state x) own
   unfolding text_base
@@ -177,7 +159,7 @@ module _ (p : Program) (case : Case) (stream : Stream) (mask : CaseMask) (is : I
   -- ---- going on
 
   pub goes : OnHalf p 0 (GoesOn p 0)
-  goes = on-half p 0 (GoesOn p 0) few (λ x o own path. goes-on p 0 is.sizes few x o Told End' (opens x o) stops (λ t d. d.pc ∙ sym (halt-is p case stream mask is)) own path)
+  goes = on-half p 0 (GoesOn p 0) few (λ x o own path. goes-on p 0 (sizes p case stream mask is) few x o Told End' (opens x o) stops (λ t d. d.pc ∙ sym (halt-is p case stream mask is)) own path)
 
   -- ---- text and tables are spared
 
@@ -191,7 +173,7 @@ module _ (p : Program) (case : Case) (stream : Stream) (mask : CaseMask) (is : I
 
   spared : (b : ℕ) → 2160066560 ≤ b → IsFalse (is_text p b || is_table p b)
   unfolding text_base tables_base
-  spared b l = let s = is.sizes in ap₂ (λ (x y : Bool). x || y) (within-false text_base (4 * length p.text) b (inr (omega (arith, s.text)))) (within-false tables_base (length p.tables) b (inr (omega (arith, s.tables))))
+  spared b l = let s = sizes p case stream mask is in ap₂ (λ (x y : Bool). x || y) (within-false text_base (4 * length p.text) b (inr (omega (arith, s.text)))) (within-false tables_base (length p.tables) b (inr (omega (arith, s.tables))))
 
   spares-step : (x : List ℕ) → IsOpening 0 x → (past : List Step) (s : Step) → HalfPath p 0 (first_state x) (s ∷ past) → OutsideSpares p (stream_at p 0 (now (first_state x) past).pc) s
   spares-step x o past s path = by (stream_at p 0 (now (first_state x) past).pc) refl

@@ -30,10 +30,10 @@ use Rattle.tm_blocks.proofs.Masks.{verdict_agrees}
 use Rattle.tm_course.specs.OneHart.{IsOfOneHart}
 use Rattle.tm_course.proofs.Addresses.{mask_at, bytes_at, save_0, save_1, shared, cell}
 use Rattle.tm_course.proofs.Logs.{is_in, phase_at, left, first_read, PassTold, Judged}
-use Rattle.tm_course.proofs.Laying.{start-is, end-is, exit-is}
+use Rattle.tm_course.proofs.Laying.{sizes, start-is, end-is, exit-is}
 use Rattle.tm_course.proofs.Tables.{shaped-mask, mask-dword, mask-byte, image-small}
 use Rattle.tm_course.proofs.Owned.{owned-length, owned-at}
-use Rattle.tm_course.proofs.Course.{fact-of, place-of, steps}
+use Rattle.tm_course.proofs.Course.{fact-of, place-of, steps, cell-is}
 
 -- ---- options
 
@@ -43,7 +43,7 @@ map-or f (Some x) b = refl
 
 -- ---- lists
 
-all-map : {A : Type 0} (P : A → Type 0) (f : ℕ → A) (a n : ℕ) → ((l : ℕ) → a ≤ l → l < a + n → P (f l)) → All P (map f (count_from a n))
+pub all-map : {A : Type 0} (P : A → Type 0) (f : ℕ → A) (a n : ℕ) → ((l : ℕ) → a ≤ l → l < a + n → P (f l)) → All P (map f (count_from a n))
 all-map P f a zero h k d l = absurd (omega arith)
 all-map P f a (suc n) h zero d l = h a (omega arith) (omega arith)
 all-map P f a (suc n) h (suc k) d l = all-map P f (suc a) n (λ i p q. h i (omega arith) (omega arith)) k d (let e : length (map f (count_from a (suc n))) ≡ suc (length (map f (count_from (suc a) n))) = refl in omega arith)
@@ -67,7 +67,7 @@ module _ (p : Program) (case : Case) (stream : Stream) (mask : CaseMask) (is : I
 
   -- ---- end values, by the log
 
-  phase-is : (own : List Step) → phase (exit_of p 0) own ≡ phase_at (entries_of own)
+  pub phase-is : (own : List Step) → phase (exit_of p 0) own ≡ phase_at (entries_of own)
   phase-is own = phase-entries (exit_of p 0) own ∙ ap (λ (a : ℕ). count (λ (e : Entry). e.pc == a) (entries_of own)) (exit-is p case stream mask is)
 
   inside-is : (pc : ℕ) → inside p 0 0 pc ≡ is_in size pc
@@ -92,7 +92,7 @@ module _ (p : Program) (case : Case) (stream : Stream) (mask : CaseMask) (is : I
           ≡ option_map (λ (f : Table). f r) (if (phase_at (entries_of past) == q) && (is_in size (pc_of s) && not (is_in size s.after.pc)) then Some (entry_of s).regs else None)
       here = ap (λ (b : Bool). option_map (λ (h : Hart). slice_index h.x r) (if b then Some s.after else None)) test ∙ by ((phase_at (entries_of past) == q) && (is_in size (pc_of s) && not (is_in size s.after.pc)))
 
-  read-is : (b q : ℕ) (own : List Step) → first_read_of p 0 b q own ≡ first_read q b (entries_of own)
+  pub read-is : (b q : ℕ) (own : List Step) → first_read_of p 0 b q own ≡ first_read q b (entries_of own)
   read-is b q [] = refl
   read-is b q (s ∷ past) =
       ap₂ (λ (o : Option ℕ) (a : ℕ). or_else o (if a == q then got (access_of s) b else None)) (read-is b q past) (phase-is past)
@@ -120,7 +120,7 @@ module _ (p : Program) (case : Case) (stream : Stream) (mask : CaseMask) (is : I
   unfolding image_dword
   mask-byte-is j l a b =
       let e : bytes_at + 8 * j + l ≡ bytes_at + (8 * j + l) = omega arith in
-      joined-byte (λ i. image_byte p (bytes_at + 8 * j + i)) 8 l (λ i. image-lt p (bytes_at + 8 * j + i) is.sizes) b ∙ (ap (image_byte p) e ∙ mask-byte p case stream mask is (8 * j + l) (omega arith))
+      joined-byte (λ i. image_byte p (bytes_at + 8 * j + i)) 8 l (λ i. image-lt p (bytes_at + 8 * j + i) (sizes p case stream mask is)) b ∙ (ap (image_byte p) e ∙ mask-byte p case stream mask is (8 * j + l) (omega arith))
 
   mask-is : (j : ℕ) → j < 8 → IsMask (image_dword p (bytes_at + 8 * j))
   mask-is j a = (image-small p case stream mask is (bytes_at + 8 * j), λ l b. by l b (ends (8 * j + l) (omega arith)))
@@ -251,15 +251,11 @@ module _ (p : Program) (case : Case) (stream : Stream) (mask : CaseMask) (is : I
       none-some : {m : CaseMask} → ◌≡◌ {A = Option CaseMask} None (Some m) → ⊥
       none-some q = cc
 
-  pub cell-is : verdict_at 0 0 ≡ cell
-  unfolding verdict_at
-  cell-is = refl
-
   pub exact-step : (x : List ℕ) → IsOpening 0 x → (past : List Step) (s : Step) → HalfPath p 0 (first_state x) (s ∷ past)
       → (c : ℕ) (m : CaseMask) (v : ℕ) → slice_get p.masks.cases c ≡ Some m → access_of s ≡ Write (verdict_at c 0) 8 v → IsVerdict p m 0 c (first_state x) past v
   exact-step x o past s path c m v e w =
       let same = none-more c m e in
-      let at : access_of s ≡ Write cell 8 v = w ∙ ap (λ (k : ℕ). Write k 8 v) (ap (λ (d : ℕ). verdict_at d 0) same.0 ∙ cell-is) in
+      let at : access_of s ≡ Write cell 8 v = w ∙ ap (λ (k : ℕ). Write k 8 v) (ap (λ (d : ℕ). verdict_at d 0) same.0 ∙ cell-is p case stream mask is) in
       let j = (fact-of p case stream mask is x o past s path).exact v at in
       subst (λ (d : ℕ). IsVerdict p m 0 d (first_state x) past v) (sym same.0) (subst (λ (k : CaseMask). IsVerdict p k 0 0 (first_state x) past v) same.1 (judged-verdict x past path.1 v j))
 

@@ -1,17 +1,16 @@
 -- What the parts of one hart's program stand on: where their words, the marks and the memory lie, in numbers. A stream of n words
 -- stands between them.
-use Rattle.std.proofs.Common.{◌≡◌, ◌≢◌, ◌⊎◌, ℕ, ◌+◌, ◌*◌, ◌^◌, ◌<◌, ◌≤◌, Bool, true, false, ◌==◌, List, [], ◌∷◌, ◌++◌, Some}
+use Rattle.std.proofs.Common.{◌≡◌, ◌≢◌, ◌⊎◌, ℕ, ◌+◌, ◌*◌, ◌^◌, ◌<◌, ◌≤◌, Bool, true, false, List, [], ◌∷◌, ◌++◌, Some}
 use Rattle.std.specs.Prelude.{IsTrue}
 use Rattle.tm_table.specs.declared.state.Access.TheVariants.{Write}
 use Rattle.tm_table.specs.declared.instr.Instr.{Instr}
 use Rattle.tm_plan.specs.Collected.{any}
-use Rattle.tm_world.specs.Lists.{count}
 use Rattle.tm_world.specs.Marks.{Mark, Exit, Enter, End, Halt}
 use Rattle.tm_world.specs.Run.{Writes}
 use Rattle.tm_runs.specs.Machine.{World, State, Table, Entry, get}
 use Rattle.tm_runs.specs.Runs.{At}
 use Rattle.tm_runs.specs.Course.{Sofar}
-pub use Rattle.tm_course.proofs.Addresses.{entry_at, arrive_at, exit_at, run_at, start_at, end_at, between_at, last_at, halt_at, registers_at, mask_at, first_at, bytes_at, tables_end, cell, private, count_at, save_0, save_1, shared, is_out, reports, fresh_in}
+pub use Rattle.tm_course.proofs.Addresses.{entry_at, arrive_at, exit_at, run_at, start_at, end_at, between_at, last_at, halt_at, registers_at, mask_at, first_at, bytes_at, tables_end, cell, private, count_at, save_0, save_1, shared, is_out, steps_out, reports, fresh_in}
 use Rattle.tm_course.proofs.Logs.{Judged}
 use Rattle.tm_blocks.specs.Instrs.{addi, ld, sd, beq, jump_back}
 use Rattle.tm_blocks.specs.Blocks.{constant, load_registers_but_last, save_registers, copy, collect}
@@ -25,11 +24,7 @@ arrive_part = ld 1 256 31 ∷ addi 1 1 1 ∷ sd 1 256 31 ∷ []
 abbrev pub choose_part : ℕ → List Instr
 choose_part n = ld 1 256 31 ∷ addi 2 0 2 ∷ beq 1 2 (4 * (76 + n)) ∷ addi 2 0 4 ∷ beq 1 2 (4 * (211 + n)) ∷ []
 
--- the end of a stream, and halt
-abbrev pub is_end : Mark → Bool
-is_end (End c) = true
-is_end _ = false
-
+-- halt
 abbrev pub is_halt : Mark → Bool
 is_halt Halt = true
 is_halt _ = false
@@ -54,8 +49,6 @@ pub record Ground (w : World) (mark : ℕ → ℕ → List Mark) (n : ℕ) : Typ
   pub enter : (from : ℕ) → (from < start_at) ⊎ (end_at n ≤ from) → mark from start_at ≡ Enter 0 ∷ []
   pub inner : (from to : ℕ) → start_at ≤ from → from < end_at n → start_at ≤ to → to < end_at n → mark from to ≡ []
   pub end : (from : ℕ) → start_at ≤ from → from < end_at n → mark from (end_at n) ≡ End 0 ∷ []
-  pub no_end : (from to : ℕ) → to ≢ end_at n → count is_end (mark from to) ≡ 0
-  pub one_end : (from to : ℕ) → count is_end (mark from to) ≤ 1
   -- memory
   pub own : (a : ℕ) → private ≤ a → a + 8 ≤ private + 131072 → IsTrue (w.own a) × (w.fixed a ≡ false) × IsTrue (w.guest a)
   pub table : (a : ℕ) → registers_at ≤ a → a + 8 ≤ tables_end → IsTrue (w.own a) × IsTrue (w.guest a)
@@ -66,13 +59,12 @@ pub record Ground (w : World) (mark : ℕ → ℕ → List Mark) (n : ℕ) : Typ
 
 -- ---- what each entry of the log keeps
 
--- A step that comes into the stream leaves fresh registers; one that writes the verdict cell does so with width 8, for the first time,
--- after two ends of the stream, and comes to halt, and its value is the
+-- A step that comes into the stream leaves fresh registers; one that writes the verdict cell does so with width 8, for the first time, and comes to halt, and its value is the
 -- verdict over the end states that the log tells; what comes to halt has written it; and outside the stream nothing is written below
 -- the flags.
 pub record Fact (n : ℕ) (image : Table) (past : List Entry) (e : Entry) : Type 0 where
   pub fresh : e.next ≡ start_at → IsTrue (is_out n e) → (r : ℕ) → 1 ≤ r → r < 32 → e.regs r ≡ fresh_in image r
-  pub verdict : IsTrue (reports e) → ((v : ℕ) × (e.access ≡ Write cell 8 v)) × (any reports past ≡ false) × (2 ≤ count (λ t. t.next == end_at n) past) × (e.next ≡ halt_at n)
+  pub verdict : IsTrue (reports e) → ((v : ℕ) × (e.access ≡ Write cell 8 v)) × (any reports past ≡ false) × (e.next ≡ halt_at n)
   pub exact : (v : ℕ) → e.access ≡ Write cell 8 v → Judged n image past v
   pub halt : e.next ≡ halt_at n → any reports (e ∷ past) ≡ true
   pub spares : IsTrue (is_out n e) → Writes (λ b. 2160066560 ≤ b) e.access
@@ -87,4 +79,4 @@ pub record Hold (mark : ℕ → ℕ → List Mark) (n : ℕ) (image : Table) (k 
   pub count : t.mem count_at ≡ k
   pub tables : (a : ℕ) → registers_at ≤ a → a + 8 ≤ tables_end → t.mem a ≡ image a
   pub fits : (r : ℕ) → get t.regs r < 2 ^ 64
-  pub sofar : Sofar mark (Fact n image) (is_out n) ms o t.log
+  pub sofar : Sofar mark (Fact n image) (steps_out n) ms o t.log

@@ -1,5 +1,5 @@
 -- A program of one hart lies as its parts need it.
-use Rattle.std.proofs.Common.{◌≡◌, ◌≢◌, ◌⊎◌, inl, inr, ℕ, zero, suc, ◌+◌, ◌*◌, ◌<◌, ◌≤◌, true, false, true≢false, ne_eqb, List, [], ◌∷◌, ◌++◌, length, Some, refl, sym, ap, ap₂, ◌∙◌, subst, arith, append_assoc, length-append}
+use Rattle.std.proofs.Common.{◌≡◌, ◌≢◌, ◌⊎◌, inl, inr, ℕ, zero, suc, ◌+◌, ◌*◌, ◌<◌, ◌≤◌, true, false, List, [], ◌∷◌, ◌++◌, length, Some, refl, sym, ap, ap₂, ◌∙◌, subst, arith, append_assoc, length-append}
 use Rattle.std.specs.Prelude.{IsTrue, flat_map, slice_get}
 use Rattle.tm_table.specs.Words.{word_of}
 use Rattle.tm_table.specs.declared.instr.Instr.{Instr}
@@ -7,11 +7,9 @@ use Rattle.tm_plan.specs.declared.cases.Case.{Case}
 use Rattle.tm_plan.specs.declared.cases.Stream.{Stream}
 use Rattle.tm_plan.specs.declared.masks.CaseMask.{CaseMask}
 use Rattle.tm_plan.specs.declared.program.Program.{Program}
-use Rattle.tm_plan.specs.Collected.{count_from}
 use Rattle.tm_plan.specs.Map.{guest_base, guest_end, tables_base, table_at, private_at, private_size, save_at, verdict_at, windows_base, windows_size}
-use Rattle.tm_world.specs.Lists.{count, those}
 use Rattle.tm_world.specs.Place.{case_count, start_of, end_of, inside}
-use Rattle.tm_world.specs.Marks.{Mark, Exit, Enter, End, Halt, Stray, comes_to, arrivals}
+use Rattle.tm_world.specs.Marks.{Exit, Enter, End, Halt, arrivals}
 use Rattle.tm_runs.specs.World.{world_of, support_at}
 use Rattle.tm_runs.specs.Runs.{At}
 use Rattle.tm_runs.proofs.Tables.{at_front, at_next}
@@ -25,9 +23,9 @@ use Rattle.tm_blocks.proofs.Lengths.{length-words_of, length-constant, length-sa
 use Rattle.tm_pass.specs.Hart.{registers_table, masks_table, first_table, bytes_table, first_bytes, entry, arrive, choose, run, leave, between, last, before_stream, behind_stream}
 use Rattle.tm_pass.proofs.Numbers.{length-first_bytes, length-arrive, length-run, length-leave, length-between, length-behind_stream}
 use Rattle.tm_course.specs.OneHart.{IsOfOneHart}
-use Rattle.tm_course.proofs.Ground.{Ground, is_end, entry_at, arrive_at, exit_at, run_at, start_at, end_at, between_at, last_at, halt_at, registers_at, mask_at, first_at, bytes_at, tables_end, cell, private, save_0, save_1, shared, arrive_part, choose_part}
+use Rattle.tm_course.proofs.Ground.{Ground, entry_at, arrive_at, exit_at, run_at, start_at, end_at, between_at, last_at, halt_at, registers_at, mask_at, first_at, bytes_at, tables_end, cell, private, save_0, save_1, shared, arrive_part, choose_part}
 use Rattle.tm_course.proofs.Tables.{tables-size}
-use Rattle.tm_course.proofs.Laying.{Nothing, Other, count-none, count-less, one-case, shaped, start-is, end-is, exit-is, halt-is, stream-in, before-at, behind-at, get-behind, words-append, rear}
+use Rattle.tm_course.proofs.Laying.{one-case, shaped, start-is, end-is, exit-is, halt-is, stream-in, before-at, behind-at, get-behind, words-append, rear, sizes}
 
 -- ---- the parts, with their addresses in numbers
 
@@ -184,25 +182,11 @@ module _ (p : Program) (case : Case) (stream : Stream) (mask : CaseMask) (is : I
       let e = ends p 0 from (end_at size) 0 (sym (end-is p case stream mask is)) (within-stream from l m) in
       arrivals-end p 0 from (end_at size) 0 few (alone from (end_at size)) (λ z. omega (arith, z, exit-is p case stream mask is)) (λ z. omega (arith, z, halt-is p case stream mask is)) e.0 e.1 e.2
 
-  abbrev marks : ℕ → List Mark
-  marks n = Exit ∷ Halt ∷ flat_map (λ c. Enter c ∷ End c ∷ Stray c ∷ []) (count_from 0 n)
-
-  one_end : (from to : ℕ) → count is_end (arrivals p 0 from to) ≤ 1
-  one_end from to =
-      subst (λ (n : ℕ). count is_end (those (λ m. comes_to p 0 m from to) (marks n)) ≤ 1) (sym (one-case p case stream mask is))
-      (count-less (λ m. comes_to p 0 m from to) (marks 1))
-
-  no_end : (from to : ℕ) → to ≢ end_at size → count is_end (arrivals p 0 from to) ≡ 0
-  no_end from to ne =
-      let other : comes_to p 0 (End 0) from to ≡ false = ne_eqb to (end_of p 0 0) (λ z. ne (z ∙ end-is p case stream mask is)) in
-      subst (λ (n : ℕ). count is_end (those (λ m. comes_to p 0 m from to) (marks n)) ≡ 0) (sym (one-case p case stream mask is))
-      (count-none (λ m. comes_to p 0 m from to) (marks 1) (Other (λ e. absurd (true≢false (sym e))) (Other (λ e. absurd (true≢false (sym e))) (Other (λ e. absurd (true≢false (sym e))) (Other (λ e. other) (Other (λ e. absurd (true≢false (sym e))) Nothing))))))
-
   -- ---- memory
 
   own : (a : ℕ) → private ≤ a → a + 8 ≤ private + 131072 → IsTrue ((world_of p 0).own a) × ((world_of p 0).fixed a ≡ false) × IsTrue ((world_of p 0).guest a)
   unfolding private_at private_size guest_base guest_end
-  own a l m = (own-private p 0 a (private-dword 0 a (omega arith) (omega arith)), not-fixed p a is.sizes (omega arith), guest-true a (omega arith) (omega arith))
+  own a l m = (own-private p 0 a (private-dword 0 a (omega arith) (omega arith)), not-fixed p a (sizes p case stream mask is) (omega arith), guest-true a (omega arith) (omega arith))
 
   table : (a : ℕ) → registers_at ≤ a → a + 8 ≤ tables_end → IsTrue ((world_of p 0).own a) × IsTrue ((world_of p 0).guest a)
   unfolding tables_base guest_base guest_end
@@ -210,11 +194,11 @@ module _ (p : Program) (case : Case) (stream : Stream) (mask : CaseMask) (is : I
 
   window : (a : ℕ) → shared ≤ a → a + 8 ≤ shared + 64 → ((world_of p 0).fixed a ≡ false) × IsTrue ((world_of p 0).guest a)
   unfolding guest_base guest_end
-  window a l m = (not-fixed p a is.sizes (omega arith), guest-true a (omega arith) (omega arith))
+  window a l m = (not-fixed p a (sizes p case stream mask is) (omega arith), guest-true a (omega arith) (omega arith))
 
   verdict : ((world_of p 0).fixed cell ≡ false) × IsTrue ((world_of p 0).guest cell)
   unfolding guest_base guest_end
-  verdict = (not-fixed p cell is.sizes (omega arith), guest-true cell (omega arith) (omega arith))
+  verdict = (not-fixed p cell (sizes p case stream mask is) (omega arith), guest-true cell (omega arith) (omega arith))
 
   writes : (a : ℕ) → IsTrue ((world_of p 0).window a) → shared ≤ a
   unfolding windows_base
@@ -245,8 +229,6 @@ module _ (p : Program) (case : Case) (stream : Stream) (mask : CaseMask) (is : I
         enter = enter;
         inner = inner;
         end = end;
-        no_end = no_end;
-        one_end = one_end;
         own = own;
         table = table;
         window = window;

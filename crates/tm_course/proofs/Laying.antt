@@ -1,6 +1,6 @@
 -- Where the words and marks of a program of one hart stand.
-use Rattle.std.proofs.Common.{◌≡◌, ◌≢◌, ◌⊎◌, inl, inr, ℕ, zero, suc, ◌+◌, ◌*◌, ◌<◌, ◌≤◌, Bool, true, false, true≢false, List, [], ◌∷◌, ◌++◌, length, Some, None, refl, sym, ap, ◌∙◌, subst, arith, length-append}
-use Rattle.std.specs.Prelude.{slice_get, slice_index, All, if◌then◌else◌}
+use Rattle.std.proofs.Common.{◌≡◌, ◌≢◌, ◌⊎◌, inl, inr, ℕ, zero, suc, ◌+◌, ◌*◌, ◌<◌, ◌≤◌, false, List, [], ◌∷◌, ◌++◌, length, Some, None, refl, sym, ap, ◌∙◌, subst, arith, length-append}
+use Rattle.std.specs.Prelude.{slice_get, slice_index, All}
 use Rattle.std.proofs.lemmas.List.Elements.{All-head}
 use Rattle.tm_table.specs.declared.instr.Instr.{Instr}
 use Rattle.tm_table.specs.Words.{word_of}
@@ -10,21 +10,19 @@ use Rattle.tm_plan.specs.declared.masks.CaseMask.{CaseMask}
 use Rattle.tm_plan.specs.declared.program.Program.{Program}
 use Rattle.tm_plan.specs.Map.{text_base}
 use Rattle.tm_plan.specs.Shaped.{IsShapedCase, IsShapedStream}
-use Rattle.tm_world.specs.Lists.{count, those}
 use Rattle.tm_world.specs.Place.{case_count, start_of, end_of, exit_of, halt_of, inside, word_at}
 use Rattle.tm_world.specs.Kinds.{stream_at}
-use Rattle.tm_world.specs.Marks.{Mark}
-use Rattle.tm_runs.specs.World.{support_at}
+use Rattle.tm_runs.specs.World.{Sizes, support_at}
 use Rattle.tm_runs.specs.Runs.{At}
 use Rattle.tm_runs.proofs.Arrivals.{stream-some, stream-none, inside-true, inside-false}
-use Rattle.tm_runs.proofs.Worlds.{fetched, instr-word, text-at}
+use Rattle.tm_runs.proofs.Worlds.{sizes-of, fetched, instr-word, text-at}
 use Rattle.tm_blocks.specs.Instrs.{words_of}
 use Rattle.tm_blocks.proofs.Lengths.{length-words_of}
 use Rattle.tm_pass.specs.Hart.{hart_words, before_stream, behind_stream}
 use Rattle.tm_pass.proofs.Numbers.{length-entry, length-arrive, length-run, length-before_stream, length-behind_stream}
 use Rattle.tm_course.specs.OneHart.{IsOfOneHart}
 use Rattle.tm_course.proofs.Fitting.{AllFit, Nil, Fit, fit-before, fit-behind}
-use Rattle.tm_course.proofs.Ground.{is_end, exit_at, start_at, end_at, halt_at}
+use Rattle.tm_course.proofs.Ground.{exit_at, start_at, end_at, halt_at}
 
 -- ---- words in the text
 
@@ -63,37 +61,14 @@ pub words-append : (a b : List Instr) → words_of (a ++ b) ≡ words_of a ++ wo
 words-append [] b = refl
 words-append (i ∷ a) b = ap (λ (ws : List ℕ). word_of i ∷ ws) (words-append a b)
 
--- ---- marks that are ends
-
--- none of these marks that is an end passes the test
-pub data NoEnd (f : Mark → Bool) : List Mark → Type 0 where
-  Nothing : NoEnd f []
-  Other : {m : Mark} {ms : List Mark} → (is_end m ≡ true → f m ≡ false) → NoEnd f ms → NoEnd f (m ∷ ms)
-
-pub count-none : (f : Mark → Bool) (ms : List Mark) → NoEnd f ms → count is_end (those f ms) ≡ 0
-count-none f [] h = refl
-count-none f (m ∷ ms) (Other h more) = by (f m) refl (is_end m) refl (count-none f ms more)
-  where
-    by : (b : Bool) → f m ≡ b → (c : Bool) → is_end m ≡ c → count is_end (those f ms) ≡ 0 → count is_end (if b then m ∷ those f ms else those f ms) ≡ 0
-    by false e c q later = later
-    by true e true q later = absurd (true≢false (sym e ∙ h q))
-    by true e false q later = subst (λ (x : Bool). (if x then suc (count is_end (those f ms)) else count is_end (those f ms)) ≡ 0) (sym q) later
-
-pub count-less : (f : Mark → Bool) (ms : List Mark) → count is_end (those f ms) ≤ count is_end ms
-count-less f [] = omega arith
-count-less f (m ∷ ms) = by (f m) (is_end m) refl (count-less f ms)
-  where
-    by : (b c : Bool) → is_end m ≡ c → count is_end (those f ms) ≤ count is_end ms → count is_end (if b then m ∷ those f ms else those f ms) ≤ (if c then suc (count is_end ms) else count is_end ms)
-    by true true e l = subst (λ (x : Bool). (if x then suc (count is_end (those f ms)) else count is_end (those f ms)) ≤ suc (count is_end ms)) (sym e) (omega arith)
-    by true false e l = subst (λ (x : Bool). (if x then suc (count is_end (those f ms)) else count is_end (those f ms)) ≤ count is_end ms) (sym e) l
-    by false true e l = omega arith
-    by false false e l = l
-
 -- ---- a program of one hart
 
 module _ (p : Program) (case : Case) (stream : Stream) (mask : CaseMask) (is : IsOfOneHart p case stream mask) where
   abbrev size : ℕ
   size = length stream.words
+
+  pub sizes : Sizes p
+  sizes = sizes-of p is.program is.typed
 
   pub one-case : case_count p ≡ 1
   one-case = ap length is.cases

@@ -16,5 +16,6 @@ pub mod Notes
 pub mod FirstReads
 pub mod Owned
 pub mod Exact
+pub mod Verdicts
 pub mod Silent
 pub mod Together

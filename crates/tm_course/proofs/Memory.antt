@@ -1,8 +1,8 @@
 -- What the parts find in memory and leave there.
-use Rattle.std.proofs.Common.{Bool, true, false, ◌≡◌, ◌⊎◌, inl, inr, ℕ, zero, suc, ◌+◌, ◌*◌, ◌%◌, ◌^◌, ◌<◌, ◌≤◌, List, [], ◌∷◌, length, refl, ap, ◌∙◌, arith}
-use Rattle.std.specs.Prelude.{IsTrue, nat_eq, if◌then◌else◌}
+use Rattle.std.proofs.Common.{false, ◌≡◌, ◌⊎◌, inl, inr, ℕ, zero, suc, ◌+◌, ◌*◌, ◌%◌, ◌<◌, ◌≤◌, List, [], ◌∷◌, length, refl, ap, ◌∙◌, arith}
+use Rattle.std.specs.Prelude.{IsTrue}
 use Rattle.tm_world.specs.Marks.{Mark}
-use Rattle.tm_runs.specs.Machine.{World, Table, get, put}
+use Rattle.tm_runs.specs.Machine.{World, Table, put}
 use Rattle.tm_runs.proofs.Tables.{put_other}
 use Rattle.tm_blocks.specs.Laws.{Usable, ReadsBack, Changeable, Among, stored_all}
 use Rattle.tm_course.proofs.Ground.{Ground, registers_at, tables_end, count_at, private, shared, cell}
@@ -35,15 +35,6 @@ stored-below mem new b values e a l = ap (λ (f : Table). f a) e ∙ stored-othe
 
 pub stored-tables : (mem new : Table) (b : ℕ) (values : List ℕ) → new ≡ stored_all mem b 0 values → tables_end ≤ b → (a : ℕ) → a + 8 ≤ tables_end → new a ≡ mem a
 stored-tables mem new b values e l a m = ap (λ (f : Table). f a) e ∙ stored-other values mem b 0 a (inl (omega arith))
-
--- registers below 2 ^ 64, after a value below 2 ^ 64 was put
-pub fits-put : (f : Table) (r v : ℕ) → ((x : ℕ) → get f x < 2 ^ 64) → v < 2 ^ 64 → (x : ℕ) → get (put f r v) x < 2 ^ 64
-fits-put f r v h l zero = h 0
-fits-put f r v h l (suc x) = by (nat_eq (suc x) r) (h (suc x))
-  where
-    by : (b : Bool) → f (suc x) < 2 ^ 64 → (if b then v else f (suc x)) < 2 ^ 64
-    by true q = l
-    by false q = q
 
 -- ---- areas
 

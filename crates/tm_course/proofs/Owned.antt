@@ -38,7 +38,7 @@ module _ (p : Program) (case : Case) (stream : Stream) (mask : CaseMask) (is : I
   abbrev test : ℕ → Bool
   test a = is_declared p.cases a && (collector p.cases a == 0)
 
-  abbrev dword : ℕ → ℕ
+  abbrev pub dword : ℕ → ℕ
   dword q = windows_base + 8 * q
 
   declared-is : (a : ℕ) → is_declared p.cases a ≡ ((nat_le (window_at 0) a && nat_lt a (window_at 0 + 1 * 64)) || false)
@@ -60,7 +60,7 @@ module _ (p : Program) (case : Case) (stream : Stream) (mask : CaseMask) (is : I
   unfolding windows_base window_at
   no-dword q l = ap₂ (λ (x y : Bool). x && y) (declared-is (dword q)) (mine (dword q)) ∙ grind (arith, nat_tests)
 
-  owned-is : owned p.cases 0 ≡ map dword (count_from 0 8)
+  pub owned-is : owned p.cases 0 ≡ map dword (count_from 0 8)
   unfolding owned window_dwords
   owned-is = front dword test 0 8 760 (λ q l. yes-dword q (omega arith)) (λ q l. no-dword q (omega arith))
 

@@ -1,6 +1,6 @@
 -- On each legal run of a program of one hart both passes end alike, so no case is reported.
 use Rattle.std.proofs.Common.{◌≡◌, ◌⊎◌, inl, inr, ℕ, zero, suc, ◌+◌, ◌-◌, ◌*◌, ◌/◌, ◌%◌, ◌<◌, ◌≤◌, Bool, true, false, true≢false, ◌&&◌, not, nat_le, nat_lt, ◌==◌, List, [], ◌∷◌, length, Option, Some, None, refl, sym, ap, ap₂, ◌∙◌, subst, arith}
-use Rattle.std.specs.Prelude.{slice_get, slice_index, IfSome, if◌then◌else◌}
+use Rattle.std.specs.Prelude.{slice_get, slice_index, IsTrue, IfSome, if◌then◌else◌}
 use Rattle.tm_table.specs.declared.state.Access.{Access}
 use Rattle.tm_table.specs.declared.state.Access.TheVariants.{Quiet, Read, Write}
 use Rattle.tm_table.specs.State.{Hart}
@@ -14,12 +14,13 @@ use Rattle.tm_plan.specs.Map.{verdict_at, text_base, tables_base}
 use Rattle.tm_plan.specs.Slots.{load_width, store_width, is_access}
 use Rattle.tm_plan.specs.Collected.{count_from}
 use Rattle.tm_world.specs.Lists.{those, or_else}
-use Rattle.tm_world.specs.Place.{harts, case_count, passes, exit_of, inside, is_text, is_table, image_byte, byte_of}
+use Rattle.tm_world.specs.Place.{harts, round_count, passes, exit_of, inside, is_text, is_table, image_byte, byte_of}
 use Rattle.tm_world.specs.Run.{Step, Run, now, first_state, hart_of, pc_of, access_of, own, phase, in_phase, got, written, last_write, read_value, Reads}
 use Rattle.tm_world.specs.Writers.{may_write, writers, wrote, settle, settled}
 use Rattle.tm_world.specs.Kinds.{IsOpening, HalfPath, Follows, Path, Legal, another, legal_owed, phase_of}
 use Rattle.tm_world.specs.Verdict.{first_read as first_read_of, saved, Same as SameParts, IsVerdict, agree, differ}
 use Rattle.tm_world.specs.Writers.{run_phase}
+use Rattle.tm_world.specs.Course.{writes_in}
 use Rattle.tm_world.specs.Sound.{NotReported}
 use Rattle.tm_world.proofs.Prefix.{earlier, Legal-earlier}
 use Rattle.tm_runs.specs.World.{image_dword}
@@ -35,11 +36,11 @@ use Rattle.tm_stays.proofs.Alike.{passes-alike}
 use Rattle.tm_blocks.specs.Laws.{EachAccess, with_access}
 use Rattle.tm_blocks.specs.Verdict.{Agrees}
 use Rattle.tm_course.specs.OneHart.{IsOfOneHart}
-use Rattle.tm_course.proofs.Addresses.{mask_at, bytes_at, save_0, save_1, shared, cell}
+use Rattle.tm_course.proofs.Addresses.{mask_at, bytes_at, save_0, save_1, shared}
 use Rattle.tm_course.proofs.Logs.{is_in, outs, IsZero, Judged}
-use Rattle.tm_course.proofs.Laying.{one-case, start-is, end-is}
-use Rattle.tm_course.proofs.Course.{fact-of, stream-found}
-use Rattle.tm_course.proofs.Exact.{register-end, byte-end, to-parts, every, cell-is, exact-step}
+use Rattle.tm_course.proofs.Laying.{sizes, one-case, start-is, end-is}
+use Rattle.tm_course.proofs.Course.{fact-of, stream-found, cell-is}
+use Rattle.tm_course.proofs.Exact.{register-end, byte-end, to-parts, every, exact-step}
 use Rattle.tm_course.proofs.Whole.{formed, tame}
 
 -- ---- lists of steps
@@ -160,7 +161,7 @@ module _ (p : Program) (case : Case) (stream : Stream) (mask : CaseMask) (is : I
   image-zero : (b : ℕ) → 2160066560 ≤ b → image_byte p b ≡ 0
   unfolding text_base tables_base
   image-zero b l =
-      let s = is.sizes in
+      let s = sizes p case stream mask is in
       let t : is_text p b ≡ false = within-false text_base (4 * length p.text) b (inr (omega (arith, s.text))) in
       let u : is_table p b ≡ false = within-false tables_base (length p.tables) b (inr (omega (arith, s.tables))) in
       ap (λ (c : Bool). if c then byte_of (slice_index p.text ((b - text_base) / 4)) ((b - text_base) % 4) else (if is_table p b then slice_index p.tables (b - tables_base) else 0)) t
@@ -277,19 +278,23 @@ module _ (p : Program) (case : Case) (stream : Stream) (mask : CaseMask) (is : I
           subst (λ (n : ℕ). byte_of (j.mem (save_0 + 8 * n)) l ≡ byte_of (j.mem (save_1 + 8 * n)) l) (sym e) (one ∙ sym two);
     }
 
-    step-silent : (s : Step) (past : List Step) → Legal p (earlier o (s ∷ past)) → (c h v : ℕ) → c < case_count p → h < harts p → access_of s ≡ Write (verdict_at c h) 8 v → v ≡ 0
-    step-silent s past legal zero zero v l m e =
+    step-silent : (s : Step) (past : List Step) → Legal p (earlier o (s ∷ past)) → (e h : ℕ) → e < round_count p → h < harts p → IsTrue (writes_in (verdict_at e h) 8 (access_of s)) → access_of s ≡ Write (verdict_at e h) 8 0
+    step-silent s past legal zero zero l m e =
         let r = earlier o (s ∷ past) in
         let opening = opens (s ∷ past) legal in
         let before : Legal p (earlier o past) = Legal-earlier p o (s ∷ []) past legal in
         let here = own-here 0 s past (mine s past legal) in
         let path : HalfPath p 0 first (s ∷ own 0 past) = subst (HalfPath p 0 first) here (legal-steps p (formed p case stream mask is) 0 few (tame p case stream mask is) r legal) in
-        let at : access_of s ≡ Write cell 8 v = e ∙ ap (λ (k : ℕ). Write k 8 v) (cell-is p case stream mask is) in
-        let j : Judged size (image_dword p) (entries_of (own 0 past)) v = (fact-of p case stream mask is (o 0) opening (own 0 past) s path).exact v at in
-        let verdict = (exact-step p case stream mask is (o 0) opening (own 0 past) s path) 0 mask v (ap (λ (ms : List CaseMask). slice_get ms 0) is.masks) e in
-        no-verdict p mask 0 0 first (own 0 past) v (λ k i kl il. every p case stream mask is (o 0) (own 0 past) path.1 v j k i kl (λ d dl. to-parts p case stream mask is (o 0) (own 0 past) path.1 v j d dl (agrees past before (opens past before) path.1 v j d dl)) il) verdict
-    step-silent s past legal zero (suc h) v l m e = absurd (omega (arith, is.harts))
-    step-silent s past legal (suc c) h v l m e = absurd (omega (arith, one-case p case stream mask is))
+        let fact = fact-of p case stream mask is (o 0) opening (own 0 past) s path in
+        let write = (fact.verdict (ap (λ (a : ℕ). writes_in a 8 (access_of s)) (sym (cell-is p case stream mask is)) ∙ e)).0 in
+        let v = write.0 in
+        let at : access_of s ≡ Write (verdict_at 0 0) 8 v = write.1 ∙ ap (λ (k : ℕ). Write k 8 v) (sym (cell-is p case stream mask is)) in
+        let j : Judged size (image_dword p) (entries_of (own 0 past)) v = fact.exact v write.1 in
+        let verdict = (exact-step p case stream mask is (o 0) opening (own 0 past) s path) 0 mask v (ap (λ (ms : List CaseMask). slice_get ms 0) is.masks) at in
+        let none : v ≡ 0 = no-verdict p mask 0 0 first (own 0 past) v (λ k i kl il. every p case stream mask is (o 0) (own 0 past) path.1 v j k i kl (λ d dl. to-parts p case stream mask is (o 0) (own 0 past) path.1 v j d dl (agrees past before (opens past before) path.1 v j d dl)) il) verdict in
+        at ∙ ap (λ (n : ℕ). Write (verdict_at 0 0) 8 n) none
+    step-silent s past legal zero (suc h) l m e = absurd (omega (arith, is.harts))
+    step-silent s past legal (suc c) h l m e = absurd (omega (arith, one-case p case stream mask is))
 
     all-silent : (steps : List Step) → Legal p (earlier o steps) → NotReported p (earlier o steps)
     all-silent [] legal = tt

@@ -1,6 +1,6 @@
 -- What the image of a program of one hart holds in its tables.
-use Rattle.std.proofs.Common.{◌≡◌, ℕ, zero, suc, ◌+◌, ◌*◌, ◌^◌, ◌<◌, ◌≤◌, List, [], ◌∷◌, ◌++◌, length, drop, refl, sym, ap, ◌∙◌, subst, arith, append_assoc, append-nil, length-append, length-drop}
-use Rattle.std.specs.Prelude.{slice_index, All}
+use Rattle.std.proofs.Common.{◌≡◌, ℕ, zero, suc, ◌+◌, ◌*◌, ◌^◌, ◌<◌, ◌≤◌, List, [], ◌∷◌, ◌++◌, length, drop, Some, refl, sym, ap, ◌∙◌, subst, arith, append_assoc, append-nil, length-append, length-drop}
+use Rattle.std.specs.Prelude.{slice_get, slice_index, All}
 use Rattle.std.proofs.lemmas.List.{get_or_append_left, get_or-append-add}
 use Rattle.std.proofs.lemmas.List.Elements.{All-head}
 use Rattle.tm_plan.specs.declared.cases.Case.{Case}
@@ -19,7 +19,7 @@ use Rattle.tm_runs.proofs.Places.{image-lt}
 use Rattle.tm_runs.proofs.Worlds.{private-dword, image-dword, image-table, image-private}
 use Rattle.tm_course.specs.OneHart.{IsOfOneHart}
 use Rattle.tm_course.proofs.Ground.{mask_at, bytes_at, count_at, private, fresh_in}
-use Rattle.tm_course.proofs.Laying.{shaped, shaped-case}
+use Rattle.tm_course.proofs.Laying.{sizes, shaped, shaped-case}
 
 -- ---- bytes of dwords
 
@@ -89,6 +89,16 @@ module _ (p : Program) (case : Case) (stream : Stream) (mask : CaseMask) (is : I
   pub shaped-mask : IsShapedMask p.cases mask
   shaped-mask = All-head (IsShapedMask p.cases) mask [] (subst (λ (ms : List CaseMask). All (IsShapedMask p.cases) ms) is.masks is.program.masks.each)
 
+  -- the case, the stream and the mask, by number
+  case-at : slice_get p.cases.cases 0 ≡ Some case
+  case-at = ap (λ (cs : List Case). slice_get cs 0) is.cases
+
+  stream-at : slice_get case.streams 0 ≡ Some stream
+  stream-at = ap (λ (ss : List Stream). slice_get ss 0) is.streams
+
+  mask-at : slice_get p.masks.cases 0 ≡ Some mask
+  mask-at = ap (λ (ms : List CaseMask). slice_get ms 0) is.masks
+
   -- the mask of the registers
   pub mask-regs : mask.regs ≡ slice_index mask.regs 0 ∷ []
   mask-regs = single mask.regs (shaped-mask.regs ∙ is.harts)
@@ -97,7 +107,7 @@ module _ (p : Program) (case : Case) (stream : Stream) (mask : CaseMask) (is : I
   table = is.tables ∙ one-table p.cases p.masks case mask stream (slice_index mask.regs 0) is.cases is.masks is.streams mask-regs
 
   length-registers : length (drop 1 stream.regs) ≡ 31
-  length-registers = length-drop 1 stream.regs ∙ omega (arith, is.regs)
+  length-registers = length-drop 1 stream.regs ∙ omega (arith, is.typed.count 0 0 case stream case-at stream-at)
 
   pub tables-size : length p.tables ≡ 12544
   tables-size =
@@ -111,11 +121,11 @@ module _ (p : Program) (case : Case) (stream : Stream) (mask : CaseMask) (is : I
   -- the image's bytes in the tables
   byte-at : (k : ℕ) → k < 12544 → image_byte p (2155872256 + k) ≡ slice_index p.tables k
   unfolding tables_base
-  byte-at k l = image-table p k is.sizes (omega (arith, tables-size))
+  byte-at k l = image-table p k (sizes p case stream mask is) (omega (arith, tables-size))
 
   pub register-dword : (r : ℕ) → 1 ≤ r → r < 32 → fresh_in (image_dword p) r ≡ slice_index stream.regs r
   register-dword zero l m = absurd (omega arith)
-  register-dword (suc j) l m = image-dword p (2155872248 + 8 * suc j) (slice_index stream.regs (suc j)) is.sizes (is.fits (suc j)) by
+  register-dword (suc j) l m = image-dword p (2155872248 + 8 * suc j) (slice_index stream.regs (suc j)) (sizes p case stream mask is) (is.typed.regs 0 0 case stream case-at stream-at (suc j)) by
     where
       by : (i : ℕ) → i < 8 → image_byte p (2155872248 + 8 * suc j + i) ≡ byte_of (slice_index stream.regs (suc j)) i
       by i k =
@@ -128,7 +138,7 @@ module _ (p : Program) (case : Case) (stream : Stream) (mask : CaseMask) (is : I
 
   pub image-small : (a : ℕ) → image_dword p a < 2 ^ 64
   unfolding image_dword
-  image-small a = joined-lt (λ i. image_byte p (a + i)) 8 (λ i. image-lt p (a + i) is.sizes)
+  image-small a = joined-lt (λ i. image_byte p (a + i)) 8 (λ i. image-lt p (a + i) (sizes p case stream mask is))
 
   pub base-dword : image_dword p 2155872496 ≡ private
   unfolding private_at
@@ -136,11 +146,11 @@ module _ (p : Program) (case : Case) (stream : Stream) (mask : CaseMask) (is : I
 
   pub count-dword : image_dword p count_at ≡ 0
   unfolding private_at private_size
-  count-dword = image-private p 0 count_at is.sizes (omega arith) (private-dword 0 count_at (omega arith) (omega arith))
+  count-dword = image-private p 0 count_at (sizes p case stream mask is) (omega arith) (private-dword 0 count_at (omega arith) (omega arith))
 
   -- the first bytes of the windows are 0
   pub first-blank : (j : ℕ) → j < 8 → image_dword p (2155872512 + 8 * j) ≡ 0
-  first-blank j l = image-dword p (2155872512 + 8 * j) 0 is.sizes (omega arith) by
+  first-blank j l = image-dword p (2155872512 + 8 * j) 0 (sizes p case stream mask is) (omega arith) by
     where
       by : (i : ℕ) → i < 8 → image_byte p (2155872512 + 8 * j + i) ≡ byte_of 0 i
       by i k =
@@ -158,7 +168,7 @@ module _ (p : Program) (case : Case) (stream : Stream) (mask : CaseMask) (is : I
 
   -- the mask of the registers
   pub mask-dword : image_dword p mask_at ≡ slice_index mask.regs 0
-  mask-dword = image-dword p mask_at (slice_index mask.regs 0) is.sizes (let s = is.small in omega arith) by
+  mask-dword = image-dword p mask_at (slice_index mask.regs 0) (sizes p case stream mask is) (let s = is.typed.masks 0 mask mask-at 0 in omega arith) by
     where
       by : (i : ℕ) → i < 8 → image_byte p (mask_at + i) ≡ byte_of (slice_index mask.regs 0) i
       by i k =

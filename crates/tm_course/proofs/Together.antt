@@ -9,9 +9,11 @@ use Rattle.tm_world.specs.Course.{OnHalf, KeepsOrder, EntersFresh, KeepsVerdicts
 use Rattle.tm_world.specs.Verdict.{WritesExactly}
 use Rattle.tm_world.specs.Work.{Bound}
 use Rattle.tm_course.specs.OneHart.{IsOfOneHart}
-use Rattle.tm_course.specs.Claims.{SoundSoFar, OneHartIsSound}
-use Rattle.tm_course.proofs.Course.{order, fresh, verdicts, all-verdicts}
+use Rattle.tm_world.specs.Sound.{SoundSoFar}
+use Rattle.tm_course.specs.Claims.{OneHartIsSound}
+use Rattle.tm_course.proofs.Course.{order, fresh, all-verdicts}
 use Rattle.tm_course.proofs.Whole.{laid, bound}
+use Rattle.tm_course.proofs.Verdicts.{verdicts}
 use Rattle.tm_course.proofs.Exact.{exact}
 use Rattle.tm_course.proofs.Silent.{silent}
 

@@ -5,7 +5,7 @@ use Rattle.tm_runs.specs.Machine.{World, State, Table, get}
 use Rattle.tm_runs.specs.Runs.{Takes, Keeps}
 use Rattle.tm_runs.specs.Course.{Good}
 use Rattle.tm_runs.proofs.Compose.{takes_then, takes_map, keeps_after, keeps_then, keeps_now}
-use Rattle.tm_course.proofs.Ground.{Ground, Fact, Hold, is_out, entry_at, start_at, end_at, registers_at, first_at, tables_end, private, count_at, save_0}
+use Rattle.tm_course.proofs.Ground.{Ground, Fact, Hold, steps_out, entry_at, start_at, end_at, registers_at, first_at, tables_end, private, count_at, save_0}
 use Rattle.tm_course.proofs.Notes.{Stayed, Left, Clear, PassTold, IsSave, same-from, clear-blank, clear-same, clear-stay, clear-save, has-registers, registers-same, pass-told, told-same, told-stay}
 use Rattle.tm_course.proofs.Begin.{begin, count, choose_run, choose_between, choose_last, enter}
 use Rattle.tm_course.proofs.Behind.{stay, leave, between, finish, Done}
@@ -20,7 +20,7 @@ most_steps = 818
 
 module _ (w : World) (mark : ℕ → ℕ → List Mark) (n : ℕ) (image : Table) (ground : Ground w mark n) (base : image 2155872496 ≡ private) (blank : (j : ℕ) → j < 8 → image (first_at + 8 * j) ≡ 0) where
   abbrev pub Told : State → Type 0
-  Told t = Good mark (Fact n image) (is_out n) both_passes most_steps t.log
+  Told t = Good mark (Fact n image) (steps_out n) both_passes most_steps t.log
 
   abbrev At : (k place : ℕ) → List Mark → ℕ → State → Type 0
   At k place ms o t = Hold mark n image k place ms o t
@@ -74,7 +74,7 @@ module _ (w : World) (mark : ℕ → ℕ → List Mark) (n : ℕ) (image : Table
       takes_then (leave w mark n image ground both_passes most_steps (Exit ∷ Enter 0 ∷ End 0 ∷ Exit ∷ Exit ∷ Enter 0 ∷ End 0 ∷ []) (Exit ∷ Halt ∷ []) 3 323 s refl (omega arith) h)
       (λ t a. takes_then (count w mark n image ground both_passes most_steps (Exit ∷ Enter 0 ∷ End 0 ∷ Exit ∷ Exit ∷ Enter 0 ∷ End 0 ∷ []) (Halt ∷ []) 3 354 t refl refl (omega arith) (omega arith) a.0)
       (λ t b. takes_then (choose_last w mark n image ground both_passes most_steps (Exit ∷ Enter 0 ∷ End 0 ∷ Exit ∷ Exit ∷ Enter 0 ∷ End 0 ∷ Exit ∷ []) (Halt ∷ []) 357 t refl (omega arith) b.0)
-      (λ t c. finish w mark n image ground both_passes most_steps (Exit ∷ Enter 0 ∷ End 0 ∷ Exit ∷ Exit ∷ Enter 0 ∷ End 0 ∷ Exit ∷ []) 4 362 t refl refl refl (omega arith)
+      (λ t c. finish w mark n image ground both_passes most_steps (Exit ∷ Enter 0 ∷ End 0 ∷ Exit ∷ Exit ∷ Enter 0 ∷ End 0 ∷ Exit ∷ []) 4 362 t refl refl (omega arith)
       (clear-same (clear-same (clear-same after a.1.same) b.1) c.1)
       (told-same one (told-same one (told-same one told2 a.1.same) (same-from (omega arith) b.1)) (same-from (omega arith) c.1))
       (registers-same (registers-same (has-registers (omega arith) clear stayed left a.1) b.1) c.1)

@@ -1,5 +1,5 @@
 -- Programs of one hart with one case and two passes (this project's own).
-use Rattle.std.specs.Prelude.{◌≡◌, ℕ, ◌+◌, ◌-◌, ◌*◌, ◌^◌, ◌<◌, [], ◌∷◌, length, slice_get, slice_index, Some}
+use Rattle.std.specs.Prelude.{◌≡◌, ℕ, ◌+◌, ◌-◌, ◌*◌, [], ◌∷◌, length, slice_get, slice_index, Some}
 use Rattle.tm_table.specs.declared.instr.Instr.{Instr}
 use Rattle.tm_plan.specs.declared.cases.Case.{Case}
 use Rattle.tm_plan.specs.declared.cases.Stream.{Stream}
@@ -7,11 +7,10 @@ use Rattle.tm_plan.specs.declared.cases.Kind2.TheVariants.{True}
 use Rattle.tm_plan.specs.declared.masks.CaseMask.{CaseMask}
 use Rattle.tm_plan.specs.declared.program.Program.{Program}
 use Rattle.tm_plan.specs.Map.{text_base}
-use Rattle.tm_plan.specs.Shaped.{IsProgram}
+use Rattle.tm_plan.specs.Shaped.{IsProgram, IsTyped}
 use Rattle.tm_plan.specs.Slots.{instr_of, load_width, store_width}
 use Rattle.tm_plan.specs.Tables.{table_bytes}
 use Rattle.tm_world.specs.Checked.{AreChecked}
-use Rattle.tm_runs.specs.World.{Sizes}
 use Rattle.tm_pass.specs.Hart.{hart_words, exit_place, start_place, halt_place}
 
 -- no word of the stream is a load or a store
@@ -23,18 +22,15 @@ HasNoAccess stream = (n w : ℕ) (i : Instr) → slice_get stream.words n ≡ So
 -- first bytes are 0, and the stream neither loads nor stores.
 pub record IsOfOneHart (p : Program) (case : Case) (stream : Stream) (mask : CaseMask) : Type 0 where
   pub program : IsProgram p
-  pub sizes : Sizes p
+  pub typed : IsTyped p
   pub harts : p.cases.harts ≡ 1
   pub passes : p.cases.passes ≡ 2
   pub line : p.cases.line ≡ 64
   pub windows : p.cases.windows ≡ record { number = 0; kind = True; lines = 1 } ∷ []
   pub cases : p.cases.cases ≡ case ∷ []
   pub streams : case.streams ≡ stream ∷ []
-  pub regs : length stream.regs ≡ 32
-  pub fits : (r : ℕ) → slice_index stream.regs r < 2 ^ 64
   pub first : (k : ℕ) → slice_index case.first k ≡ 0
   pub masks : p.masks.cases ≡ mask ∷ []
-  pub small : slice_index mask.regs 0 < 2 ^ 32
   pub starts : p.marks.starts ≡ (text_base + 4 * start_place) ∷ []
   pub ends : p.marks.ends ≡ (text_base + 4 * (start_place + length stream.words)) ∷ []
   pub exits : p.marks.exits ≡ (text_base + 4 * exit_place) ∷ []

@@ -12,3 +12,4 @@ pub mod Parts
 pub mod Paths
 pub mod Arrivals
 pub mod Story
+pub mod Ahead

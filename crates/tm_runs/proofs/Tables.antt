@@ -1,5 +1,5 @@
 -- Laws of registers, memory and places.
-use Rattle.std.proofs.Common.{◌≡◌, ◌≢◌, ℕ, zero, suc, ◌+◌, ◌*◌, ◌<◌, List, [], ◌∷◌, ◌++◌, length, Option, Bool, true, false, refl, sym, ap, ◌∙◌, subst, arith, eq-eqb, ne_eqb}
+use Rattle.std.proofs.Common.{◌≡◌, ◌≢◌, ℕ, zero, suc, ◌+◌, ◌*◌, ◌^◌, ◌<◌, List, [], ◌∷◌, ◌++◌, length, Option, Bool, true, false, refl, sym, ap, ◌∙◌, subst, arith, eq-eqb, ne_eqb}
 use Rattle.std.specs.Prelude.{nat_eq, if◌then◌else◌}
 use mathlib.Core.Path.{fun_ext}
 use Rattle.tm_table.specs.declared.instr.Instr.{Instr}
@@ -24,6 +24,15 @@ get_put_other f r v (suc x) h = put_other f r v (suc x) h
 pub get_put_zero : (f : Table) (v x : ℕ) → get (put f 0 v) x ≡ get f x
 get_put_zero f v zero = refl
 get_put_zero f v (suc x) = put_other f 0 v (suc x) (λ e. omega arith)
+
+-- every register has 64 bits after a value of 64 bits was put into one
+pub get_put_fits : (f : Table) (r v : ℕ) → ((x : ℕ) → get f x < 2 ^ 64) → v < 2 ^ 64 → (x : ℕ) → get (put f r v) x < 2 ^ 64
+get_put_fits f r v h small zero = h 0
+get_put_fits f r v h small (suc x) = by (nat_eq (suc x) r) (h (suc x))
+  where
+    by : (b : Bool) → f (suc x) < 2 ^ 64 → (if b then v else f (suc x)) < 2 ^ 64
+    by true q = small
+    by false q = q
 
 pick : (b : Bool) (x y z : ℕ) → (if b then x else (if b then y else z)) ≡ (if b then x else z)
 pick true x y z = refl

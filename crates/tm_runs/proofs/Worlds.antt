@@ -8,7 +8,7 @@ use Rattle.tm_table.proofs.Decoding.{decoded-word}
 use Rattle.tm_plan.specs.declared.program.Program.{Program}
 use Rattle.tm_plan.specs.Map.{text_base, tables_base, private_at, private_size}
 use Rattle.tm_plan.specs.Slots.{instr_of}
-use Rattle.tm_plan.specs.Shaped.{IsProgram}
+use Rattle.tm_plan.specs.Shaped.{IsProgram, IsTyped}
 use Rattle.tm_world.specs.Place.{start_of, end_of, halt_of, is_text, is_table, image_byte, word_at, byte_of}
 use Rattle.tm_world.specs.Kinds.{stream_at}
 use Rattle.tm_runs.specs.Machine.{State}
@@ -17,8 +17,9 @@ use Rattle.tm_runs.specs.World.{Sizes, holds, world_of, support, support_at, bou
 use Rattle.tm_runs.proofs.Bytes.{same_dword, joined-byte, joined-lt, within-true, within-false}
 use Rattle.tm_runs.proofs.Places.{or-right, private-image, image-lt, fixed-place}
 
-pub sizes-of : (p : Program) → IsProgram p → ((k : ℕ) → slice_index p.text k < 2 ^ 32) → ((k : ℕ) → slice_index p.tables k < 256) → Sizes p
-sizes-of p is words bytes = record { harts = omega (arith, is.cases.harts); text = is.text.1; tables = is.tables; words = words; bytes = bytes }
+-- the sizes of a program's parts, by what is checked of it and what its types give
+pub sizes-of : (p : Program) → IsProgram p → IsTyped p → Sizes p
+sizes-of p is typed = record { harts = omega (arith, is.cases.harts); text = is.text.1; tables = is.tables; words = typed.text; bytes = typed.tables }
 
 -- ---- support code
 

@@ -1,6 +1,5 @@
 -- The marks that a hart's runs come to, and the parts that a way is made of (this project's own).
-use Rattle.std.specs.Prelude.{◌≡◌, ℕ, ◌≤◌, Bool, List, [], ◌∷◌, ◌++◌}
-use Rattle.tm_world.specs.Lists.{count}
+use Rattle.std.specs.Prelude.{◌≡◌, ℕ, ◌≤◌, List, [], ◌∷◌, ◌++◌}
 use Rattle.tm_world.specs.Marks.{Mark}
 use Rattle.tm_runs.specs.Machine.{World, State, Entry}
 use Rattle.tm_runs.specs.Runs.{Keeps}
@@ -26,19 +25,19 @@ abbrev pub Story : (List Entry → Entry → Type 0) → List Entry → Type 0
 Story F [] = Unit {0}
 Story F (e ∷ past) = F past e × Story F past
 
--- What a log tells so far: the marks that were come to; a fact of each entry and of what was before it; and how many entries pass a
--- test, at most.
-pub record Sofar (arrive : ℕ → ℕ → List Mark) (F : List Entry → Entry → Type 0) (test : Entry → Bool) (ms : List Mark) (n : ℕ) (log : List Entry) : Type 0 where
+-- What a log tells so far: the marks that were come to; a fact of each entry and of what was before it; and how large it is by a
+-- measure, at most.
+pub record Sofar (arrive : ℕ → ℕ → List Mark) (F : List Entry → Entry → Type 0) (size : List Entry → ℕ) (ms : List Mark) (n : ℕ) (log : List Entry) : Type 0 where
   pub way : trail arrive log ≡ ms
   pub story : Story F log
-  pub few : count test log ≤ n
+  pub few : size log ≤ n
 
--- The same of some front of a way, with a bound on the number.
-pub record Good (arrive : ℕ → ℕ → List Mark) (F : List Entry → Entry → Type 0) (test : Entry → Bool) (way : List Mark) (most : ℕ) (log : List Entry) : Type 0 where
+-- The same of some front of a way, with a bound on the measure.
+pub record Good (arrive : ℕ → ℕ → List Mark) (F : List Entry → Entry → Type 0) (size : List Entry → ℕ) (way : List Mark) (most : ℕ) (log : List Entry) : Type 0 where
   pub marks : List Mark
   pub rest : List Mark
   pub front : way ≡ marks ++ rest
-  pub sofar : Sofar arrive F test marks most log
+  pub sofar : Sofar arrive F size marks most log
 
 -- An entry that comes to no mark, and of which F holds whatever was before it.
 pub record Calm (arrive : ℕ → ℕ → List Mark) (F : List Entry → Entry → Type 0) (e : Entry) : Type 0 where
