@@ -14,10 +14,10 @@ start_items s t u n a b c d =
     ap (λ (x : Sheet). x.items) d ∙ ap₂ (λ (xs : List Item) (m : ℕ). xs ++ Branch Beq 0 0 m ∷ []) none zero
 
 pub here-requires : goal.here-requires
-here-requires g c = rw (c.loop.invariant.places, c.loop.invariant.label) refl
+here-requires c = rw (c.loop.invariant.places, c.loop.invariant.label) refl
 
 pub loop-init : goal.loop-init
-loop-init g c =
+loop-init c =
     let a = c.new-code.ensures in
     let b = c.in_ok-label.ensures.ok in
     let items = start_items c.new-code.result c.fresh.new.self c.branch-code.new.self c.in_ok-label.label.number a b.0 b.1 c.in_ok-branch.ensures.ok in
@@ -28,7 +28,7 @@ loop-init g c =
     }
 
 pub loop-preserved : goal.loop-preserved
-loop-preserved g c =
+loop-preserved c =
     let i = c.loop.invariant in
     record {
       places = ap (λ (x : Sheet). x.places) c.in_ok-put.ensures.ok ∙ i.places;
@@ -37,6 +37,6 @@ loop-preserved g c =
     }
 
 pub finish-requires : goal.finish-requires
-finish-requires g c =
+finish-requires c =
     let i = c.loop.invariant in
     rw (c.here.ensures, i.places, i.label) (i.placed (length c.loop.code.items))
