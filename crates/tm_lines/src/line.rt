@@ -102,8 +102,8 @@ fn put_fault(out: &mut Bytes, fault: &AnyFault) -> Result<(), NoMemory>
     }
 }
 
-/// The printed line of a refusal or of a failure, with its LF: the role of the file, and the names of the fault's variants from
-/// outside in, each with its values. Want of memory has another line.
+/// The printed line of a refusal or of a failure, with its LF: the role of the file, and the names of the fault's
+/// variants from outside in, each with its values. Want of memory has another line.
 #[tactic(auto, unfolding(crate::specs::Lines::fault_text))]
 pub fn fault_line(alloc: Global, role: Role, fault: &AnyFault) -> Result<Text, NoMemory>
     requires { IsFalse (wants_memory fault.now) }

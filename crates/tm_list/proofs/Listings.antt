@@ -51,7 +51,7 @@ image_stop (stop.Refused by fault) image desk (role_is, fault_is, h) = rw (role_
   has_line = refl;
   first = λ told. at_image image desk.held _ (image_long image desk.held (h told));
 })
-image_stop (stop.Failed by) image desk (role_is, inl rose) = rw role_is (unread refl rose)
+image_stop (stop.Failed by) image desk (role_is, inl rose) = rw role_is (unread refl rose (λ told. refl))
 image_stop (stop.Failed by) image desk (role_is, inr (told, none)) =
     rw role_is (missing told (at_image image desk.held _ (image_missing image desk.held none)))
 image_stop stop.NoMemory image desk h = tt

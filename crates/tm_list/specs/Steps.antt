@@ -10,6 +10,7 @@ use Rattle.tm_owed.specs.declared.stop.Stop.TheVariants as stop
 -- why a file isn't opened as an image
 abbrev pub OpenStop : Stop → Result (List ℕ) ImageFault → Type 0
 OpenStop (stop.Refused by fault) opened =
-    (refusal : ImageFault) × (opened ≡ Err refusal) × (by ≡ roles.Image) × (fault ≡ Image refusal) × (wants_memory (Image refusal) ≡ false)
+    (refusal : ImageFault) × (opened ≡ Err refusal) × (by ≡ roles.Image) × (fault ≡ Image refusal)
+    × (wants_memory (Image refusal) ≡ false)
 OpenStop (stop.Failed by) opened = ⊥
 OpenStop stop.NoMemory opened = Unit {0}

@@ -3,7 +3,7 @@ ghost use Rattle.std.specs.Prelude.{◌≡◌, ◌≤◌, IsTrue, IfErr, IfOk, O
 ghost use Rattle.tm_open.specs.Opened.{opened};
 ghost use Rattle.tm_owed.specs.Words.Command.{to_list};
 ghost use Rattle.tm_owed.specs.Changes.{desk_change, sink_change, FilesStay};
-ghost use Rattle.tm_owed.specs.Owed.{IsListed, IsListingIn, IsListingOf};
+ghost use Rattle.tm_owed.specs.Owed.{IsDone, IsListingIn, IsListingOf};
 ghost use Rattle.tm_owed.specs.Steps.{InputStop, Stopped};
 ghost use Rattle.tm_list.specs.Steps.{OpenStop};
 
@@ -61,7 +61,7 @@ pub fn list_command<D: Desk, O: Sink>(
     desk: &mut D,
     out: &mut O,
 ) -> Result<(), Stop>
-    ensures done { OnOk result (IsListed image.now
+    ensures done { OnOk result (IsDone (to_list image.now)
         (desk_change D.tells D.held D.faults desk.old desk.new)
         (sink_change O.tells O.taken O.faults out.old out.new)) }
     ensures stopped { IfErr result (λ stop. Stopped stop (to_list image.now)

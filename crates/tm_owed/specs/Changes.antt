@@ -13,7 +13,13 @@ pub record DeskChange : Type 0 where
 
 -- the change of a desk, of its ghost members and its two values
 abbrev pub desk_change : {D : Type 0} → Bool → (D → Files) → (D → ℕ) → D → D → DeskChange
-desk_change tells held faults old new = record { tells = tells; held = held old; holds = held new; faults = faults old; faults_after = faults new }
+desk_change tells held faults old new = record {
+  tells = tells;
+  held = held old;
+  holds = held new;
+  faults = faults old;
+  faults_after = faults new;
+}
 
 -- a sink before and after a call
 pub record SinkChange : Type 0 where
@@ -25,7 +31,13 @@ pub record SinkChange : Type 0 where
 
 -- the change of a sink, of its ghost members and its two values
 abbrev pub sink_change : {S : Type 0} → Bool → (S → List ℕ) → (S → ℕ) → S → S → SinkChange
-sink_change tells taken faults old new = record { tells = tells; taken = taken old; taken_after = taken new; faults = faults old; faults_after = faults new }
+sink_change tells taken faults old new = record {
+  tells = tells;
+  taken = taken old;
+  taken_after = taken new;
+  faults = faults old;
+  faults_after = faults new;
+}
 
 -- the desk's count rose
 abbrev pub DeskFailed : DeskChange → Type 0
@@ -57,7 +69,8 @@ TookFront sink text = IsTrue sink.tells → (n : ℕ) × (sink.taken_after ≡ s
 
 -- the sink took a front of this text, and then one of the line for want of memory; both may be empty
 abbrev pub TookFronts : SinkChange → List ℕ → Type 0
-TookFronts sink text = IsTrue sink.tells → (n : ℕ) × (m : ℕ) × (sink.taken_after ≡ sink.taken ++ take n text ++ take m no_memory)
+TookFronts sink text =
+    IsTrue sink.tells → (n : ℕ) × (m : ℕ) × (sink.taken_after ≡ sink.taken ++ take n text ++ take m no_memory)
 
 -- The sink took this text, or a front of it where its count rose.
 pub record Said (sink : SinkChange) (text : List ℕ) : Type 0 where

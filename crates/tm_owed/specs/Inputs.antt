@@ -1,4 +1,5 @@
--- The first fault of a command's inputs, in the order of work: each input is read and refused before the next one is read. Source: this project.
+-- The first fault of a command's inputs, in the order of work: each input is read and refused before the next one is
+-- read. Source: this project.
 use Rattle.std.specs.Prelude.{ℕ, List, [], length, if◌then◌else◌, nat_lt, Option, None, Some, Result, Ok, Err}
 use Rattle.tm_desk.specs.Causes.{Files}
 use Rattle.tm_desk.specs.declared.desk.DeskError.TheVariants.{Failed, TooLong}
@@ -92,5 +93,12 @@ or_behind role (Some fault) behind = Some (role_of role fault, fault)
 
 -- the first fault of a command's inputs
 unfoldable pub first_fault : Command → Files → Option (Role × AnyFault)
-first_fault (to_build b) files = or_behind roles.Topology (fault_of_topology b files) (or_behind roles.Template (fault_of_template b files) None)
+first_fault (to_build b) files =
+    or_behind roles.Topology (fault_of_topology b files) (or_behind roles.Template (fault_of_template b files) None)
 first_fault (to_list image) files = or_behind roles.Image (fault_of_image image files) None
+
+-- the first fault of the inputs that are read before that of a role
+abbrev pub fault_before : Command → Role → Files → Option AnyFault
+fault_before (to_build b) roles.Template files = fault_of_topology b files
+fault_before (to_build b) _ files = None
+fault_before (to_list image) _ files = None

@@ -1,4 +1,5 @@
--- What a command owes: what its files and its sinks are after it, by the status that it ends with. Source: this project.
+-- What a command owes: what its files and its sinks are after it, by the status that it ends with.
+-- Source: this project.
 use Rattle.std.specs.Prelude.{◌≡◌, ◌⊎◌, ℕ, Bool, true, false, IsTrue, IsFalse, List, [], None, Some, Ok}
 use Rattle.tm_desk.specs.Causes.{Files}
 use Rattle.tm_desk.specs.declared.desk.DeskError.TheVariants.{Failed, TooLong, NoMemory}
@@ -20,13 +21,14 @@ use Rattle.tm_lines.specs.Lines.{fault_text, wants_memory}
 use Rattle.tm_owed.specs.Words.{Build, Command, command_of}
 use Rattle.tm_owed.specs.Words.Command.{to_build, to_list}
 use Rattle.tm_owed.specs.Texts.{usage, built_line}
-use Rattle.tm_owed.specs.Inputs.{first_fault}
-use Rattle.tm_owed.specs.Changes.{DeskChange, SinkChange, DeskFailed, SinkFailed, FilesStay, OtherFilesStay, Silent, Took, TookFront, TookFronts, Said}
+use Rattle.tm_owed.specs.Inputs.{first_fault, fault_before}
+use Rattle.tm_owed.specs.Changes.{DeskChange, SinkChange, DeskFailed, SinkFailed}
+use Rattle.tm_owed.specs.Changes.{FilesStay, OtherFilesStay, Silent, Took, TookFront, TookFronts, Said}
 
 -- ---- a build
 
--- The file is built of two texts and a seed; its program has the cases of the test that the texts ask for, and is sound, so far as that
--- is claimed; and the line is that of its program.
+-- The file is built of two texts and a seed; its program has the cases of the test that the texts ask for,
+-- and is sound, so far as that is claimed; and the line is that of its program.
 pub record IsMadeOf (topo template : List ℕ) (seed : ℕ) (file line : List ℕ) : Type 0 where
   pub program : Program
   pub its_program : program_from (inputs topo template) ≡ Ok program
@@ -44,17 +46,16 @@ pub record IsImageOf (b : Build) (tells : Bool) (held : Files) (file line : List
   pub read : IsTrue tells → (held b.topo ≡ Some topo) × (held b.template ≡ Some template)
   pub accepted : IsTrue tells → first_fault (to_build b) held ≡ None
 
--- Such a file was written, and its line was printed.
-pub record IsBuilt (b : Build) (desk : DeskChange) (out : SinkChange) : Type 0 where
+-- Such a file was written, and this is its line.
+pub record IsWritten (b : Build) (desk : DeskChange) (line : List ℕ) : Type 0 where
   pub file : List ℕ
-  pub line : List ℕ
   pub image : IsImageOf b desk.tells desk.held file line
   pub written : IsTrue desk.tells → desk.holds b.out ≡ Some file
-  pub printed : Took out line
 
 -- ---- a listing
 
--- The file is an image: it is what is built of its own plan, of this program and seed; the program is sound, so far as that is claimed.
+-- The file is an image: it is what is built of its own plan, of this program and seed; the program is sound,
+-- so far as that is claimed.
 pub record IsOpened (file : List ℕ) (program : Program) (seed : ℕ) : Type 0 where
   pub parts : Parts
   pub form : elf_of file ≡ Ok parts
@@ -78,28 +79,18 @@ pub record IsListingOf (image : List ℕ) (tells : Bool) (held : Files) (text : 
   pub read : IsTrue tells → held image ≡ Some file
   pub accepted : IsTrue tells → first_fault (to_list image) held ≡ None
 
--- Such a listing was printed.
-pub record IsListed (image : List ℕ) (desk : DeskChange) (out : SinkChange) : Type 0 where
-  pub text : List ℕ
-  pub listing : IsListingOf image desk.tells desk.held text
-  pub printed : Took out text
-
 -- ---- each command
 
--- the job was done
-abbrev pub IsDone : Command → DeskChange → SinkChange → Type 0
-IsDone (to_build b) desk out = IsBuilt b desk out
-IsDone (to_list image) desk out = IsListed image desk out
+-- the text is what the command prints, and all that comes before it is done
+abbrev pub IsReady : Command → DeskChange → List ℕ → Type 0
+IsReady (to_build b) desk text = IsWritten b desk text
+IsReady (to_list image) desk text = IsListingOf image desk.tells desk.held text
 
--- the text is what the command prints of what is held
-abbrev pub IsText : Command → Bool → Files → List ℕ → Type 0
-IsText (to_build b) tells held text = (file : List ℕ) × IsImageOf b tells held file text
-IsText (to_list image) tells held text = IsListingOf image tells held text
-
--- the output sink took nothing, or a front of such a text
-pub data PrintedFront (c : Command) (desk : DeskChange) (out : SinkChange) : Type 0 where
-  nothing : Silent out → PrintedFront c desk out
-  front : (text : List ℕ) → IsText c desk.tells desk.held text → TookFront out text → PrintedFront c desk out
+-- The job was done: all that comes before the text, and the text was printed.
+pub record IsDone (c : Command) (desk : DeskChange) (out : SinkChange) : Type 0 where
+  pub text : List ℕ
+  pub ready : IsReady c desk text
+  pub printed : Took out text
 
 -- all files that the command doesn't write are as at entry
 abbrev pub RestStays : Command → DeskChange → Type 0
@@ -135,26 +126,54 @@ pub record IsRefusal (c : Command) (desk : DeskChange) (role : Role) (fault : An
   pub has_line : IsFalse (wants_memory fault)
   pub first : IsTrue desk.tells → first_fault c desk.held ≡ Some (role, fault)
 
--- an input failed: the desk's count rose, or the input isn't held and nothing that comes before it is at fault
+-- an input failed, and none that is read before it is at fault: the desk's count rose, or the input isn't held
 pub data InputFailure (c : Command) (desk : DeskChange) (role : Role) : Type 0 where
-  unread : IsTrue (reads c role) → DeskFailed desk → InputFailure c desk role
+  unread : IsTrue (reads c role) → DeskFailed desk → (IsTrue desk.tells → fault_before c role desk.held ≡ None)
+      → InputFailure c desk role
   missing : IsTrue desk.tells → first_fault c desk.held ≡ Some (role, Desk Failed) → InputFailure c desk role
 
--- the output failed: the desk's count rose where the command writes, or the sink's did behind inputs without a fault
-pub data OutputFailure (c : Command) (desk : DeskChange) (out : SinkChange) : Type 0 where
-  unwritten : IsTrue (writes c) → DeskFailed desk → OutputFailure c desk out
-  unprinted : SinkFailed out → (IsTrue desk.tells → first_fault c desk.held ≡ None) → OutputFailure c desk out
+-- ---- how far a command came that ended before its job was done
 
--- the file of this role failed
+-- It wrote and printed nothing: all files and the output are as at entry.
+pub record IsUntouched (desk : DeskChange) (out : SinkChange) : Type 0 where
+  pub files : FilesStay desk
+  pub output : Silent out
+
+-- Its write was begun, and not ended: no input is at fault, and nothing was printed. Of the file that the
+-- command writes nothing is known.
+pub record IsUnwritten (c : Command) (desk : DeskChange) (out : SinkChange) : Type 0 where
+  pub writes : IsTrue (writes c)
+  pub accepted : IsTrue desk.tells → first_fault c desk.held ≡ None
+  pub output : Silent out
+
+-- Its printing was begun, and not ended: all that comes before it is done, and of its text a front was printed,
+-- which may be empty.
+pub record IsUnprinted (c : Command) (desk : DeskChange) (out : SinkChange) : Type 0 where
+  pub text : List ℕ
+  pub ready : IsReady c desk text
+  pub printed : TookFront out text
+
+-- one of the three
+pub data IsUnfinished (c : Command) (desk : DeskChange) (out : SinkChange) : Type 0 where
+  untouched : IsUntouched desk out → IsUnfinished c desk out
+  unwritten : IsUnwritten c desk out → IsUnfinished c desk out
+  unprinted : IsUnprinted c desk out → IsUnfinished c desk out
+
+-- the file of this role failed: an input, before anything was written or printed; or the output, where the desk's
+-- count rose and the write didn't end, or the sink's did and the printing didn't
 pub data IsFailure (c : Command) (desk : DeskChange) (out : SinkChange) (role : Role) : Type 0 where
-  at_input : InputFailure c desk role → IsFailure c desk out role
-  at_output : role ≡ roles.Output → OutputFailure c desk out → IsFailure c desk out role
+  at_input : InputFailure c desk role → IsUntouched desk out → IsFailure c desk out role
+  at_write : role ≡ roles.Output → DeskFailed desk → IsUnwritten c desk out → IsFailure c desk out role
+  at_print : role ≡ roles.Output → SinkFailed out → IsUnprinted c desk out → IsFailure c desk out role
 
--- a line that a command may begin on the error sink before memory is wanting: none, or that of its refusal or failure
+-- a line that a command may begin on the error sink before memory is wanting, with how far it came: none, or that
+-- of its refusal or failure
 pub data MayBegin (c : Command) (desk : DeskChange) (out : SinkChange) (text : List ℕ) : Type 0 where
-  no_line : text ≡ [] → MayBegin c desk out text
-  refusal_line : (role : Role) (fault : AnyFault) → IsRefusal c desk role fault → text ≡ fault_text role fault → MayBegin c desk out text
-  failure_line : (role : Role) → IsFailure c desk out role → text ≡ fault_text role (Desk Failed) → MayBegin c desk out text
+  no_line : text ≡ [] → IsUnfinished c desk out → MayBegin c desk out text
+  refusal_line : (role : Role) (fault : AnyFault) → IsRefusal c desk role fault → IsUntouched desk out
+      → text ≡ fault_text role fault → MayBegin c desk out text
+  failure_line : (role : Role) → IsFailure c desk out role → text ≡ fault_text role (Desk Failed)
+      → MayBegin c desk out text
 
 -- ---- the five statuses
 
@@ -167,20 +186,22 @@ pub data Ended (words : List (List ℕ)) (desk : DeskChange) (out err : SinkChan
   no_command : status ≡ 2 → command_of words ≡ None → FilesStay desk → Silent out
       → Said err usage → Ended words desk out err status
   -- an input was refused: all is as it was, but for the line of the first refusal
-  refused : (c : Command) (role : Role) (fault : AnyFault) → status ≡ 3 → command_of words ≡ Some c → IsRefusal c desk role fault
-      → FilesStay desk → Silent out → Said err (fault_text role fault) → Ended words desk out err status
-  -- the outside failed: a front of the command's text may have been printed
+  refused : (c : Command) (role : Role) (fault : AnyFault) → status ≡ 3 → command_of words ≡ Some c
+      → IsRefusal c desk role fault → IsUntouched desk out → Said err (fault_text role fault)
+      → Ended words desk out err status
+  -- the outside failed: at an input all is as it was, at the write nothing was printed, and at the printing the file
+  -- is written and a front of its line may have been printed
   failed : (c : Command) (role : Role) → status ≡ 5 → command_of words ≡ Some c → IsFailure c desk out role
-      → RestStays c desk → PrintedFront c desk out → Said err (fault_text role (Desk Failed)) → Ended words desk out err status
+      → RestStays c desk → Said err (fault_text role (Desk Failed)) → Ended words desk out err status
   -- no memory for the usage text
   no_memory_for_usage : status ≡ 6 → command_of words ≡ None → FilesStay desk → Silent out
       → TookFronts err usage → Ended words desk out err status
   -- no memory for a command, or for its line
   no_memory : (c : Command) (text : List ℕ) → status ≡ 6 → command_of words ≡ Some c → RestStays c desk
-      → PrintedFront c desk out → MayBegin c desk out text → TookFronts err text → Ended words desk out err status
+      → MayBegin c desk out text → TookFronts err text → Ended words desk out err status
 
--- where the files are told, the desk's count didn't rise and an input is at fault, the status is that of the first fault, but for
--- want of memory
+-- where the files are told, the desk's count didn't rise and an input is at fault, the status is that of the first
+-- fault, but for want of memory
 abbrev pub AlwaysAtFault : Command → DeskChange → ℕ → Type 0
 AlwaysAtFault c desk status = (role : Role) (fault : AnyFault) → IsTrue desk.tells → (DeskFailed desk → ⊥)
     → first_fault c desk.held ≡ Some (role, fault) → (status ≡ status_of fault) ⊎ (status ≡ 6)

@@ -9,14 +9,16 @@ use Rattle.tm_lines.specs.Lines.{fault_text, wants_memory}
 use Rattle.tm_owed.specs.declared.stop.Stop.{Stop}
 use Rattle.tm_owed.specs.declared.stop.Stop.TheVariants as stop
 use Rattle.tm_owed.specs.Words.{Command}
-use Rattle.tm_owed.specs.Changes.{DeskChange, SinkChange, FilesStay, Silent, Said, TookFronts}
-use Rattle.tm_owed.specs.Owed.{IsRefusal, InputFailure, IsFailure, PrintedFront}
+use Rattle.tm_owed.specs.Changes.{DeskChange, SinkChange, Said, TookFronts}
+use Rattle.tm_owed.specs.Owed.{IsRefusal, InputFailure, IsFailure, IsUntouched, IsUnfinished}
 
--- why the read of a role's file stopped: told says that the desk tells its files, and file is what it holds under the name
+-- why the read of a role's file stopped: told says that the desk tells its files, and file is what it holds under the
+-- name
 abbrev pub ReadStop : Stop → Role → Type 0 → Option (List ℕ) → ℕ → ℕ → ℕ → Type 0
 ReadStop (stop.Refused by fault) role told file max before now =
     (by ≡ role) × (fault ≡ Desk (TooLong max)) × (told → IsSomeAnd file (λ text. max < length text))
-ReadStop (stop.Failed by) role told file max before now = (by ≡ role) × (Rose before now ⊎ (told × (file ≡ None)))
+ReadStop (stop.Failed by) role told file max before now =
+    (by ≡ role) × (Rose before now ⊎ (told × (file ≡ None)))
 ReadStop stop.NoMemory role told file max before now = Unit {0}
 
 -- why a step at the output stopped: a count rose
@@ -33,9 +35,9 @@ InputStop stop.NoMemory c desk = Unit {0}
 
 -- why a command stopped, and what it leaves
 abbrev pub Stopped : Stop → Command → DeskChange → SinkChange → Type 0
-Stopped (stop.Refused role fault) c desk out = IsRefusal c desk role fault × FilesStay desk × Silent out
-Stopped (stop.Failed role) c desk out = IsFailure c desk out role × PrintedFront c desk out
-Stopped stop.NoMemory c desk out = PrintedFront c desk out
+Stopped (stop.Refused role fault) c desk out = IsRefusal c desk role fault × IsUntouched desk out
+Stopped (stop.Failed role) c desk out = IsFailure c desk out role
+Stopped stop.NoMemory c desk out = IsUnfinished c desk out
 
 -- a stop whose fault has a line
 abbrev pub IsTellable : Stop → Type 0

@@ -1,5 +1,7 @@
--- The form of the command line's words, so far of the commands `build TOPO TEMPLATE OUT --seed S` and `list IMAGE`. Source: this project.
-use Rattle.std.specs.Prelude.{ℕ, Bool, false, not, ◌&&◌, ◌==◌, List, [], ◌∷◌, map, codes, if◌then◌else◌, Option, None, Some, Result, Ok, Err}
+-- The form of the command line's words, so far of the commands `build TOPO TEMPLATE OUT --seed S` and `list IMAGE`.
+-- Source: this project.
+use Rattle.std.specs.Prelude.{ℕ, Bool, false, not, ◌&&◌, ◌==◌, if◌then◌else◌}
+use Rattle.std.specs.Prelude.{List, [], ◌∷◌, map, codes, Option, None, Some, Result, Ok, Err}
 use Rattle.std.specs.Str.{bytes_eq}
 use Rattle.std.specs.String.{string_bytes}
 use Rattle.std.specs.declared.string.String.{String}
@@ -29,14 +31,16 @@ is_name (first ∷ rest) = not (first == 45)
 
 -- the command of three names and what a word reads as
 abbrev pub build_of : (topo template out : List ℕ) → Result ℕ NumberFault → Option Command
-build_of topo template out (Ok seed) = Some (to_build (record { topo = topo; template = template; out = out; seed = seed }))
+build_of topo template out (Ok seed) =
+    Some (to_build (record { topo = topo; template = template; out = out; seed = seed }))
 build_of topo template out (Err fault) = None
 
 -- the command that the words are, if they are of a form: these words, in this order
 unfoldable pub command_of : List (List ℕ) → Option Command
 command_of (name ∷ image ∷ []) = if bytes_eq name (codes "list") && is_name image then Some (to_list image) else None
 command_of (name ∷ topo ∷ template ∷ out ∷ option ∷ seed ∷ []) =
-    if bytes_eq name (codes "build") && bytes_eq option (codes "--seed") && is_name topo && is_name template && is_name out
+    if bytes_eq name (codes "build") && bytes_eq option (codes "--seed")
+    && is_name topo && is_name template && is_name out
     then build_of topo template out (number_of seed)
     else None
 command_of _ = None

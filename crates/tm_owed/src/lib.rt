@@ -1,4 +1,5 @@
-//! What commands owe, and the steps that they share: words are read, files are read and written, texts are printed, and stops are told.
+//! What commands owe, and the steps that they share: words are read, files are read and written, texts are printed, and
+//! stops are told.
 #![tactic(auto)]
 
 mod command;

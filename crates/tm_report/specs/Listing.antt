@@ -1,5 +1,6 @@
 -- The listing of a program: all slots, and what of each case isn't checked. Source: this project.
-use Rattle.std.specs.Prelude.{ℕ, suc, ◌+◌, ◌-◌, ◌*◌, ◌/◌, ◌%◌, ◌^◌, ◌==◌, Bool, not, ◌&&◌, if◌then◌else◌, List, [], ◌∷◌, ◌++◌, length, take, drop, filter, Option, None, Some, codes}
+use Rattle.std.specs.Prelude.{ℕ, suc, ◌+◌, ◌-◌, ◌*◌, ◌/◌, ◌%◌, ◌^◌, ◌==◌, Bool, not, ◌&&◌, if◌then◌else◌}
+use Rattle.std.specs.Prelude.{List, [], ◌∷◌, ◌++◌, length, take, drop, filter, Option, None, Some, codes}
 use Rattle.std.specs.List.{flat_map}
 use Rattle.std.specs.Fmt.{decimal}
 use Rattle.tm_base.specs.Numbers.{hex_text}
@@ -49,9 +50,13 @@ saved_registers = count_from 1 30
 unfoldable pub register_entry : ℕ → List ℕ
 register_entry r = codes " x" ++ decimal r
 
--- the line of the saved registers of a hart that aren't checked, in order
+-- the entries of the saved registers of a hart that aren't checked, in order
+abbrev pub register_entries : ℕ → List ℕ
+register_entries mask = flat_map register_entry (filter (is_unchecked mask) saved_registers)
+
+-- their line
 unfoldable pub unchecked_line : ℕ → List ℕ
-unchecked_line mask = codes "unchecked" ++ or_none (flat_map register_entry (filter (is_unchecked mask) saved_registers)) ++ codes "\n"
+unchecked_line mask = codes "unchecked" ++ or_none (register_entries mask) ++ codes "\n"
 
 -- the bits of mask bytes: bit j is set where byte j is 0, so that it isn't checked
 abbrev pub unchecked_bits : List ℕ → ℕ
@@ -70,9 +75,13 @@ is_listed cases bytes a = is_declared cases a && not (dword_bits bytes a == 0)
 unfoldable pub dword_entry : List ℕ → ℕ → List ℕ
 dword_entry bytes a = codes " 0x" ++ hex_text 8 a ++ codes ":" ++ hex_text 2 (dword_bits bytes a)
 
--- the line of the declared dwords of which a byte isn't checked, in address order
+-- the entries of the declared dwords of which a byte isn't checked, in address order
+abbrev pub dword_entries : Cases → List ℕ → List ℕ
+dword_entries cases bytes = flat_map (dword_entry bytes) (filter (is_listed cases bytes) window_dwords)
+
+-- their line
 unfoldable pub bytes_line : Cases → List ℕ → List ℕ
-bytes_line cases bytes = codes "bytes" ++ or_none (flat_map (dword_entry bytes) (filter (is_listed cases bytes) window_dwords)) ++ codes "\n"
+bytes_line cases bytes = codes "bytes" ++ or_none (dword_entries cases bytes) ++ codes "\n"
 
 -- ---- harts and cases
 

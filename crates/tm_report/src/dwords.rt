@@ -4,7 +4,8 @@ ghost use Rattle.std.specs.List.{flat_map};
 ghost use Rattle.tm_plan.specs.Map.{windows_base};
 ghost use Rattle.tm_plan.specs.Collected.{any, declares as window_declares, is_declared as declared, window_dwords};
 ghost use Rattle.tm_plan.specs.Shaped.{IsShapedWindow};
-ghost use Rattle.tm_report.specs.Listing.{bytes_line, dword_bits as bits_at, dword_entry, is_listed as listed, unchecked_bits as bits_of};
+ghost use Rattle.tm_report.specs.Listing.{bytes_line, dword_bits as bits_at, dword_entries, dword_entry};
+ghost use Rattle.tm_report.specs.Listing.{is_listed as listed, unchecked_bits as bits_of};
 
 use crate::entries::put_entries;
 use std::alloc::Global;
@@ -108,7 +109,7 @@ fn put_dword(out: &mut Bytes, cases: &Cases, bytes: &[u8], number: usize) -> Res
 fn put_dwords(out: &mut Bytes, cases: &Cases, bytes: &[u8]) -> Result<(), NoMemory>
     requires windows { All (IsShapedWindow cases.now.line) cases.now.windows }
     requires bytes { length bytes.now ≡ 6144 }
-    ensures { OnOk result (out.new ≡ out.old ++ flat_map (dword_entry bytes.now) (filter (listed cases.now bytes.now) window_dwords)) }
+    ensures { OnOk result (out.new ≡ out.old ++ dword_entries cases.now bytes.now) }
 {
     for number in 0..DWORDS {
         put_dword(out, cases, bytes, number)?;

@@ -1,7 +1,7 @@
 // The registers that aren't checked.
 ghost use Rattle.std.specs.Prelude.{◌≡◌, ◌++◌, ◌∷◌, [], ◌<◌, OnOk, filter};
 ghost use Rattle.std.specs.List.{flat_map};
-ghost use Rattle.tm_report.specs.Listing.{is_unchecked as bit_is_clear, register_entry, unchecked_line, saved_registers};
+ghost use Rattle.tm_report.specs.Listing.{is_unchecked as bit_is_clear, register_entries, register_entry, unchecked_line};
 
 use crate::entries::put_entries;
 use std::alloc::Global;
@@ -29,7 +29,7 @@ fn put_register(out: &mut Bytes, mask: u32, r: u32) -> Result<(), NoMemory>
 }
 
 fn put_registers(out: &mut Bytes, mask: u32) -> Result<(), NoMemory>
-    ensures { OnOk result (out.new ≡ out.old ++ flat_map register_entry (filter (bit_is_clear mask) saved_registers)) }
+    ensures { OnOk result (out.new ≡ out.old ++ register_entries mask) }
 {
     for r in 1..31 {
         put_register(out, mask, r)?;

@@ -12,13 +12,12 @@ use Rattle.tm_lines.specs.Lines.{fault_text}
 use Rattle.tm_owed.specs.Texts.{usage}
 use Rattle.tm_owed.specs.Inputs.{first_fault}
 use Rattle.tm_owed.specs.Changes.{DeskChange, SinkChange, DeskFailed, SinkFailed, FilesStay, OtherFilesStay, Silent}
-use Rattle.tm_owed.specs.Owed.{Owes, Ended, IsDone, IsRefusal, IsFailure, PrintedFront, RestStays, AlwaysAtFault, AlwaysDone, status_of}
-use Rattle.tm_owed.specs.Owed.PrintedFront.{nothing}
+use Rattle.tm_owed.specs.Owed.{Owes, Ended, IsDone, IsReady, IsRefusal, IsFailure, IsUntouched, RestStays}
+use Rattle.tm_owed.specs.Owed.{AlwaysAtFault, AlwaysDone, status_of}
 use Rattle.tm_owed.specs.Owed.MayBegin.{no_line, refusal_line, failure_line}
 use Rattle.tm_owed.specs.Owed.Ended.{done, no_command, refused, failed, no_memory_for_usage, no_memory}
 use Rattle.tm_owed.specs.Owed.InputFailure.{unread, missing}
-use Rattle.tm_owed.specs.Owed.OutputFailure.{unwritten, unprinted}
-use Rattle.tm_owed.specs.Owed.IsFailure.{at_input, at_output}
+use Rattle.tm_owed.specs.Owed.IsFailure.{at_input, at_write, at_print}
 use Rattle.tm_owed.specs.Steps.{Stopped, Told, Reported, IsTellable}
 use Rattle.tm_owed.specs.Steps.Told.{told_whole, told_short}
 
@@ -44,31 +43,32 @@ rest_stays : (c : Command) (desk : DeskChange) → FilesStay desk → RestStays 
 rest_stays (to_build b) desk stay = others_stay desk b.out stay
 rest_stays (to_list image) desk stay = stay
 
-ended_refused : (words : List (List ℕ)) (c : Command) (desk : DeskChange) (out err : SinkChange) (role : Role) (fault : AnyFault) (status : ℕ)
-    → command_of words ≡ Some c → IsRefusal c desk role fault → FilesStay desk → Silent out → Told err (fault_text role fault) 3 status
-    → Ended words desk out err status
-ended_refused words c desk out err role fault status is_c refusal stay silent (told_whole three said) =
-    refused c role fault three is_c refusal stay silent said
-ended_refused words c desk out err role fault status is_c refusal stay silent (told_short six fronts) =
-    no_memory c (fault_text role fault) six is_c (rest_stays c desk stay) (nothing silent) (refusal_line role fault refusal refl) fronts
+ended_refused : (words : List (List ℕ)) (c : Command) (desk : DeskChange) (out err : SinkChange) (role : Role)
+    (fault : AnyFault) (status : ℕ) → command_of words ≡ Some c → IsRefusal c desk role fault → IsUntouched desk out
+    → Told err (fault_text role fault) 3 status → Ended words desk out err status
+ended_refused words c desk out err role fault status is_c refusal kept (told_whole three said) =
+    refused c role fault three is_c refusal kept said
+ended_refused words c desk out err role fault status is_c refusal kept (told_short six fronts) =
+    no_memory c (fault_text role fault) six is_c (rest_stays c desk kept.files)
+    (refusal_line role fault refusal kept refl) fronts
 
-ended_failed : (words : List (List ℕ)) (c : Command) (desk : DeskChange) (out err : SinkChange) (role : Role) (status : ℕ)
-    → command_of words ≡ Some c → IsFailure c desk out role → RestStays c desk → PrintedFront c desk out
+ended_failed : (words : List (List ℕ)) (c : Command) (desk : DeskChange) (out err : SinkChange) (role : Role)
+    (status : ℕ) → command_of words ≡ Some c → IsFailure c desk out role → RestStays c desk
     → Told err (fault_text role (Desk Failed)) 5 status → Ended words desk out err status
-ended_failed words c desk out err role status is_c failure others printed (told_whole five said) =
-    failed c role five is_c failure others printed said
-ended_failed words c desk out err role status is_c failure others printed (told_short six fronts) =
-    no_memory c (fault_text role (Desk Failed)) six is_c others printed (failure_line role failure refl) fronts
+ended_failed words c desk out err role status is_c failure others (told_whole five said) =
+    failed c role five is_c failure others said
+ended_failed words c desk out err role status is_c failure others (told_short six fronts) =
+    no_memory c (fault_text role (Desk Failed)) six is_c others (failure_line role failure refl) fronts
 
 -- a command that stopped
 pub ended_stopped : (s : Stop) (words : List (List ℕ)) (c : Command) (desk : DeskChange) (out err : SinkChange) (status : ℕ)
     → command_of words ≡ Some c → Stopped s c desk out → RestStays c desk → Reported s err status → Ended words desk out err status
-ended_stopped (stop.Refused role fault) words c desk out err status is_c (refusal, stay, silent) others reported =
-    ended_refused words c desk out err role fault status is_c refusal stay silent reported
-ended_stopped (stop.Failed role) words c desk out err status is_c (failure, printed) others reported =
-    ended_failed words c desk out err role status is_c failure others printed reported
-ended_stopped stop.NoMemory words c desk out err status is_c printed others (six, fronts) =
-    no_memory c _ six is_c others printed (no_line refl) fronts
+ended_stopped (stop.Refused role fault) words c desk out err status is_c (refusal, kept) others reported =
+    ended_refused words c desk out err role fault status is_c refusal kept reported
+ended_stopped (stop.Failed role) words c desk out err status is_c failure others reported =
+    ended_failed words c desk out err role status is_c failure others reported
+ended_stopped stop.NoMemory words c desk out err status is_c unfinished others (six, fronts) =
+    no_memory c _ six is_c others (no_line refl unfinished) fronts
 
 -- ---- what follows
 
@@ -82,10 +82,10 @@ always_usage : (words : List (List ℕ)) (desk : DeskChange) (out err : SinkChan
     → command_of words ≡ None → (status ≡ 2) ⊎ (status ≡ 6)
 always_usage words desk out err status (done c zero is_c job others silent) none = absurd (no_words words c none is_c)
 always_usage words desk out err status (no_command two _ stay silent said) none = inl two
-always_usage words desk out err status (refused c role fault three is_c refusal stay silent said) none = absurd (no_words words c none is_c)
-always_usage words desk out err status (failed c role five is_c failure others printed said) none = absurd (no_words words c none is_c)
+always_usage words desk out err status (refused c role fault three is_c refusal kept said) none = absurd (no_words words c none is_c)
+always_usage words desk out err status (failed c role five is_c failure others said) none = absurd (no_words words c none is_c)
 always_usage words desk out err status (no_memory_for_usage six _ stay silent fronts) none = inr six
-always_usage words desk out err status (no_memory c text six is_c others printed begun fronts) none = inr six
+always_usage words desk out err status (no_memory c text six is_c others begun fronts) none = inr six
 
 no_first : (c : Command) (desk : DeskChange) (role : Role) (fault : AnyFault) → first_fault c desk.held ≡ None → first_fault c desk.held ≡ Some (role, fault) → ⊥
 no_first c desk role fault none some = let apart : ◌≡◌ {A = Option (Role × AnyFault)} None (Some (role, fault)) = sym none ∙ some in cc
@@ -98,51 +98,54 @@ same_fault : (c : Command) (desk : DeskChange) (role other_role : Role) (fault o
 same_fault c desk role other_role fault other is is_other =
     ap (λ (p : Role × AnyFault). p.1) (same_first (role, fault) (other_role, other) (sym is ∙ is_other))
 
+-- where a text is ready, no input is at fault
+ready_accepted : (c : Command) (desk : DeskChange) (text : List ℕ) → IsReady c desk text → IsTrue desk.tells
+    → first_fault c desk.held ≡ None
+ready_accepted (to_build b) desk text ready tells = ready.image.accepted tells
+ready_accepted (to_list image) desk text ready tells = ready.accepted tells
+
 -- a failure with no count risen is that of the first fault
 failure_first : (c : Command) (desk : DeskChange) (out : SinkChange) (role wrong : Role) (fault : AnyFault) → IsFailure c desk out role → IsTrue desk.tells
     → (DeskFailed desk → ⊥) → first_fault c desk.held ≡ Some (wrong, fault) → 5 ≡ status_of fault
-failure_first c desk out role wrong fault (at_input (unread input rose)) tells calm is = absurd (calm rose)
-failure_first c desk out role wrong fault (at_input (missing _ first)) tells calm is = ap status_of (same_fault c desk role wrong (Desk Failed) fault first is)
-failure_first c desk out role wrong fault (at_output output (unwritten _ rose)) tells calm is = absurd (calm rose)
-failure_first c desk out role wrong fault (at_output output (unprinted rose none)) tells calm is = absurd (no_first c desk wrong fault (none tells) is)
-
--- where the job is done, no input is at fault
-done_accepted : (c : Command) (desk : DeskChange) (out : SinkChange) → IsDone c desk out → IsTrue desk.tells → first_fault c desk.held ≡ None
-done_accepted (to_build b) desk out job tells = job.image.accepted tells
-done_accepted (to_list image) desk out job tells = job.listing.accepted tells
+failure_first c desk out role wrong fault (at_input (unread input rose before) kept) tells calm is = absurd (calm rose)
+failure_first c desk out role wrong fault (at_input (missing _ first) kept) tells calm is =
+    ap status_of (same_fault c desk role wrong (Desk Failed) fault first is)
+failure_first c desk out role wrong fault (at_write output rose left) tells calm is = absurd (calm rose)
+failure_first c desk out role wrong fault (at_print output rose left) tells calm is =
+    absurd (no_first c desk wrong fault (ready_accepted c desk left.text left.ready tells) is)
 
 at_fault : (words : List (List ℕ)) (c : Command) (desk : DeskChange) (out err : SinkChange) (status : ℕ) → Ended words desk out err status
     → command_of words ≡ Some c → AlwaysAtFault c desk status
 at_fault words c desk out err status (done other zero is_other job others silent) is_c = λ wrong fault tells calm is.
-    absurd (no_first c desk wrong fault (rw (same_command words c other is_c is_other) (done_accepted other desk out job tells)) is)
+    absurd (no_first c desk wrong fault (rw (same_command words c other is_c is_other) (ready_accepted other desk job.text job.ready tells)) is)
 at_fault words c desk out err status (no_command two none stay silent said) is_c = absurd (no_words words c none is_c)
-at_fault words c desk out err status (refused other role fault three is_other refusal stay silent said) is_c = λ wrong first tells calm is.
+at_fault words c desk out err status (refused other role fault three is_other refusal kept said) is_c = λ wrong first tells calm is.
     let same = rw (← same_command words c other is_c is_other) at refusal.first tells in
     inl (three ∙ sym refusal.status ∙ ap status_of (same_fault c desk role wrong fault first same is))
-at_fault words c desk out err status (failed other role five is_other failure others printed said) is_c = λ wrong first tells calm is.
+at_fault words c desk out err status (failed other role five is_other failure others said) is_c = λ wrong first tells calm is.
     let same = rw (← same_command words c other is_c is_other) at failure in
     inl (five ∙ failure_first c desk out role wrong first same tells calm is)
 at_fault words c desk out err status (no_memory_for_usage six none stay silent fronts) is_c = absurd (no_words words c none is_c)
-at_fault words c desk out err status (no_memory other text six is_other others printed begun fronts) is_c = λ wrong first tells calm is. inr six
+at_fault words c desk out err status (no_memory other text six is_other others begun fronts) is_c = λ wrong first tells calm is. inr six
 
 -- with no count risen and no fault of an input, nothing failed
 failure_none : (c : Command) (desk : DeskChange) (out : SinkChange) (role : Role) → IsFailure c desk out role
     → (DeskFailed desk → ⊥) → (SinkFailed out → ⊥) → first_fault c desk.held ≡ None → ⊥
-failure_none c desk out role (at_input (unread input rose)) calm quiet none = calm rose
-failure_none c desk out role (at_input (missing _ first)) calm quiet none = no_first c desk role (Desk Failed) none first
-failure_none c desk out role (at_output output (unwritten _ rose)) calm quiet none = calm rose
-failure_none c desk out role (at_output output (unprinted rose _)) calm quiet none = quiet rose
+failure_none c desk out role (at_input (unread input rose before) kept) calm quiet none = calm rose
+failure_none c desk out role (at_input (missing _ first) kept) calm quiet none = no_first c desk role (Desk Failed) none first
+failure_none c desk out role (at_write output rose left) calm quiet none = calm rose
+failure_none c desk out role (at_print output rose left) calm quiet none = quiet rose
 
 always_done : (words : List (List ℕ)) (c : Command) (desk : DeskChange) (out err : SinkChange) (status : ℕ) → Ended words desk out err status
     → command_of words ≡ Some c → AlwaysDone c desk out status
 always_done words c desk out err status (done other zero is_other job others silent) is_c = λ tells calm quiet none. inl zero
 always_done words c desk out err status (no_command two none stay silent said) is_c = absurd (no_words words c none is_c)
-always_done words c desk out err status (refused other role fault three is_other refusal stay silent said) is_c = λ tells calm quiet none.
+always_done words c desk out err status (refused other role fault three is_other refusal kept said) is_c = λ tells calm quiet none.
     let same = rw (← same_command words c other is_c is_other) at refusal.first tells in absurd (no_first c desk role fault none same)
-always_done words c desk out err status (failed other role five is_other failure others printed said) is_c = λ tells calm quiet none.
+always_done words c desk out err status (failed other role five is_other failure others said) is_c = λ tells calm quiet none.
     let same = rw (← same_command words c other is_c is_other) at failure in absurd (failure_none c desk out role same calm quiet none)
 always_done words c desk out err status (no_memory_for_usage six none stay silent fronts) is_c = absurd (no_words words c none is_c)
-always_done words c desk out err status (no_memory other text six is_other others printed begun fronts) is_c = λ tells calm quiet none. inr six
+always_done words c desk out err status (no_memory other text six is_other others begun fronts) is_c = λ tells calm quiet none. inr six
 
 -- all that a call owes follows of how it ended
 pub owes : (words : List (List ℕ)) (desk : DeskChange) (out err : SinkChange) (status : ℕ) → Ended words desk out err status → Owes words desk out err status

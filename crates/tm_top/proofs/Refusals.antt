@@ -67,7 +67,7 @@ topology_stop (stop.Refused by fault) b desk (role_is, fault_is, h) = rw (role_i
   has_line = refl;
   first = λ told. at_topology b desk.held _ (topology_long b desk.held (h told));
 })
-topology_stop (stop.Failed by) b desk (role_is, inl rose) = rw role_is (unread refl rose)
+topology_stop (stop.Failed by) b desk (role_is, inl rose) = rw role_is (unread refl rose (λ told. refl))
 topology_stop (stop.Failed by) b desk (role_is, inr (told, none)) =
     rw role_is (missing told (at_topology b desk.held _ (topology_missing b desk.held none)))
 topology_stop stop.NoMemory b desk h = tt
@@ -125,7 +125,8 @@ template_stop (stop.Refused by fault) b desk text there faults topology same lat
       (template_long b desk.held (subst (λ file. IsSomeAnd file (λ template. template_limit < length template)) (same told) (h told)));
 })
 template_stop (stop.Failed by) b desk text there faults topology same later (role_is, inl rose) =
-    let risen : DeskFailed desk = omega arith in rw role_is (unread refl risen)
+    let risen : DeskFailed desk = omega arith in
+    rw role_is (unread refl risen (λ told. topology_accepted b desk text topology told))
 template_stop (stop.Failed by) b desk text there faults topology same later (role_is, inr (told, none)) =
     rw role_is (missing told (at_template b desk.held _ (topology_accepted b desk text topology told)
     (template_missing b desk.held (sym (same told) ∙ none))))

@@ -21,6 +21,7 @@ pub record IsTopology (b : Build) (tells : Bool) (held : Files) (text : List ℕ
 -- why no image is built of two texts
 abbrev pub ImageStop : Stop → Result Admitted InputFault → Type 0
 ImageStop (stop.Refused by fault) reading =
-    (refusal : InputFault) × (reading ≡ Err refusal) × (by ≡ role_of roles.Template (Input refusal)) × (fault ≡ Input refusal) × (wants_memory (Input refusal) ≡ false)
+    (refusal : InputFault) × (reading ≡ Err refusal) × (by ≡ role_of roles.Template (Input refusal))
+    × (fault ≡ Input refusal) × (wants_memory (Input refusal) ≡ false)
 ImageStop (stop.Failed by) reading = ⊥
 ImageStop stop.NoMemory reading = Unit {0}

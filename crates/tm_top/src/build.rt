@@ -3,7 +3,7 @@ ghost use Rattle.std.specs.Prelude.{IfErr, OnOk};
 ghost use Rattle.tm_owed.specs.Words.{build_in};
 ghost use Rattle.tm_owed.specs.Words.Command.{to_build};
 ghost use Rattle.tm_owed.specs.Changes.{desk_change, sink_change, OtherFilesStay};
-ghost use Rattle.tm_owed.specs.Owed.{IsBuilt};
+ghost use Rattle.tm_owed.specs.Owed.{IsDone};
 ghost use Rattle.tm_owed.specs.Steps.{Stopped};
 
 use crate::inputs::make_image;
@@ -19,7 +19,7 @@ pub fn build_command<D: Desk, O: Sink>(
     desk: &mut D,
     out: &mut O,
 ) -> Result<(), Stop>
-    ensures done { OnOk result (IsBuilt (build_in b.now)
+    ensures done { OnOk result (IsDone (to_build (build_in b.now))
         (desk_change D.tells D.held D.faults desk.old desk.new)
         (sink_change O.tells O.taken O.faults out.old out.new)) }
     ensures stopped { IfErr result (λ stop. Stopped stop (to_build (build_in b.now))

@@ -66,9 +66,9 @@ fn status_of_call<D: Desk, O: Sink, E: Sink>(
 
 /// Does what the words say, over what is handed in. It waits for nobody.
 ///
-/// So far there are two commands, `build TOPO TEMPLATE OUT --seed S` and `list IMAGE`. The statuses are 0 where the job was done, 2 for words
-/// that are no command, 3 for an input that is refused or too long, 5 where the desk or the output sink failed or an input
-/// is missing, and 6 for want of memory.
+/// So far there are two commands, `build TOPO TEMPLATE OUT --seed S` and `list IMAGE`. The statuses are 0 where the job
+/// was done, 2 for words that are no command, 3 for an input that is refused or too long, 5 where the desk or the output
+/// sink failed or an input is missing, and 6 for want of memory.
 #[tactic(auto, using(crate::proofs::Owing::owes))]
 pub fn still<D: Desk, O: Sink, E: Sink>(
     alloc: Global,

@@ -6,6 +6,8 @@ mod call;
 mod image;
 mod inputs;
 mod made;
+mod program;
 
 pub use call::{Outcome, still};
+pub use program::{NoWords, exit_status, run};
 pub use tm_lines::{AnyFault, Role, fault_line};

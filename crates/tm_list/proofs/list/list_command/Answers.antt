@@ -8,4 +8,4 @@ returns-clause-stopped g c =
     print_stopped c.in-Err-print_text.stop (to_list c.args.image.now)
     (desk_change g.D.Desk.tells g.D.Desk.held g.D.Desk.faults c.args.desk.now c.read_listing.new.desk)
     (sink_change g.O.Sink.tells g.O.Sink.taken g.O.Sink.faults c.args.out.now c.print_text.new.out)
-    c.in-Ok.text c.in-Ok.ensures.ok c.in-Ok.ensures.ok.accepted c.in-Err-print_text.ensures.front c.in-Err-print_text.ensures.cause
+    c.in-Ok.text c.in-Ok.ensures.ok c.in-Err-print_text.ensures.front c.in-Err-print_text.ensures.cause
