@@ -2,7 +2,7 @@
 ghost use Rattle.std.specs.Prelude.{◌≡◌, ◌++◌, ◌*◌, ◌+◌, ◌<◌, ◌≤◌, ◌^◌, OnOk, All, ◌∷◌, [], filter, length};
 ghost use Rattle.std.specs.List.{flat_map};
 ghost use Rattle.tm_plan.specs.Map.{windows_base};
-ghost use Rattle.tm_plan.specs.Collected.{any, declares as window_declares, is_declared as declared, window_dwords};
+ghost use Rattle.tm_plan.specs.Collected.{any, declares as window_declares, is_declared as declared};
 ghost use Rattle.tm_plan.specs.Shaped.{IsShapedWindow};
 ghost use Rattle.tm_report.specs.Listing.{bytes_line, dword_bits as bits_at, dword_entries, dword_entry};
 ghost use Rattle.tm_report.specs.Listing.{is_listed as listed, unchecked_bits as bits_of};
