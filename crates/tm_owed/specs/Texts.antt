@@ -5,10 +5,7 @@ use Rattle.tm_plan.specs.declared.program.Program.{Program}
 
 -- what is said of words that are no command
 unfoldable pub usage : List ℕ
-usage =
-    codes "usage: threadmill build TOPO TEMPLATE OUT --seed S\n" ++ codes "       threadmill list IMAGE\n"
-    ++ codes "       threadmill run IMAGE [--events N] [--order threads|round] [--faults F] [--trace OUT]\n"
-    ++ codes "       threadmill sample N\n"
+usage = codes "usage: threadmill build TOPO TEMPLATE OUT --seed S\n       threadmill list IMAGE\n       threadmill run IMAGE [--events N] [--order threads|round] [--faults F] [--trace OUT]\n       threadmill sample N\n"
 
 -- what is said for want of memory
 unfoldable pub no_memory : List ℕ

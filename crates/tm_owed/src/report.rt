@@ -10,11 +10,8 @@ use std::alloc::Global;
 use tm_desk::{DeskError, Sink, SinkError, put_all};
 use tm_lines::{AnyFault, Role, fault_line};
 
-const USAGE: &[u8] = b"usage: threadmill build TOPO TEMPLATE OUT --seed S
-       threadmill list IMAGE
-       threadmill run IMAGE [--events N] [--order threads|round] [--faults F] [--trace OUT]
-       threadmill sample N
-";
+const USAGE: &[u8] =
+    b"usage: threadmill build TOPO TEMPLATE OUT --seed S\n       threadmill list IMAGE\n       threadmill run IMAGE [--events N] [--order threads|round] [--faults F] [--trace OUT]\n       threadmill sample N\n";
 
 const NO_MEMORY: &[u8] = b"threadmill: no memory\n";
 
