@@ -26,16 +26,7 @@ use std::process::ExitCode;
 use tm_desk::{Desk, RealDesk, RealSink, Sink, put_all};
 
 const FILES: [&str; 10] = [
-    "texts",
-    "numbers",
-    "lines",
-    "words",
-    "steps",
-    "grammar",
-    "rules",
-    "labels",
-    "elf",
-    "commands",
+    "texts", "numbers", "lines", "words", "steps", "grammar", "rules", "labels", "elf", "commands",
 ];
 
 /// Prints the answers of a file, or gives the status of a failure.
