@@ -11,7 +11,7 @@ use Rattle.tm_plan_owned.proofs.Windows.{IsLine, line-of, lines-few, lines_are_o
 
 -- ---- sizes
 
-harts_most : (cases : Cases) → AreShaped cases → cases.harts ≤ 16
+pub harts_most : (cases : Cases) → AreShaped cases → cases.harts ≤ 16
 harts_most cases s = omega (arith, s.harts)
 
 pub line_most : (cases : Cases) → AreShaped cases → cases.line ≤ 128
