@@ -73,7 +73,10 @@ fn bytes_at(cases: &Cases, c: u32) -> u64
 fn put_closing(code: &mut Code) -> Result<(), NoMemory>
     ensures { OnOk result (code.new ≡ puts code.old closing) }
 {
-    put_all(code, &[addi(8, 0, 0), jump(12), slli(9, 9, 32), add(8, 8, 9)])
+    put_all(
+        code,
+        &[addi(8, 0, 0), jump(12), slli(9, 9, 32), add(8, 8, 9)],
+    )
 }
 
 fn put_all_passes(
@@ -138,5 +141,12 @@ fn put_pass_tail(code: &mut Code, passes: u16, long: u16) -> Result<(), NoMemory
     requires { (passes ≤ 8) × (long ≤ 200) }
     ensures { OnOk result (code.new ≡ puts code.old (pass_tail passes long)) }
 {
-    put_all(code, &[addi(9, 9, 1), addi(10, 0, passes), bne_back(9, 10, 4 * (long + 2))])
+    put_all(
+        code,
+        &[
+            addi(9, 9, 1),
+            addi(10, 0, passes),
+            bne_back(9, 10, 4 * (long + 2)),
+        ],
+    )
 }

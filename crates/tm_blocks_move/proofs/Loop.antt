@@ -117,7 +117,7 @@ module _ (w : World) (lo hi : ℕ) (A : Access → Type 0) (quiet : A Quiet) whe
           code = code.1.1.1.1.1.0;
           moved = quiet_moved w (line_moves p q n) s t s5 refl refl
               (λ r n1 n2 n3 n4. get_put_other s4.regs 4 k r n4 ∙ (get_put_other s3.regs 2 (q + (b + b)) r n2 ∙ (get_put_other s2.regs 2 (q + b) r n2 ∙ (get_put_other s1.regs 1 (p + (a + a)) r n1 ∙ get_put_other t.regs 1 (p + a) r n1))))
-              (λ f. fit_put s4.regs 4 k (omega arith) (fit_put s3.regs 2 (q + (b + b)) ql (fit_put s2.regs 2 (q + b) (omega arith) (fit_put s1.regs 1 (p + (a + a)) pl (fit_put t.regs 1 (p + a) (omega arith) f)))))  h.moved;
+              (λ f. fit_put s4.regs 4 k (omega arith) (fit_put s3.regs 2 (q + (b + b)) ql (fit_put s2.regs 2 (q + b) (omega arith) (fit_put s1.regs 1 (p + (a + a)) pl (fit_put t.regs 1 (p + a) (omega arith) f))))) h.moved;
         })))))))
 
     -- what the loop does with k + 1 lines left

@@ -53,7 +53,13 @@ fn put_target(code: &mut Code) -> Result<(), NoMemory>
     put_all(code, &[addi(2, 9, 240)])
 }
 
-fn put_first_window(code: &mut Code, cases: &Cases, h: u32, from: u64, v: u32) -> Result<(), NoMemory>
+fn put_first_window(
+    code: &mut Code,
+    cases: &Cases,
+    h: u32,
+    from: u64,
+    v: u32,
+) -> Result<(), NoMemory>
     requires shaped { AreShaped cases.now }
     requires mine { h < cases.now.harts }
     requires near { from < 2 ^ 63 }
@@ -63,7 +69,14 @@ fn put_first_window(code: &mut Code, cases: &Cases, h: u32, from: u64, v: u32) -
     let lines = line_count(cases, h, v) as u16;
     let half = half_of(cases);
     put_constant(code, 2, line_addr(cases, h, v))?;
-    put_move_lines(code, from + line_place(cases, h, v), lines, dwords_of(cases), half, half)
+    put_move_lines(
+        code,
+        from + line_place(cases, h, v),
+        lines,
+        dwords_of(cases),
+        half,
+        half,
+    )
 }
 
 fn put_collect_windows(code: &mut Code, cases: &Cases, h: u32) -> Result<(), NoMemory>
@@ -85,7 +98,14 @@ fn put_collect_window(code: &mut Code, cases: &Cases, h: u32, v: u32) -> Result<
 {
     let lines = line_count(cases, h, v) as u16;
     let line = line_addr(cases, h, v);
-    put_move_lines(code, line, lines, dwords_of(cases), half_of(cases), bytes_of(cases) / 2)
+    put_move_lines(
+        code,
+        line,
+        lines,
+        dwords_of(cases),
+        half_of(cases),
+        bytes_of(cases) / 2,
+    )
 }
 
 // Half of the way from a line of a hart to its next.
@@ -98,7 +118,14 @@ fn half_of(cases: &Cases) -> u16
 }
 
 // So many lines of `n` dwords, if there are any, go to x2.
-fn put_move_lines(code: &mut Code, from: u64, lines: u16, n: u16, a: u16, b: u16) -> Result<(), NoMemory>
+fn put_move_lines(
+    code: &mut Code,
+    from: u64,
+    lines: u16,
+    n: u16,
+    a: u16,
+    b: u16,
+) -> Result<(), NoMemory>
     requires few { lines < 2048 }
     requires short { n ≤ 16 }
     requires near { (a < 2048) × (b < 2048) }
