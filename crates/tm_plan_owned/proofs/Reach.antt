@@ -1,5 +1,5 @@
 -- How far the lines of a hart reach, and how many dwords they have.
-use Rattle.std.proofs.Common.{◌≡◌, ℕ, zero, suc, ◌+◌, ◌-◌, ◌*◌, ◌/◌, ◌%◌, ◌<◌, ◌≤◌, List, [], ◌∷◌, ◌++◌, length, map, refl, sym, ap, ◌∙◌, arith, append-nil, length-append}
+use Rattle.std.proofs.Common.{◌≡◌, ℕ, zero, suc, ◌+◌, ◌-◌, ◌*◌, ◌/◌, ◌%◌, ◌<◌, ◌≤◌, [], ◌++◌, length, map, refl, sym, ap, ◌∙◌, arith, append-nil, length-append}
 use Rattle.std.proofs.Math.Nat.{mul-le-mul_left, mod-add-div}
 use Rattle.tm_plan.specs.declared.cases.Cases.{Cases}
 use Rattle.tm_plan.specs.Map.{windows_base}
@@ -11,7 +11,7 @@ use Rattle.tm_plan_owned.proofs.Windows.{IsLine, line-of, lines-few, lines_are_o
 
 -- ---- sizes
 
-harts_most : (cases : Cases) → AreShaped cases → cases.harts ≤ 16
+pub harts_most : (cases : Cases) → AreShaped cases → cases.harts ≤ 16
 harts_most cases s = omega (arith, s.harts)
 
 pub line_most : (cases : Cases) → AreShaped cases → cases.line ≤ 128
@@ -98,4 +98,3 @@ module _ (cases : Cases) (h : ℕ) (s : AreShaped cases) (mine : h < cases.harts
       let p : ℕ → ℕ = λ v. windows_base + line_place cases h v in
       ap length (lines_are_owned cases h s mine)
       ∙ omega (arith, length-append (o 0) (o 1 ++ (o 2 ++ [])), length-append (o 1) (o 2 ++ []), ap length (append-nil (o 2)), length-lines (p 0) n a (line_count cases h 0), length-lines (p 1) n a (line_count cases h 1), length-lines (p 2) n a (line_count cases h 2))
-
