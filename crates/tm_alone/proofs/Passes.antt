@@ -12,7 +12,7 @@ use Rattle.tm_table.specs.Row.{Effect, Gives, Loads, Stores, Branches, Jumps, ef
 use Rattle.tm_plan.specs.declared.program.Program.{Program}
 use Rattle.tm_plan.specs.declared.cases.Case.{Case}
 use Rattle.tm_plan.specs.declared.cases.Stream.{Stream}
-use Rattle.tm_plan.specs.Slots.{instr_of}
+use Rattle.tm_plan_map.specs.Slots.{instr_of}
 use Rattle.tm_plan.specs.Collected.{is_declared}
 use Rattle.tm_world.specs.Place.{case_count, inside, word_at, image_byte, byte_of}
 use Rattle.tm_world.specs.Run.{Step, Always, now, first_state, access_of, read_value, written, Reads, HasShape}

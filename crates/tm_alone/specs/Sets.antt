@@ -15,5 +15,5 @@ abbrev pub SetsFirst : Program → ℕ → Hart → List Step → Type 0
 SetsFirst p h first = Always (λ past s. (e b : ℕ) (case : Case)
     → slice_get p.cases.cases (case_of_round p e) ≡ Some case
     → IsTrue (comes_to p h (Enter (case_of_round p e)) (now first past).pc s.after.pc)
-        → IsTrue (is_declared p.cases b) → collector p.cases b ≡ h
+    → IsTrue (is_declared p.cases b) → collector p.cases b ≡ h
     → last_write b (s ∷ past) ≡ Some (first_byte (first_dwords p e case) b))

@@ -1,5 +1,2 @@
-pub mod Cutting
-pub mod Cut
-pub mod Back
-pub mod Printed
-mod Rows
+pub mod Words
+pub mod Append

@@ -1,3 +1,1 @@
-pub mod Shapes
-pub mod Reading
-pub mod Printing
+pub mod Sheet

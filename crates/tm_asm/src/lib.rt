@@ -1,13 +1,9 @@
-//! Assembler text: one instruction, read and printed.
+//! Assembler: lines of text both ways, and labelled code, which becomes words.
 #![tactic(auto)]
 
+mod code;
 mod fault;
-mod line;
-mod print;
-mod read;
-mod shape;
 
-pub use fault::AsmFault;
-pub use print::print_line;
-pub use read::parse_line;
-pub use shape::name as op_name;
+pub use code::{Code, Label};
+pub use fault::CodeFault;
+pub use tm_asm_line::{AsmFault, op_name, parse_line, print_line};

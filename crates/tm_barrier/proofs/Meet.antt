@@ -2,8 +2,8 @@
 use Rattle.std.proofs.Common.{◌≡◌, ℕ, zero, suc, ◌+◌, ◌*◌, ◌<◌, ◌≤◌, List, [], ◌∷◌, ◌++◌, length, Bool, true, false, refl, sym, ap, ◌∙◌, arith, append_assoc, length-append}
 use Rattle.std.specs.Prelude.{◌==◌, if◌then◌else◌}
 use Rattle.tm_table.specs.declared.state.Access.{Access}
-use Rattle.tm_plan.specs.Map.{flag_at}
-use Rattle.tm_plan.specs.Collected.{any, count_from}
+use Rattle.tm_plan_map.specs.Map.{flag_at}
+use Rattle.tm_base.specs.Lists.{any, count_from}
 use Rattle.tm_world.specs.Lists.{front_to}
 use Rattle.tm_world.specs.Course.{gets}
 use Rattle.tm_runs.specs.Machine.{World, State, Entry, MayAccess}

@@ -5,8 +5,8 @@ use Rattle.std.proofs.lemmas.Bool.{cases_lt, lt-ltb, le-leb, eqb-false}
 use Rattle.tm_table.specs.declared.instr.Instr.{Instr}
 use Rattle.tm_table.specs.declared.state.Access.TheVariants.{Quiet, Read}
 use Rattle.tm_table.specs.Words.{word_of}
-use Rattle.tm_plan.specs.Map.{flag_at}
-use Rattle.tm_plan.specs.Collected.{any, count_from}
+use Rattle.tm_plan_map.specs.Map.{flag_at}
+use Rattle.tm_base.specs.Lists.{any, count_from}
 use Rattle.tm_world.specs.Course.{gets}
 use Rattle.tm_world.specs.Work.{gets_less}
 use Rattle.tm_runs.specs.Machine.{World, State, Entry, get, loaded, MayAccess}

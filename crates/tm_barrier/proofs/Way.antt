@@ -4,7 +4,7 @@ use Rattle.std.specs.Prelude.{if◌then◌else◌}
 use Rattle.tm_table.specs.declared.state.Access.TheVariants.{Quiet}
 use Rattle.tm_table.specs.Words.{word_of}
 use Rattle.tm_plan.specs.declared.program.Program.{Program}
-use Rattle.tm_plan.specs.Map.{flag_at}
+use Rattle.tm_plan_map.specs.Map.{flag_at}
 use Rattle.tm_world.specs.Place.{harts, exit_of}
 use Rattle.tm_world.specs.Marks.{Mark, Exit}
 use Rattle.tm_runs.specs.Machine.{World, State, Entry, put, get}

@@ -2,8 +2,8 @@
 use Rattle.std.specs.Prelude.{◌≡◌, ◌≢◌, ℕ, zero, suc, ◌+◌, ◌*◌, ◌%◌, ◌^◌, ◌<◌, ◌≤◌, ◌⊎◌, List, [], ◌∷◌, ◌++◌, length, Bool, true, false, not, ◌&&◌, ◌||◌, ◌==◌, if◌then◌else◌, IsTrue}
 use Rattle.tm_table.specs.declared.state.Access.{Access}
 use Rattle.tm_table.specs.declared.state.Access.TheVariants.{Quiet, Read, Write}
-use Rattle.tm_plan.specs.Map.{flag_at}
-use Rattle.tm_plan.specs.Collected.{any, count_from}
+use Rattle.tm_plan_map.specs.Map.{flag_at}
+use Rattle.tm_base.specs.Lists.{any, count_from}
 use Rattle.tm_world.specs.Lists.{front_to}
 use Rattle.tm_world.specs.Kinds.{writes_flag}
 use Rattle.tm_world.specs.Course.{is_write, gets}

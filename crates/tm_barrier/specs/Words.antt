@@ -2,7 +2,7 @@
 -- address in x31 and the address behind the barrier in x1.
 use Rattle.std.specs.Prelude.{ℕ, ◌*◌, ◌==◌, List, [], ◌∷◌, ◌++◌, flat_map, if◌then◌else◌}
 use Rattle.tm_table.specs.declared.instr.Instr.{Instr}
-use Rattle.tm_plan.specs.Collected.{count_from}
+use Rattle.tm_base.specs.Lists.{count_from}
 use Rattle.tm_blocks.specs.Instrs.{addi, slli, ld, sd}
 use Rattle.tm_blocks.specs.Instrs.{fence, bltu_back, go_to}
 

@@ -1,14 +1,14 @@
 // A hart's barrier, appended as its words.
 ghost use Rattle.std.specs.Prelude.{◌≡◌, ◌+◌, ◌*◌, ◌<◌, ◌≤◌, [], ◌∷◌, length, OnOk, IfOk};
 ghost use Rattle.tm_blocks.specs.Instrs.{fence, go_to};
-ghost use Rattle.tm_plan.specs.Collected.{count_from};
-ghost use Rattle.tm_code.specs.Sheet.{puts};
+ghost use Rattle.tm_base.specs.Lists.{count_from};
+ghost use Rattle.tm_asm.specs.Sheet.{puts};
 ghost use Rattle.tm_barrier.specs.Words.{prepare, signal, wait, turn, waits, meet, barrier};
 ghost use Rattle.tm_barrier.specs.Laws.{MeetRuns, FenceRuns, ReturnRuns};
 
+use tm_asm::Code;
 use tm_base::NoMemory;
 use tm_blocks_code::{addi, bltu_back, fence, go_to, ld, put_all, sd, slli};
-use tm_code::Code;
 
 /// Places of a barrier's words, counted in words from the code's first: `arrive` is the barrier's first word, to which
 /// a hart comes, and `exit` is the word at the exit mark.

@@ -6,7 +6,7 @@ use Rattle.std.proofs.lemmas.Nat.{and_le_l, and_le_r, pow_below}
 use Rattle.tm_table.specs.declared.instr.Instr.{Instr}
 use Rattle.tm_table.specs.declared.state.Access.{Access}
 use Rattle.tm_table.specs.declared.state.Access.TheVariants.{Read}
-use Rattle.tm_plan.specs.Collected.{count_from}
+use Rattle.tm_base.specs.Lists.{count_from}
 use Rattle.tm_runs.specs.Machine.{World, State, Table, get, computes, loaded}
 use Rattle.tm_runs.specs.Runs.{Takes, Now, At, Within}
 use Rattle.tm_runs.proofs.Compose.{takes_then, takes_more, takes_map}

@@ -1,7 +1,7 @@
 -- How many instructions the blocks have.
 use Rattle.std.proofs.Common.{◌≡◌, ℕ, zero, suc, ◌+◌, ◌-◌, ◌*◌, List, [], ◌∷◌, ◌++◌, length, flat_map, refl, ap, arith, length-append}
 use Rattle.tm_table.specs.declared.instr.Instr.{Instr}
-use Rattle.tm_plan.specs.Collected.{count_from}
+use Rattle.tm_base.specs.Lists.{count_from}
 use Rattle.tm_blocks.specs.Instrs.{ld, sd, words_of}
 use Rattle.tm_blocks.specs.Blocks.{constant, load_registers, load_registers_but_last, save_registers, copy_dword, copy_dwords, copy, collect}
 use Rattle.tm_blocks.specs.Compare.{dword_check, register_checks, dword_checks, checks, compare, compare_but_last}

@@ -4,7 +4,7 @@ use Rattle.std.proofs.lemmas.Bool.{cases_lt}
 use Rattle.tm_table.specs.declared.instr.Instr.{Instr}
 use Rattle.tm_table.specs.declared.state.Access.{Access}
 use Rattle.tm_table.specs.declared.state.Access.TheVariants.{Read, Write}
-use Rattle.tm_plan.specs.Collected.{count_from}
+use Rattle.tm_base.specs.Lists.{count_from}
 use Rattle.tm_runs.specs.Machine.{World, State, Table, put, get, loaded}
 use Rattle.tm_runs.specs.Runs.{Takes, Now, At, Within}
 use Rattle.tm_runs.proofs.Compose.{takes_then, takes_map, within_map}

@@ -3,7 +3,7 @@
 -- at its end with the dword's number, from 1, in x8; where none does, with 0 in x8.
 use Rattle.std.specs.Prelude.{ℕ, ◌+◌, ◌-◌, ◌*◌, List, [], ◌∷◌, ◌++◌, flat_map}
 use Rattle.tm_table.specs.declared.instr.Instr.{Instr}
-use Rattle.tm_plan.specs.Collected.{count_from}
+use Rattle.tm_base.specs.Lists.{count_from}
 use Rattle.tm_blocks.specs.Instrs.{addi, slli, add, xor, and, ld, sd, beq, bne}
 use Rattle.tm_blocks.specs.Blocks.{constant}
 

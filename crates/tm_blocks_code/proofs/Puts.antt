@@ -4,9 +4,9 @@ use Rattle.std.proofs.lemmas.List.{take_all}
 use Rattle.std.proofs.lemmas.Grind.{flat_map-append}
 use Rattle.std.proofs.lemmas.List.Concat.{flat_map_single}
 use Rattle.tm_table.specs.declared.instr.Instr.{Instr}
-use Rattle.tm_plan.specs.Collected.{count_from}
-use Rattle.tm_code.specs.Sheet.{Sheet, puts}
-use Rattle.tm_code.proofs.Append.{puts-none, puts-then}
+use Rattle.tm_base.specs.Lists.{count_from}
+use Rattle.tm_asm.specs.Sheet.{Sheet, puts}
+use Rattle.tm_asm.proofs.Append.{puts-none, puts-then}
 use Rattle.tm_blocks.proofs.Lists.{count_from-suc}
 
 -- no instruction, and one before all others

@@ -1,13 +1,13 @@
 // Blocks appended to code. Without memory a part may have been appended.
 ghost use Rattle.std.specs.Prelude.{◌≡◌, ◌<◌, ◌≤◌, ◌*◌, ◌/◌, ◌%◌, ◌^◌, OnOk};
-ghost use Rattle.tm_code.specs.Sheet.{puts};
+ghost use Rattle.tm_asm.specs.Sheet.{puts};
 ghost use Rattle.tm_blocks.specs.Blocks.{constant, load_registers, save_registers};
 ghost use Rattle.tm_blocks.specs.Laws.{ConstantRuns, LoadAllButLastRuns, LastLoadRuns, LoadRegistersRuns, SaveRegistersRuns};
 
 use crate::instrs::{addi, ld, sd, slli};
 use crate::put::put_all;
+use tm_asm::Code;
 use tm_base::NoMemory;
-use tm_code::Code;
 
 /// Register `rd` becomes `value`.
 pub fn put_constant(code: &mut Code, rd: u8, value: u64) -> Result<(), NoMemory>

@@ -1,14 +1,14 @@
 // Instructions appended to code.
 ghost use Rattle.std.specs.Prelude.{◌≡◌, [], ◌∷◌, OnOk};
 ghost use Rattle.tm_table.specs.Words.{Fits};
-ghost use Rattle.tm_code.specs.Sheet.{puts, AllFit};
+ghost use Rattle.tm_asm.specs.Sheet.{puts, AllFit};
 
+use tm_asm::Code;
 use tm_base::NoMemory;
-use tm_code::Code;
 use tm_table::Instr;
 
 // Appends an instruction.
-#[tactic(auto, unfolding(tm_code::specs::Sheet::puts))]
+#[tactic(auto, unfolding(tm_asm::specs::Sheet::puts))]
 fn put(code: &mut Code, i: Instr) -> Result<(), NoMemory>
     requires { Fits i }
     ensures { OnOk result (code.new ≡ puts code.old (i ∷ [])) }

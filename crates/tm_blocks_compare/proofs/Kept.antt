@@ -3,9 +3,9 @@ use Rattle.std.proofs.Common.{◌≡◌, ℕ, zero, suc, ◌+◌, ◌-◌, ◌*�
 use Rattle.std.specs.Prelude.{slice_index}
 use Rattle.std.proofs.lemmas.List.{map-append}
 use Rattle.tm_plan.specs.declared.cases.Cases.{Cases}
-use Rattle.tm_plan.specs.Map.{windows_base}
+use Rattle.tm_plan_map.specs.Map.{windows_base}
 use Rattle.tm_plan.specs.Shaped.{AreShaped}
-use Rattle.tm_plan.specs.Collected.{count_from}
+use Rattle.tm_base.specs.Lists.{count_from}
 use Rattle.tm_runs.specs.Machine.{World, Table}
 use Rattle.tm_plan_owned.specs.Lines.{line_count, line_place, line_dwords, lines_dwords, own_dwords}
 use Rattle.tm_plan_owned.proofs.Windows.{lines_are_owned}

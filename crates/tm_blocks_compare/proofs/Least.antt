@@ -4,7 +4,7 @@ use Rattle.std.specs.Prelude.{if◌then◌else◌, bit_and, bit_xor, slice_index
 use Rattle.std.proofs.lemmas.Bool.{cases_lt, lt-ltb, le-ltb}
 use Rattle.std.proofs.lemmas.List.{length-map}
 use Rattle.tm_plan.specs.declared.cases.Cases.{Cases}
-use Rattle.tm_plan.specs.Map.{windows_base}
+use Rattle.tm_plan_map.specs.Map.{windows_base}
 use Rattle.tm_plan.specs.Collected.{owned}
 use Rattle.tm_runs.specs.Machine.{Table}
 use Rattle.tm_blocks.specs.Verdict.{differs, first_from, above, verdict_number, IsNumber, agree, differ, IsMask, Agrees}

@@ -3,8 +3,8 @@ use Rattle.std.proofs.Common.{◌≡◌, ◌≢◌, ℕ, ◌+◌, ◌-◌, ◌*�
 use Rattle.std.specs.Prelude.{if◌then◌else◌}
 use Rattle.tm_table.specs.declared.instr.Instr.{Instr}
 use Rattle.tm_plan.specs.declared.cases.Cases.{Cases}
-use Rattle.tm_code.specs.Sheet.{Sheet, puts}
-use Rattle.tm_code.proofs.Append.{puts-none}
+use Rattle.tm_asm.specs.Sheet.{Sheet, puts}
+use Rattle.tm_asm.proofs.Append.{puts-none}
 use Rattle.tm_blocks.specs.Instrs.{addi, slli, add}
 use Rattle.tm_blocks.specs.Blocks.{constant}
 use Rattle.tm_blocks.proofs.Lengths.{length-constant}

@@ -2,7 +2,7 @@
 use Rattle.std.specs.Prelude.{◌≡◌, ℕ, ◌+◌, ◌-◌, ◌*◌, ◌^◌, ◌<◌, ◌≤◌, List, length, map, slice_index, IsTrue}
 use Rattle.tm_plan.specs.declared.cases.Cases.{Cases}
 use Rattle.tm_plan.specs.declared.program.Program.{Program}
-use Rattle.tm_plan.specs.Map.{windows_base, save_at}
+use Rattle.tm_plan_map.specs.Map.{windows_base, save_at}
 use Rattle.tm_plan.specs.Shaped.{AreShaped}
 use Rattle.tm_plan.specs.Collected.{owned}
 use Rattle.tm_runs.specs.Machine.{World, State, Table, get, MayAccess}

@@ -4,7 +4,7 @@
 use Rattle.std.specs.Prelude.{ℕ, ◌+◌, ◌-◌, ◌*◌, ◌/◌, ◌==◌, List, [], ◌∷◌, ◌++◌, length, if◌then◌else◌}
 use Rattle.tm_table.specs.declared.instr.Instr.{Instr}
 use Rattle.tm_plan.specs.declared.cases.Cases.{Cases}
-use Rattle.tm_plan.specs.Map.{table_at}
+use Rattle.tm_plan_map.specs.Map.{table_at}
 use Rattle.tm_blocks.specs.Instrs.{addi, slli, add, xor, and, ld, sd, beq, bne, jump}
 use Rattle.tm_blocks.specs.Blocks.{constant}
 use Rattle.tm_blocks.specs.Instrs.{subi, bne_back}

@@ -1,18 +1,19 @@
 // The comparison of all passes, appended as words.
 ghost use Rattle.std.specs.Prelude.{◌≡◌, ◌+◌, ◌*◌, ◌^◌, ◌<◌, ◌≤◌, [], ◌∷◌, length, OnOk};
 ghost use Rattle.tm_plan.specs.Shaped.{AreShaped};
-ghost use Rattle.tm_plan.specs.Map.{save_at, verdict_at};
-ghost use Rattle.tm_code.specs.Sheet.{puts};
+ghost use Rattle.tm_plan_map.specs.Map.{save_at, verdict_at};
+ghost use Rattle.tm_asm.specs.Sheet.{puts};
 ghost use Rattle.tm_blocks.specs.Instrs.{add, addi, ld, sd, slli};
 ghost use Rattle.tm_blocks.specs.Laws.{LastStoreRuns};
 ghost use Rattle.tm_blocks_compare.specs.Words.{pass_head, pass_body, pass_tail, all_passes, closing, compare_all, case_masks, case_bytes};
 ghost use Rattle.tm_blocks_compare.specs.Runs.{CompareAllRuns, NamesLeastOfAll};
 
 use crate::checks::{check_length, put_own_check, put_register_loop};
+use tm_asm::Code;
 use tm_base::NoMemory;
 use tm_blocks_code::{add, addi, bne_back, jump, ld, put_all, put_constant, sd, slli};
-use tm_code::Code;
-use tm_plan::{Cases, save_addr, table_addr, verdict_addr};
+use tm_plan::Cases;
+use tm_plan_map::{save_addr, table_addr, verdict_addr};
 
 /// Compares the saved dwords of all passes of case `c`, below 64, with those of pass 0, under the masks of the case's table,
 /// and writes hart `h`'s verdict cell once. It changes x1 to x10 alone. Without memory a part may have been appended.
@@ -49,7 +50,7 @@ fn put_store(code: &mut Code) -> Result<(), NoMemory>
 }
 
 // Where the mask of the registers stands.
-#[tactic(auto, unfolding(crate::specs::Words::case_masks, tm_plan::specs::Map::table_at, tm_plan::specs::Map::tables_base))]
+#[tactic(auto, unfolding(crate::specs::Words::case_masks, tm_plan_map::specs::Map::table_at, tm_plan_map::specs::Map::tables_base))]
 fn masks_of(cases: &Cases, h: u32, c: u32) -> u64
     requires shaped { AreShaped cases.now }
     requires mine { h < cases.now.harts }
@@ -60,7 +61,7 @@ fn masks_of(cases: &Cases, h: u32, c: u32) -> u64
 }
 
 // Where the mask bytes of the windows stand.
-#[tactic(auto, unfolding(crate::specs::Words::case_bytes, tm_plan::specs::Map::table_at, tm_plan::specs::Map::tables_base))]
+#[tactic(auto, unfolding(crate::specs::Words::case_bytes, tm_plan_map::specs::Map::table_at, tm_plan_map::specs::Map::tables_base))]
 fn bytes_at(cases: &Cases, c: u32) -> u64
     requires shaped { AreShaped cases.now }
     requires case { c < 64 }

@@ -6,8 +6,9 @@ use Rattle.std.proofs.lemmas.Bool.{and_parts, ltb-true, lt-ltb, le-ltb}
 use Rattle.tm_table.specs.declared.state.Access.{Access}
 use Rattle.tm_table.specs.declared.state.Access.TheVariants.{Quiet, Read, Write}
 use Rattle.tm_plan.specs.declared.cases.Cases.{Cases}
-use Rattle.tm_plan.specs.Map.{windows_base}
-use Rattle.tm_plan.specs.Collected.{any, count_from, is_declared, collector, window_dwords, owned}
+use Rattle.tm_plan_map.specs.Map.{windows_base}
+use Rattle.tm_plan.specs.Collected.{is_declared, collector, window_dwords, owned}
+use Rattle.tm_base.specs.Lists.{any, count_from}
 use Rattle.tm_world.specs.Course.{reads_in}
 use Rattle.tm_runs.specs.Machine.{World, State, Entry, Table}
 use Rattle.tm_runs.proofs.Ahead.{takes_told}

@@ -2,7 +2,7 @@
 use Rattle.std.proofs.Common.{◌≡◌, ◌≢◌, ℕ, zero, suc, ◌+◌, ◌-◌, ◌*◌, ◌<◌, List, [], ◌∷◌, length, map, ◌⊎◌, inl, inr, refl, sym, ap, ap₂, ◌∙◌, arith, true, false}
 use Rattle.std.specs.Prelude.{IsTrue, slice_index, nat_eq}
 use Rattle.std.proofs.lemmas.Bool.Decides.{eqb_tells}
-use Rattle.tm_plan.specs.Map.{windows_base}
+use Rattle.tm_plan_map.specs.Map.{windows_base}
 use Rattle.tm_runs.specs.Machine.{Table, World, put}
 use Rattle.tm_runs.proofs.Tables.{put_same, put_other}
 use Rattle.tm_blocks_move.specs.Laws.{Among, Move, Moves, moved_memory}

@@ -1,8 +1,8 @@
 -- The moves of lines are those of their dwords.
 use Rattle.std.proofs.Common.{◌≡◌, ℕ, zero, suc, ◌+◌, ◌-◌, ◌*◌, List, [], ◌∷◌, ◌++◌, length, map, refl, sym, ap, ap₂, ◌∙◌, arith}
 use Rattle.std.proofs.lemmas.List.{map-append}
-use Rattle.tm_plan.specs.Map.{windows_base}
-use Rattle.tm_plan.specs.Collected.{count_from}
+use Rattle.tm_plan_map.specs.Map.{windows_base}
+use Rattle.tm_base.specs.Lists.{count_from}
 use Rattle.tm_plan_owned.specs.Lines.{line_dwords, lines_dwords}
 use Rattle.tm_plan_owned.proofs.Reach.{length-line}
 use Rattle.tm_blocks_move.specs.Laws.{Move, lines_moves}

@@ -2,7 +2,7 @@
 use Rattle.std.specs.Prelude.{◌≡◌, ◌≢◌, ◌⊎◌, ℕ, zero, suc, ◌+◌, ◌*◌, ◌^◌, ◌<◌, List, [], ◌∷◌, ◌++◌, false, IsTrue, map}
 use Rattle.tm_table.specs.declared.state.Access.{Access}
 use Rattle.tm_table.specs.declared.state.Access.TheVariants.{Read, Write}
-use Rattle.tm_plan.specs.Collected.{count_from}
+use Rattle.tm_base.specs.Lists.{count_from}
 use Rattle.tm_runs.specs.Machine.{Table, State, World, put, get, MayAccess}
 use Rattle.tm_blocks.specs.Laws.{RegistersFit, accesses}
 

@@ -4,9 +4,10 @@ use Rattle.tm_table.specs.declared.instr.Instr.{Instr}
 use Rattle.tm_table.specs.declared.state.Access.{Access}
 use Rattle.tm_table.specs.declared.state.Access.TheVariants.{Read}
 use Rattle.tm_plan.specs.declared.cases.Cases.{Cases}
-use Rattle.tm_plan.specs.Map.{windows_base}
+use Rattle.tm_plan_map.specs.Map.{windows_base}
 use Rattle.tm_plan.specs.Shaped.{AreShaped}
-use Rattle.tm_plan.specs.Collected.{any, owned}
+use Rattle.tm_plan.specs.Collected.{owned}
+use Rattle.tm_base.specs.Lists.{any}
 use Rattle.tm_world.specs.Course.{reads_in}
 use Rattle.tm_runs.specs.Machine.{World, State, Entry, get}
 use Rattle.tm_runs.specs.Runs.{Takes, At}

@@ -5,7 +5,7 @@ use Rattle.tm_table.specs.declared.instr.Instr.{Instr}
 use Rattle.tm_table.specs.declared.state.Access.{Access}
 use Rattle.tm_plan.specs.declared.cases.Cases.{Cases}
 use Rattle.tm_plan.specs.declared.program.Program.{Program}
-use Rattle.tm_plan.specs.Map.{guest_base, guest_end, windows_size, private_at, save_at}
+use Rattle.tm_plan_map.specs.Map.{guest_base, guest_end, windows_size, private_at, save_at}
 use Rattle.tm_plan.specs.Shaped.{AreShaped}
 use Rattle.tm_plan.specs.Collected.{owned}
 use Rattle.tm_runs.specs.Machine.{World, State, get}

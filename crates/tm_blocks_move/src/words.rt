@@ -1,7 +1,7 @@
 // Shared memory set and collected, line by line, appended as words.
 ghost use Rattle.std.specs.Prelude.{◌≡◌, ◌+◌, ◌*◌, ◌/◌, ◌^◌, ◌<◌, ◌≤◌, [], ◌∷◌, length, OnOk};
 ghost use Rattle.tm_plan.specs.Shaped.{AreShaped};
-ghost use Rattle.tm_code.specs.Sheet.{puts};
+ghost use Rattle.tm_asm.specs.Sheet.{puts};
 ghost use Rattle.tm_blocks.specs.Instrs.{addi};
 ghost use Rattle.tm_blocks.specs.Blocks.{copy_dword, copy_dwords};
 ghost use Rattle.tm_blocks_move.specs.Words.{line_turn, lines_loop, move_lines};
@@ -9,9 +9,9 @@ ghost use Rattle.tm_blocks_move.specs.Lines.{half_stride, first_window, first_by
 ghost use Rattle.tm_blocks_move.specs.Runs.{FirstBytesRuns, CollectAllRuns};
 ghost use Rattle.tm_blocks_move.specs.Once.{CollectsOnce};
 
+use tm_asm::Code;
 use tm_base::NoMemory;
 use tm_blocks_code::{addi, bne_back, ld, put_all, put_constant, sd, subi};
-use tm_code::Code;
 use tm_plan::Cases;
 use tm_plan_owned::{bytes_of, dwords_of, line_addr, line_count, line_place, stride_of};
 

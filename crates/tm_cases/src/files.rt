@@ -3,8 +3,8 @@ use crate::book::Book;
 use crate::show::{number, put, put_text, small, words_of};
 use std::alloc::Global;
 use tm_base::{Bytes, NoMemory};
-use tm_elf::Parts;
-use tm_elf_read::read_elf;
+use tm_elf::read_elf;
+use tm_elf_write::Parts;
 
 /// A file with changes: `AT=BYTE` another byte at a place, `cut=LEN` the first bytes alone, `more=BYTE` one byte more.
 pub fn changed(alloc: Global, file: &[u8], changes: &str) -> Result<Bytes, NoMemory> {

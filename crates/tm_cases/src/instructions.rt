@@ -5,7 +5,7 @@ ghost use Rattle.tm_table.specs.Words.{Fits};
 
 use crate::show::{number, put, small};
 use std::alloc::Global;
-use tm_asm::{parse_line, print_line};
+use tm_asm_line::{parse_line, print_line};
 use tm_base::{Bytes, NoMemory, push_decimal, push_hex};
 use tm_table::{Access, Cpu, Instr, decode, encode, exec as step, needs_read};
 

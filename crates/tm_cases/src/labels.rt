@@ -3,8 +3,8 @@ ghost use Rattle.tm_table.specs.Words.{Fits};
 
 use crate::show::{put, small};
 use std::alloc::Global;
+use tm_asm::{Code, CodeFault};
 use tm_base::{Bytes, NoMemory, Words};
-use tm_code::{Code, CodeFault};
 use tm_table::{Instr, Op, decode};
 
 /// A branch to the word so many words on, behind which nothing stands; for 0 a jump to itself.

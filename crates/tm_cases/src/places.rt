@@ -3,12 +3,12 @@ ghost use Rattle.std.specs.Prelude.{◌≡◌, ◌≤◌, ◌<◌, IfSome, Some,
 ghost use Rattle.tm_place.specs.Limits.{IsWindow};
 ghost use Rattle.tm_place.specs.Numbers.{is_line_size};
 ghost use Rattle.tm_place.specs.Sharing.{IsWidth};
-ghost use Rattle.tm_plan.specs.declared.cases.Window.{Window as Held};
+ghost use Rattle.tm_plan_map.specs.declared.windows.Window.{Window as Held};
 
 use crate::show::{number, small, words_of};
 use tm_base::{Bytes, NoMemory, push_decimal, push_hex};
 use tm_place::{Placement, choice, may_load, may_store, part_size};
-use tm_plan::{
+use tm_plan_map::{
     Kind2, Window, flag_addr, private_base, save_addr, table_addr, verdict_addr, window_base,
 };
 

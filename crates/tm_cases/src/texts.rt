@@ -2,13 +2,14 @@
 use crate::book::Book;
 use crate::show::{put, put_pos, put_text};
 use std::alloc::Global;
-use tm_admit::{AdmitFault, admit};
 use tm_base::{Bytes, NoMemory, push_decimal};
+use tm_faults::{AdmitFault, RuleAt};
 use tm_lex::{LexFault, Token, TokenKind, tokens};
-use tm_plan::Admitted;
-use tm_print::print_template;
-use tm_rules::RuleAt;
-use tm_tmpl::{Template, TmplFault, parse_template};
+use tm_plan_map::Admitted;
+use tm_rules::admit;
+use tm_tmpl::print_template;
+use tm_tmpl_read::parse_template;
+use tm_tmpl_types::{Template, TmplFault};
 use tm_topo::{TopoFault, Topology, parse_topology};
 
 /// No text of a case is longer.

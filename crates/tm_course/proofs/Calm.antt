@@ -8,7 +8,7 @@ use Rattle.tm_world.specs.Course.{writes_in}
 use Rattle.tm_world.specs.Run.{Writes}
 use Rattle.tm_runs.specs.Machine.{World, Table, Entry}
 use Rattle.tm_runs.specs.Runs.{Does}
-use Rattle.tm_plan.specs.Collected.{any}
+use Rattle.tm_base.specs.Lists.{any}
 use Rattle.tm_runs.specs.Course.{Sofar, Story, Calm, trail}
 use Rattle.tm_runs.proofs.Story.{count-grows, sofar-one}
 use Rattle.tm_blocks.specs.Laws.{Uses}

@@ -7,8 +7,8 @@ use Rattle.tm_plan.specs.declared.cases.Case.{Case}
 use Rattle.tm_plan.specs.declared.cases.Stream.{Stream}
 use Rattle.tm_plan.specs.declared.masks.CaseMask.{CaseMask}
 use Rattle.tm_plan.specs.declared.program.Program.{Program}
-use Rattle.tm_plan.specs.Map.{text_base, tables_base, verdict_at}
-use Rattle.tm_plan.specs.Collected.{any, count_from}
+use Rattle.tm_plan_map.specs.Map.{text_base, tables_base, verdict_at}
+use Rattle.tm_base.specs.Lists.{any, count_from}
 use Rattle.tm_world.specs.Lists.{count, IsFront}
 use Rattle.tm_world.specs.Place.{harts, passes, start_of, inside, is_text, is_table}
 use Rattle.tm_world.specs.Run.{Step, Always, now, first_state, pc_of, access_of}

@@ -10,8 +10,9 @@ use Rattle.tm_plan.specs.declared.cases.Case.{Case}
 use Rattle.tm_plan.specs.declared.cases.Stream.{Stream}
 use Rattle.tm_plan.specs.declared.masks.CaseMask.{CaseMask}
 use Rattle.tm_plan.specs.declared.program.Program.{Program}
-use Rattle.tm_plan.specs.Map.{verdict_at, windows_base}
-use Rattle.tm_plan.specs.Collected.{count_from, owned}
+use Rattle.tm_plan_map.specs.Map.{verdict_at, windows_base}
+use Rattle.tm_plan.specs.Collected.{owned}
+use Rattle.tm_base.specs.Lists.{count_from}
 use Rattle.tm_world.specs.Lists.{count, or_else}
 use Rattle.tm_world.specs.Place.{passes, exit_of, inside, image_byte, byte_of}
 use Rattle.tm_world.specs.Run.{Step, now, first_state, pc_of, access_of, got, phase}

@@ -2,8 +2,8 @@
 use Rattle.std.proofs.Common.{◌≡◌, ℕ, zero, suc, ◌+◌, ◌-◌, ◌*◌, ◌/◌, ◌%◌, ◌^◌, ◌<◌, ◌≤◌, List, [], ◌∷◌, ◌++◌, length, map, flat_map, arith}
 use Rattle.tm_table.specs.declared.instr.Instr.{Instr}
 use Rattle.tm_table.specs.Words.{Fits}
-use Rattle.tm_plan.specs.Collected.{count_from}
-use Rattle.tm_plan.specs.Map.{tables_base, private_at, save_at, verdict_at, table_at, windows_base}
+use Rattle.tm_base.specs.Lists.{count_from}
+use Rattle.tm_plan_map.specs.Map.{tables_base, private_at, save_at, verdict_at, table_at, windows_base}
 use Rattle.tm_blocks.specs.Instrs.{ld, sd}
 use Rattle.tm_blocks.specs.Blocks.{shift_in, constant, load_registers, save_registers, copy_dword, copy_dwords, copy, collect}
 use Rattle.tm_blocks.specs.Compare.{register_check, dword_check, register_checks, dword_checks, checks, verdict, compare}

@@ -4,7 +4,7 @@ use Rattle.std.proofs.Common.{◌≡◌, ◌≢◌, ◌⊎◌, ℕ, ◌+◌, ◌
 use Rattle.std.specs.Prelude.{IsTrue}
 use Rattle.tm_table.specs.declared.state.Access.TheVariants.{Write}
 use Rattle.tm_table.specs.declared.instr.Instr.{Instr}
-use Rattle.tm_plan.specs.Collected.{any}
+use Rattle.tm_base.specs.Lists.{any}
 use Rattle.tm_world.specs.Marks.{Mark, Exit, Enter, End, Halt}
 use Rattle.tm_world.specs.Run.{Writes}
 use Rattle.tm_runs.specs.Machine.{World, State, Table, Entry, get}

@@ -7,7 +7,7 @@ use Rattle.tm_plan.specs.declared.cases.Case.{Case}
 use Rattle.tm_plan.specs.declared.cases.Stream.{Stream}
 use Rattle.tm_plan.specs.declared.masks.CaseMask.{CaseMask}
 use Rattle.tm_plan.specs.declared.program.Program.{Program}
-use Rattle.tm_plan.specs.Map.{guest_base, guest_end, tables_base, table_at, private_at, private_size, save_at, verdict_at, windows_base, windows_size}
+use Rattle.tm_plan_map.specs.Map.{guest_base, guest_end, tables_base, table_at, private_at, private_size, save_at, verdict_at, windows_base, windows_size}
 use Rattle.tm_world.specs.Place.{case_count, start_of, end_of, inside}
 use Rattle.tm_world.specs.Marks.{Exit, Enter, End, Halt, arrivals}
 use Rattle.tm_runs.specs.World.{world_of, support_at}

@@ -8,7 +8,7 @@ use Rattle.tm_plan.specs.declared.cases.Case.{Case}
 use Rattle.tm_plan.specs.declared.cases.Stream.{Stream}
 use Rattle.tm_plan.specs.declared.masks.CaseMask.{CaseMask}
 use Rattle.tm_plan.specs.declared.program.Program.{Program}
-use Rattle.tm_plan.specs.Map.{text_base}
+use Rattle.tm_plan_map.specs.Map.{text_base}
 use Rattle.tm_plan.specs.Shaped.{IsShapedCase, IsShapedStream}
 use Rattle.tm_world.specs.Place.{case_count, start_of, end_of, exit_of, halt_of, inside, word_at}
 use Rattle.tm_world.specs.Kinds.{stream_at}

@@ -10,9 +10,9 @@ use Rattle.tm_plan.specs.declared.cases.Case.{Case}
 use Rattle.tm_plan.specs.declared.cases.Stream.{Stream}
 use Rattle.tm_plan.specs.declared.masks.CaseMask.{CaseMask}
 use Rattle.tm_plan.specs.declared.program.Program.{Program}
-use Rattle.tm_plan.specs.Map.{verdict_at, text_base, tables_base}
-use Rattle.tm_plan.specs.Slots.{load_width, store_width, is_access}
-use Rattle.tm_plan.specs.Collected.{count_from}
+use Rattle.tm_plan_map.specs.Map.{verdict_at, text_base, tables_base}
+use Rattle.tm_plan_map.specs.Slots.{load_width, store_width, is_access}
+use Rattle.tm_base.specs.Lists.{count_from}
 use Rattle.tm_world.specs.Lists.{those, or_else}
 use Rattle.tm_world.specs.Place.{harts, round_count, passes, exit_of, inside, is_text, is_table, image_byte, byte_of}
 use Rattle.tm_world.specs.Run.{Step, Run, now, first_state, hart_of, pc_of, access_of, own, phase, in_phase, got, written, last_write, read_value, Reads}

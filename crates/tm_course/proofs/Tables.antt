@@ -9,7 +9,7 @@ use Rattle.tm_plan.specs.declared.cases.Stream.{Stream}
 use Rattle.tm_plan.specs.declared.masks.CaseMask.{CaseMask}
 use Rattle.tm_plan.specs.declared.masks.Masks.{Masks}
 use Rattle.tm_plan.specs.declared.program.Program.{Program}
-use Rattle.tm_plan.specs.Map.{tables_base, private_at, private_size}
+use Rattle.tm_plan_map.specs.Map.{tables_base, private_at, private_size}
 use Rattle.tm_plan.specs.Shaped.{IsShapedMask}
 use Rattle.tm_plan.specs.Tables.{dword_bytes, dwords_bytes, hart_tables, case_tables, table_bytes}
 use Rattle.tm_world.specs.Place.{image_byte, byte_of}

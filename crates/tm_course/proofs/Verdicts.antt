@@ -8,8 +8,8 @@ use Rattle.tm_plan.specs.declared.cases.Case.{Case}
 use Rattle.tm_plan.specs.declared.cases.Stream.{Stream}
 use Rattle.tm_plan.specs.declared.masks.CaseMask.{CaseMask}
 use Rattle.tm_plan.specs.declared.program.Program.{Program}
-use Rattle.tm_plan.specs.Map.{verdict_at, windows_base, within}
-use Rattle.tm_plan.specs.Collected.{any}
+use Rattle.tm_plan_map.specs.Map.{verdict_at, windows_base, within}
+use Rattle.tm_base.specs.Lists.{any}
 use Rattle.tm_world.specs.Lists.{or_else}
 use Rattle.tm_world.specs.Place.{byte_of, harts, round_count, passes, exit_of}
 use Rattle.tm_world.specs.Run.{Step, first_state, pc_of, access_of, got, phase, in_phase}

@@ -5,8 +5,9 @@ use Rattle.tm_plan.specs.declared.cases.Case.{Case}
 use Rattle.tm_plan.specs.declared.cases.Stream.{Stream}
 use Rattle.tm_plan.specs.declared.masks.CaseMask.{CaseMask}
 use Rattle.tm_plan.specs.declared.program.Program.{Program}
-use Rattle.tm_plan.specs.Map.{text_base}
-use Rattle.tm_plan.specs.Collected.{count_from, work_of, pass_work, slots_of, work_in}
+use Rattle.tm_plan_map.specs.Map.{text_base}
+use Rattle.tm_plan.specs.Collected.{work_of, pass_work, slots_of, work_in}
+use Rattle.tm_base.specs.Lists.{count_from}
 use Rattle.tm_world.specs.Place.{harts, case_count, passes, start_of, end_of, exit_of, halt_of, inside, word_at}
 use Rattle.tm_world.specs.Writers.{stream_in}
 use Rattle.tm_world.specs.Whole.{Laid, marks_of, mark_addresses, stream_ranges}

@@ -1,2 +1,5 @@
-pub mod Lengths
-pub mod Standing
+pub mod WordLemmas
+pub mod SymbolLemmas
+pub mod NamedLemmas
+pub mod NameLemmas
+pub mod BackLemmas

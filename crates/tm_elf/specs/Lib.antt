@@ -1,9 +1,2 @@
-pub mod Fields
-pub mod Places
-pub mod Header
-pub mod Segments
-pub mod Sections
-pub mod Plan
-pub mod Symbols
-pub mod Elf
-pub mod Stands
+pub mod SymbolTable
+pub mod Read

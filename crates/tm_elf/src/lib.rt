@@ -1,15 +1,10 @@
-//! The file of an image: an ELF-64 file for RISC-V with its text, tables, plan and symbols.
+//! The file of an image: written, and read back, or what is at fault in it.
 #![tactic(auto)]
 
-mod fields;
-mod header;
-mod parts;
-mod places;
-mod plan;
-mod sections;
-mod segments;
+mod names;
+mod read;
 mod symbols;
-mod write;
 
-pub use parts::{Parts, Plan, Symbol};
-pub use write::write_elf;
+pub use read::read_elf;
+pub use tm_elf_head::{ElfFault, first_difference};
+pub use tm_elf_write::{Parts, Plan, Symbol, write_elf};

@@ -1,59 +1,71 @@
-// The symbol table and the strings with the symbols' names.
-ghost use Rattle.std.specs.Prelude.{◌≡◌, ◌++◌, ◌+◌, ◌*◌, ◌≤◌, OnOk, IfOk, All, length};
-ghost use Rattle.tm_elf.specs.Fields.{bytes_of};
-ghost use Rattle.tm_elf.specs.Symbols.{IsName, string_bytes, symbol_bytes, entry};
+// The symbols.
+ghost use Rattle.std.specs.Prelude.{◌≡◌, ◌≢◌, ◌≤◌, ◌+◌, ◌-◌, ◌*◌, ◌/◌, ◌%◌, ◌<◌, length, Ok, Err, Some, None, IfOk, IfErr, IsTrue};
+ghost use Rattle.tm_elf_head.specs.PartFaults.{has_symbols as with_symbols};
+ghost use Rattle.tm_elf.specs.SymbolTable.{symbol_at as symbol_of_entry, symbols_from, then_symbols};
+ghost use Rattle.tm_elf.specs.Read.{symbols_in};
 
-use crate::fields::{Field, put_fields, put_zeros};
-use crate::parts::Symbol;
+use crate::names::{MAX_NAME, name_len};
 use std::alloc::Global;
-use tm_base::{Bytes, NoMemory};
+use tm_base::{Bytes, List, NoMemory};
+use tm_elf_head::{ElfFault, long_at, part_at, section, word_at};
+use tm_elf_write::Symbol;
 
-/// The names, each ended by a zero byte.
-#[tactic(auto, unfolding(crate::specs::Symbols::string_bytes))]
-pub fn strings_of(alloc: Global, symbols: &[Symbol]) -> Result<Bytes, NoMemory>
-    requires { All (λ s. IsName s.name) symbols.now }
-    ensures bytes { IfOk result (λ b. b ≡ string_bytes symbols.now) }
-    ensures short { IfOk result (λ b. length b ≤ 33 * length symbols.now + 1) }
+/// The symbols of a file.
+#[tactic(auto, using(tm_elf_head::proofs::FitLemmas::symbols_fit), unfolding(crate::specs::Read::symbols_in))]
+pub fn read_symbols(alloc: Global, bytes: &[u8]) -> Result<List<Symbol>, ElfFault>
+    requires long { 744 ≤ length bytes.now }
+    requires symbols { IsTrue (with_symbols bytes.now) }
+    ensures ok { IfOk result (λ symbols. symbols_in bytes.now ≡ Ok symbols) }
+    ensures err { IfErr result (λ e. e ≢ ElfFault.NoMemory → symbols_in bytes.now ≡ Err e) }
 {
-    let mut out = Bytes::new(alloc);
-    out.push(0)?;
-    for s in symbols {
-        out.append(s.name.as_slice())?;
-        out.push(0)?;
-    }
-    Ok(out)
+    let table = section(bytes, 5).of(bytes);
+    let strings = section(bytes, 6).of(bytes);
+    read_entries(alloc, table, strings)
 }
 
-#[tactic(auto, unfolding(crate::specs::Symbols::entry))]
-fn put_entry(out: &mut Bytes, name: u32, addr: u64) -> Result<(), NoMemory>
-    ensures { OnOk result (out.new ≡ out.old ++ bytes_of (entry name addr)) }
+// The symbol of an entry.
+#[tactic(auto, unfolding(crate::specs::SymbolTable::symbol_at))]
+fn symbol_at(alloc: Global, table: &[u8], strings: &[u8], index: usize) -> Result<Symbol, ElfFault>
+    requires few { length table.now ≤ 1572864 }
+    requires within { 24 * index + 24 ≤ length table.now }
+    ensures ok { IfOk result (λ s. symbol_of_entry table.now strings.now index ≡ Some s) }
+    ensures err { IfErr result (λ e. e ≢ ElfFault.NoMemory → (symbol_of_entry table.now strings.now index ≡ None) × (e ≡ ElfFault.BadSymbol index)) }
 {
-    put_fields(
-        out,
-        &[
-            Field::Word(name),
-            Field::Byte(0x10),
-            Field::Byte(0),
-            Field::Half(1),
-            Field::Long(addr),
-            Field::Long(0),
-        ],
-    )
+    let named = part_at(strings, word_at(table, 24 * index) as usize, MAX_NAME + 1);
+    match name_len(named) {
+        Some(n) => {
+            let mut name = Bytes::new(alloc);
+            if name.append(part_at(named, 0, n)).is_err() {
+                return Err(ElfFault::NoMemory);
+            }
+            Ok(Symbol {
+                name,
+                addr: long_at(table, 24 * index + 8),
+            })
+        }
+        None => Err(ElfFault::BadSymbol {
+            index: index as u64,
+        }),
+    }
 }
 
-/// The symbol table: an entry of zeros, and one for each symbol.
-#[tactic(auto, unfolding(crate::specs::Symbols::symbol_bytes, crate::specs::Symbols::entries))]
-pub fn symbols_of(alloc: Global, symbols: &[Symbol]) -> Result<Bytes, NoMemory>
-    requires names { All (λ s. IsName s.name) symbols.now }
-    requires few { length symbols.now ≤ 65535 }
-    ensures { IfOk result (λ b. b ≡ symbol_bytes symbols.now) }
+// The symbols of the entries behind the first.
+#[tactic(auto, using(crate::proofs::SymbolLemmas::prepend_start, crate::proofs::SymbolLemmas::prepend_more, crate::proofs::SymbolLemmas::prepend_stop, crate::proofs::SymbolLemmas::prepend_end))]
+fn read_entries(alloc: Global, table: &[u8], strings: &[u8]) -> Result<List<Symbol>, ElfFault>
+    requires few { length table.now ≤ 1572864 }
+    ensures ok { IfOk result (λ symbols. symbols_from table.now strings.now (length table.now / 24 - 1) 1 ≡ Ok symbols) }
+    ensures err { IfErr result (λ e. e ≢ ElfFault.NoMemory → symbols_from table.now strings.now (length table.now / 24 - 1) 1 ≡ Err e) }
 {
-    let mut out = Bytes::new(alloc);
-    put_zeros(&mut out, 24)?;
-    let mut name = 1u32;
-    for s in symbols {
-        put_entry(&mut out, name, s.addr)?;
-        name += s.name.as_slice().len() as u32 + 1;
+    let count = table.len() / 24;
+    let mut symbols = List::new(alloc);
+    for index in 1..count {
+        let symbol = match symbol_at(alloc, table, strings, index) {
+            Ok(symbol) => symbol,
+            Err(e) => return Err(e),
+        };
+        if symbols.push(symbol).is_err() {
+            return Err(ElfFault::NoMemory);
+        }
     }
-    Ok(out)
+    Ok(symbols)
 }

@@ -2,8 +2,8 @@
 use Rattle.std.proofs.Common.{◌≡◌, ℕ, ◌+◌, ◌-◌, ◌^◌, ◌<◌, ◌≤◌, ◌==◌, true, false, nat_lt, None, is_some, List, ◌++◌, length, take, drop, refl, ap, ◌∙◌, arith}
 use Rattle.std.proofs.lemmas.Bool.Decides.{nat_tests}
 use Rattle.std.proofs.lemmas.Nat.{from_le_bytes-to_le_bytes_8}
-use Rattle.tm_elf.specs.Fields.{field_bytes, bytes_of, zeros}
-use Rattle.tm_elf.specs.Header.{header}
+use Rattle.tm_elf_write.specs.Fields.{field_bytes, bytes_of, zeros}
+use Rattle.tm_elf_write.specs.Header.{header}
 use Rattle.tm_elf_head.specs.Differences.{difference_from, differ}
 use Rattle.tm_elf_head.specs.HeaderFaults.{magic, bad_field, header_fault}
 use Rattle.tm_elf_head.specs.Numbers.{half_at, word_at, long_at}

@@ -3,7 +3,7 @@ use Rattle.std.proofs.Common.{◌≡◌, ℕ, ◌+◌, ◌-◌, ◌^◌, ◌<◌
 use Rattle.std.specs.Int.{from_le_bytes, to_le_bytes, w32, w64}
 use Rattle.std.proofs.lemmas.List.{take-append-drop, take-take, drop-take, drop-drop}
 use Rattle.std.proofs.lemmas.Nat.{from_le_bytes-to_le_bytes_4, from_le_bytes-to_le_bytes_8}
-use Rattle.tm_elf.specs.Stands.{StandsAt}
+use Rattle.tm_elf_write.specs.Stands.{StandsAt}
 use Rattle.tm_elf_head.specs.Numbers.{word_at, long_at}
 
 pub fronts : (part bytes : List ℕ) → StandsAt 0 part bytes → bytes ≡ part ++ drop (length part) bytes

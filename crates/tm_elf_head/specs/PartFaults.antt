@@ -1,6 +1,6 @@
 -- What is at fault in the ranges of a file, and in its plan.
 use Rattle.std.specs.Prelude.{ℕ, List, Bool, Option, Some, None, ◌+◌, ◌*◌, ◌%◌, ◌==◌, ◌&&◌, not, nat_lt, nat_le, if◌then◌else◌, length, take, drop, codes}
-use Rattle.tm_elf.specs.declared.parts.Plan.{Plan}
+use Rattle.tm_elf_write.specs.declared.parts.Plan.{Plan}
 use Rattle.tm_elf_head.specs.Differences.{differ}
 use Rattle.tm_elf_head.specs.Numbers.{word_at, long_at}
 use Rattle.tm_elf_head.specs.Spans.{headers_at, segment, section, ends_by, bytes_in}

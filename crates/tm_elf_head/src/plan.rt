@@ -7,7 +7,7 @@ use crate::numbers::{long_at, part_at, word_at};
 use crate::spans::{headers_at, section};
 use std::alloc::Global;
 use tm_base::{Bytes, NoMemory};
-use tm_elf::Plan;
+use tm_elf_write::Plan;
 
 // The magic, the seed and two lengths.
 const PLAN_HEAD: usize = 24;

@@ -1,2 +1,1 @@
-pub mod SymbolLemmas
-pub mod BuildLemmas
+pub mod Opening

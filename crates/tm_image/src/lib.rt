@@ -1,7 +1,9 @@
-//! From the two input texts to the program of an image and its file.
+//! Opens images: a file is taken only where it is built again of its own plan, byte for byte.
 #![tactic(auto)]
 
-mod image;
+pub mod laws;
+mod open;
 
-pub use image::{Image, build};
-pub use tm_inputs::{BuildFault, InputFault, Role, topology_fault};
+pub use open::open_image;
+pub use tm_faults::{BuildFault, ImageFault, InputFault, Role};
+pub use tm_image_build::{Image, build};

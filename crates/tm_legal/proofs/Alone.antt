@@ -5,7 +5,7 @@ use Rattle.std.proofs.lemmas.Bool.{cases_Bool, false≢true, eqb-false}
 use Rattle.tm_table.specs.declared.state.Access.{Access}
 use Rattle.tm_table.specs.declared.state.Access.TheVariants.{Quiet, Read, Write}
 use Rattle.tm_plan.specs.declared.program.Program.{Program}
-use Rattle.tm_plan.specs.Collected.{count_from}
+use Rattle.tm_base.specs.Lists.{count_from}
 use Rattle.tm_world.specs.Lists.{those, or_else}
 use Rattle.tm_world.specs.Place.{harts, exit_of, image_byte, byte_of}
 use Rattle.tm_world.specs.Run.{Step, Run, Always, own, hart_of, pc_of, access_of, phase, in_phase, written, last_write, Reads, Writes}

@@ -3,8 +3,8 @@ use Rattle.std.proofs.Common.{◌≡◌, ◌≢◌, ℕ, zero, suc, ◌+◌, ◌
 use Rattle.std.specs.Prelude.{IsTrue, IsFalse, if◌then◌else◌, slice_index}
 use Rattle.std.proofs.lemmas.Bool.{true≢false, cases_lt, or_cases, or_from, or_left, or_right}
 use Rattle.tm_plan.specs.declared.program.Program.{Program}
-use Rattle.tm_plan.specs.Map.{text_base, tables_base, flag_at, verdict_at, private_at, private_size, windows_base, windows_size, within}
-use Rattle.tm_plan.specs.Collected.{any, count_from}
+use Rattle.tm_plan_map.specs.Map.{text_base, tables_base, flag_at, verdict_at, private_at, private_size, windows_base, windows_size, within}
+use Rattle.tm_base.specs.Lists.{any, count_from}
 use Rattle.tm_world.specs.Lists.{those}
 use Rattle.tm_world.specs.Place.{harts, case_count, is_text, is_table, is_flag, is_verdict, is_private, image_byte, byte_of}
 use Rattle.tm_world.specs.Writers.{may_write, may_write_window, writers}

@@ -6,7 +6,7 @@ use Rattle.tm_table.specs.declared.state.Access.{Access}
 use Rattle.tm_table.specs.declared.state.Access.TheVariants.{Quiet, Read, Write}
 use Rattle.tm_table.specs.State.{Hart}
 use Rattle.tm_plan.specs.declared.program.Program.{Program}
-use Rattle.tm_plan.specs.Map.{text_base, within, windows_base, windows_size}
+use Rattle.tm_plan_map.specs.Map.{text_base, within, windows_base, windows_size}
 use Rattle.tm_plan.specs.declared.cases.Stream.{Stream}
 use Rattle.tm_world.specs.Writers.{stream_in}
 use Rattle.tm_world.specs.Place.{harts, is_text, is_table, is_window, byte_of}

@@ -12,8 +12,8 @@ use Rattle.tm_table.specs.Row.{Effect, Gives, Loads, Stores, Branches, Jumps, ef
 use Rattle.tm_table.proofs.Signs.{low-lt}
 use Rattle.tm_plan.specs.declared.program.Program.{Program}
 use Rattle.tm_plan.specs.declared.cases.Stream.{Stream}
-use Rattle.tm_plan.specs.Map.{window_at, within}
-use Rattle.tm_plan.specs.Slots.{instr_of, load_width, store_width, is_access, is_jump, slot_addr, slot_target, stores_to}
+use Rattle.tm_plan_map.specs.Map.{window_at, within}
+use Rattle.tm_plan_map.specs.Slots.{instr_of, load_width, store_width, is_access, is_jump, slot_addr, slot_target, stores_to}
 use Rattle.tm_plan.specs.Collected.{is_declared}
 use Rattle.tm_plan.specs.Shaped.{IsShapedWindow}
 use Rattle.tm_world.specs.Place.{harts, start_of, end_of, inside, is_window}

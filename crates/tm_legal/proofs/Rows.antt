@@ -10,7 +10,7 @@ use Rattle.tm_table.specs.State.{Hart}
 use Rattle.tm_table.specs.Row.{Effect, Gives, Loads, Stores, Branches, Jumps, effect, word64, loaded, put, after}
 use Rattle.tm_table.proofs.Bounds.{effect-bounded}
 use Rattle.tm_table.proofs.Signs.{low-lt}
-use Rattle.tm_plan.specs.Slots.{load_width, store_width, is_access, is_barred, is_jump}
+use Rattle.tm_plan_map.specs.Slots.{load_width, store_width, is_access, is_barred, is_jump}
 use Rattle.tm_world.specs.Run.{HasShape, IsFitting}
 
 -- ---- registers

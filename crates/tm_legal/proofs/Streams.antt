@@ -10,10 +10,11 @@ use Rattle.tm_plan.specs.declared.program.Program.{Program}
 use Rattle.tm_plan.specs.declared.cases.Cases.{Cases}
 use Rattle.tm_plan.specs.declared.cases.Case.{Case}
 use Rattle.tm_plan.specs.declared.cases.Stream.{Stream}
-use Rattle.tm_plan.specs.declared.cases.Window.{Window}
-use Rattle.tm_plan.specs.Map.{text_base, window_at, windows_base, windows_size}
-use Rattle.tm_plan.specs.Slots.{instr_of}
-use Rattle.tm_plan.specs.Collected.{any, is_declared, declares}
+use Rattle.tm_plan_map.specs.declared.windows.Window.{Window}
+use Rattle.tm_plan_map.specs.Map.{text_base, window_at, windows_base, windows_size}
+use Rattle.tm_plan_map.specs.Slots.{instr_of}
+use Rattle.tm_plan.specs.Collected.{is_declared, declares}
+use Rattle.tm_base.specs.Lists.{any}
 use Rattle.tm_plan.specs.Shaped.{IsShapedSlot, IsShapedStream, IsShapedCase, IsShapedWindow, AreShaped}
 use Rattle.tm_world.specs.Place.{harts, start_of, end_of, inside, is_text, is_window, word_at}
 use Rattle.tm_world.specs.Writers.{stream_in}

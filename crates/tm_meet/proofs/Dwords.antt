@@ -5,7 +5,7 @@ use Rattle.tm_table.specs.State.{Hart}
 use Rattle.tm_plan.specs.declared.program.Program.{Program}
 use Rattle.tm_plan.specs.declared.cases.Cases.{Cases}
 use Rattle.tm_plan.specs.declared.cases.Case.{Case}
-use Rattle.tm_plan.specs.Map.{windows_base}
+use Rattle.tm_plan_map.specs.Map.{windows_base}
 use Rattle.tm_plan.specs.Collected.{is_declared, collector, owned}
 use Rattle.tm_plan.specs.Shaped.{AreShaped}
 use Rattle.tm_world.specs.Place.{byte_of}

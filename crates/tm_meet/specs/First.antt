@@ -3,7 +3,7 @@ use Rattle.std.specs.Prelude.{◌≡◌, ◌≢◌, ℕ, suc, ◌+◌, ◌-◌, 
 use Rattle.tm_table.specs.State.{Hart}
 use Rattle.tm_plan.specs.declared.program.Program.{Program}
 use Rattle.tm_plan.specs.declared.cases.Case.{Case}
-use Rattle.tm_plan.specs.Map.{windows_base}
+use Rattle.tm_plan_map.specs.Map.{windows_base}
 use Rattle.tm_plan.specs.Collected.{is_declared, collector, owned}
 use Rattle.tm_world.specs.Place.{case_count, case_of_round, first_dwords, exit_of, byte_of}
 use Rattle.tm_world.specs.Run.{Step, Always, now, pc_of, phase, last_write}
@@ -17,7 +17,7 @@ use Rattle.tm_world.specs.Whole.{first_byte}
 abbrev pub SetsBeforeSignal : Program → ℕ → Hart → List Step → Type 0
 SetsBeforeSignal p h first = Always (λ past s. IsTrue (signals h s) → (e b : ℕ) (case : Case)
     → round_of_phase p (suc (phase (exit_of p h) past)) ≡ Some e
-        → slice_get p.cases.cases (case_of_round p e) ≡ Some case
+    → slice_get p.cases.cases (case_of_round p e) ≡ Some case
     → IsTrue (is_declared p.cases b) → collector p.cases b ≡ h
     → last_write b (this_phase p h past) ≡ Some (first_byte (first_dwords p e case) b))
 
@@ -25,9 +25,9 @@ SetsBeforeSignal p h first = Always (λ past s. IsTrue (signals h s) → (e b : 
 abbrev pub SetsDwords : Program → ℕ → Hart → List Step → Type 0
 SetsDwords p h first = Always (λ past s. IsTrue (signals h s) → (e : ℕ) (case : Case)
     → round_of_phase p (suc (phase (exit_of p h) past)) ≡ Some e
-        → slice_get p.cases.cases (case_of_round p e) ≡ Some case
+    → slice_get p.cases.cases (case_of_round p e) ≡ Some case
     → All (λ a. (i : ℕ) → i < 8 → last_write (a + i) (this_phase p h past)
-        ≡ Some (byte_of (slice_index (first_dwords p e case) ((a - windows_base) / 8)) i)) (owned p.cases h))
+    ≡ Some (byte_of (slice_index (first_dwords p e case) ((a - windows_base) / 8)) i)) (owned p.cases h))
 
 -- The step with which hart h comes into a stream isn't the one at its exit mark. (Such a step would still be one of
 -- the phase before, of which a legal run says less.)

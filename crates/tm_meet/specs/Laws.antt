@@ -1,8 +1,8 @@
 -- Laws of runs in which harts meet (this project's own).
 use Rattle.std.specs.Prelude.{◌≡◌, ◌≢◌, ℕ, suc, ◌+◌, ◌<◌, ◌≤◌, Some, IsTrue, unwrap_or, if◌then◌else◌}
 use Rattle.tm_plan.specs.declared.program.Program.{Program}
-use Rattle.tm_plan.specs.Map.{flag_at}
-use Rattle.tm_plan.specs.Collected.{any}
+use Rattle.tm_plan_map.specs.Map.{flag_at}
+use Rattle.tm_base.specs.Lists.{any}
 use Rattle.tm_world.specs.Place.{harts, image_byte, byte_of}
 use Rattle.tm_world.specs.Run.{Run, Always, hart_of, own, phase, last_write}
 use Rattle.tm_world.specs.Writers.{settled}
@@ -25,9 +25,9 @@ PlainIsLegal p = AllMeet p → (r : Run) → Plain p r → Legal p r
 abbrev pub FlagsCount : Program → Type 0
 FlagsCount p = AllMeet p → (r : Run) → OneMemory p r → (g : ℕ) → g < harts p
     → ((i : ℕ) → i < 8 → unwrap_or (last_write (flag_at g + i) r.steps) (image_byte p (flag_at g + i))
-        ≡ byte_of (flag_writes g (own g r.steps)) i)
+    ≡ byte_of (flag_writes g (own g r.steps)) i)
     × (flag_writes g (own g r.steps)
-        ≡ phase_of p r.steps g + (if any (signals g) (this_phase p g (own g r.steps)) then 1 else 0))
+    ≡ phase_of p r.steps g + (if any (signals g) (this_phase p g (own g r.steps)) then 1 else 0))
 
 -- In each state of a run of one memory no hart is in a later phase than all others have signalled: it leaves no
 -- barrier before they have arrived.

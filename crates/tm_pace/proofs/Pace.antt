@@ -7,7 +7,8 @@ use Rattle.tm_table.specs.State.{Hart}
 use Rattle.tm_plan.specs.declared.program.Program.{Program}
 use Rattle.tm_plan.specs.declared.cases.Cases.{Cases}
 use Rattle.tm_plan.specs.declared.cases.Case.{Case}
-use Rattle.tm_plan.specs.Collected.{count_from, sum_of, owned, work_in, work_of}
+use Rattle.tm_plan.specs.Collected.{sum_of, owned, work_in, work_of}
+use Rattle.tm_base.specs.Lists.{count_from}
 use Rattle.tm_world.specs.Place.{harts, case_count, passes, start_of, end_of, exit_of}
 use Rattle.tm_world.specs.Run.{Step, hart_of, own, now, phase}
 use Rattle.tm_world.specs.Kinds.{first_of_hart, stream_at}

@@ -1,7 +1,8 @@
 -- Laws of runs in which harts meet (this project's own).
 use Rattle.std.specs.Prelude.{◌^◌, ℕ, suc, ◌+◌, ◌*◌, ◌<◌, ◌≤◌, length, IsFalse}
 use Rattle.tm_plan.specs.declared.program.Program.{Program}
-use Rattle.tm_plan.specs.Collected.{count_from, sum_of, work_of, budget_of}
+use Rattle.tm_plan.specs.Collected.{sum_of, work_of, budget_of}
+use Rattle.tm_base.specs.Lists.{count_from}
 use Rattle.tm_world.specs.Place.{harts, passes, exit_of}
 use Rattle.tm_world.specs.Run.{Run, Always, hart_of, own, phase}
 use Rattle.tm_world.specs.Course.{OnHalf, last_phase}
@@ -23,7 +24,7 @@ abbrev pub PhasesAddUp : Program → Type 0
 PhasesAddUp p = AllMeet p → (h : ℕ) → h < harts p → (most : ℕ → ℕ)
     → OnHalf p h (λ first own. (q : ℕ) → q ≤ last_phase p → phase_work p h first q own ≤ most q)
     → OnLegal p h (λ first own. work_steps p h own
-        ≤ sum_of most (count_from 0 (suc (last_phase p))) + passes p * words_in h p.cases.cases)
+    ≤ sum_of most (count_from 0 (suc (last_phase p))) + passes p * words_in h p.cases.cases)
 
 -- A hart that keeps a pace which fits, and on half runs doesn't get stuck, keeps its bound.
 abbrev pub PaceBounds : Program → Type 0

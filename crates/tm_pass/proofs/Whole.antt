@@ -2,7 +2,7 @@
 use Rattle.std.proofs.Common.{◌≡◌, ℕ, ◌+◌, List, [], ◌∷◌, ◌++◌, length, sym, ap, ap₂, ◌∙◌, arith, length-append}
 use Rattle.tm_table.specs.declared.instr.Instr.{Instr}
 use Rattle.tm_table.specs.Words.{word_of}
-use Rattle.tm_plan.specs.Map.{save_at, windows_base}
+use Rattle.tm_plan_map.specs.Map.{save_at, windows_base}
 use Rattle.tm_blocks.specs.Instrs.{jump, words_of}
 use Rattle.tm_blocks.proofs.Lists.{and_then}
 use Rattle.tm_blocks.proofs.Lengths.{length-words_of, length-save_registers, length-collect}

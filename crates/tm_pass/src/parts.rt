@@ -1,6 +1,6 @@
 // The parts of a hart's program, appended as their words. Distances are in instructions.
 ghost use Rattle.std.specs.Prelude.{◌≡◌, ◌++◌, ◌<◌, ◌≤◌, OnOk};
-ghost use Rattle.tm_plan.specs.Map.{windows_base};
+ghost use Rattle.tm_plan_map.specs.Map.{windows_base};
 ghost use Rattle.tm_blocks.specs.Instrs.{words_of};
 ghost use Rattle.tm_pass.specs.Hart.{registers_table, masks_table, first_table, bytes_table, first_bytes, entry, arrive, choose, run, leave, between, last};
 
@@ -9,7 +9,7 @@ use tm_blocks::{
     Comparison, addi, beq, jump_back, ld, put_collect, put_compare, put_constant, put_copy,
     put_load_registers, put_save_registers, sd,
 };
-use tm_plan::{private_base, save_addr, table_addr, verdict_addr, window_base};
+use tm_plan_map::{private_base, save_addr, table_addr, verdict_addr, window_base};
 
 // Dwords of the one declared line.
 const DECLARED: u16 = 8;
@@ -26,7 +26,7 @@ fn registers_table() -> u64
 }
 
 // The dword that says which registers are checked, behind 31 dwords.
-#[tactic(auto, unfolding(crate::specs::Hart::masks_table, tm_plan::specs::Map::table_at, tm_plan::specs::Map::tables_base))]
+#[tactic(auto, unfolding(crate::specs::Hart::masks_table, tm_plan_map::specs::Map::table_at, tm_plan_map::specs::Map::tables_base))]
 fn masks_table() -> u64
     ensures { result ≡ masks_table }
 {
@@ -34,7 +34,7 @@ fn masks_table() -> u64
 }
 
 // The first bytes of the windows.
-#[tactic(auto, unfolding(crate::specs::Hart::first_table, tm_plan::specs::Map::table_at, tm_plan::specs::Map::tables_base))]
+#[tactic(auto, unfolding(crate::specs::Hart::first_table, tm_plan_map::specs::Map::table_at, tm_plan_map::specs::Map::tables_base))]
 fn first_table() -> u64
     ensures { result ≡ first_table }
 {
@@ -42,7 +42,7 @@ fn first_table() -> u64
 }
 
 // The mask bytes of the windows, behind their 6144 first bytes.
-#[tactic(auto, unfolding(crate::specs::Hart::bytes_table, tm_plan::specs::Map::table_at, tm_plan::specs::Map::tables_base))]
+#[tactic(auto, unfolding(crate::specs::Hart::bytes_table, tm_plan_map::specs::Map::table_at, tm_plan_map::specs::Map::tables_base))]
 fn bytes_table() -> u64
     ensures { result ≡ bytes_table }
 {
@@ -50,7 +50,7 @@ fn bytes_table() -> u64
 }
 
 // The declared line is the first of the windows.
-#[tactic(auto, unfolding(tm_plan::specs::Map::window_at, tm_plan::specs::Map::windows_base))]
+#[tactic(auto, unfolding(tm_plan_map::specs::Map::window_at, tm_plan_map::specs::Map::windows_base))]
 fn declared_line() -> u64
     ensures { result ≡ windows_base }
 {

@@ -1,9 +1,9 @@
 -- Which accesses are allowed, by where their first and last bytes stand.
 use Rattle.std.proofs.Common.{◌≡◌, ◌≤◌, ◌<◌, ℕ, ◌+◌, ◌-◌, ◌/◌, ◌%◌, inl, inr, sym, subst, arith, refl, ◌≢◌, ◌↔◌, IsTrue, Bool, nat_eq}
 use Rattle.std.proofs.lemmas.Bool.Decides.{nat_tests}
-use Rattle.tm_plan.specs.declared.cases.Window.{Window}
-use Rattle.tm_plan.specs.declared.cases.Kind2.{Kind2}
-use Rattle.tm_plan.specs.declared.cases.Kind2.TheVariants.{True, False, Own}
+use Rattle.tm_plan_map.specs.declared.windows.Window.{Window}
+use Rattle.tm_plan_map.specs.declared.windows.Kind2.{Kind2}
+use Rattle.tm_plan_map.specs.declared.windows.Kind2.TheVariants.{True, False, Own}
 use Rattle.tm_place.specs.declared.placement.Placement.{Placement}
 use Rattle.tm_place.specs.Placed.{sharing_of}
 use Rattle.tm_place.specs.Sharing.{Sharing, StandsAt, StoresAt, LoadsAt, MayStoreByte, MayLoadByte, MayStore, MayLoad, IsWidth}

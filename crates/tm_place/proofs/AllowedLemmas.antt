@@ -1,10 +1,10 @@
 -- What is computed of an access is what the table of placement says.
 use Rattle.std.proofs.Common.{◌≡◌, ◌≢◌, ◌≤◌, ◌<◌, ℕ, ◌+◌, ◌-◌, ◌/◌, ◌%◌, Bool, true, false, IsTrue, ◌↔◌, Option, Some, None, List, get_or, refl, inl, inr, sym, ◌∙◌}
 use Rattle.std.proofs.lemmas.Bool.{cases_lt, cases_eq, lt-ltb, le-ltb, eq-eqb, ne_eqb, false≢true}
-use Rattle.tm_plan.specs.declared.cases.Window.{Window}
-use Rattle.tm_plan.specs.declared.cases.Kind2.{Kind2}
-use Rattle.tm_plan.specs.declared.cases.Kind2.TheVariants.{True, False, Own}
-use Rattle.tm_plan.specs.Map.{windows_base}
+use Rattle.tm_plan_map.specs.declared.windows.Window.{Window}
+use Rattle.tm_plan_map.specs.declared.windows.Kind2.{Kind2}
+use Rattle.tm_plan_map.specs.declared.windows.Kind2.TheVariants.{True, False, Own}
+use Rattle.tm_plan_map.specs.Map.{windows_base}
 use Rattle.tm_place.specs.declared.placement.Placement.{Placement}
 use Rattle.tm_place.specs.Sharing.{Sharing, StandsAt, MayStore, MayLoad, IsWidth}
 use Rattle.tm_place.specs.Placed.{sharing_by, sharing_of}

@@ -1,7 +1,7 @@
 -- What keeps the harts apart.
 use Rattle.std.proofs.Common.{◌≡◌, ◌≢◌, ◌≤◌, ℕ, refl, sym, ◌∙◌}
-use Rattle.tm_plan.specs.declared.cases.Kind2.{Kind2}
-use Rattle.tm_plan.specs.declared.cases.Kind2.TheVariants.{True, False, Own}
+use Rattle.tm_plan_map.specs.declared.windows.Kind2.{Kind2}
+use Rattle.tm_plan_map.specs.declared.windows.Kind2.TheVariants.{True, False, Own}
 use Rattle.tm_place.specs.declared.placement.Placement.{Placement}
 use Rattle.tm_place.specs.Sharing.{Sharing, StoresAt, LoadsAt}
 use Rattle.tm_place.specs.Placed.{sharing_of}

@@ -2,8 +2,8 @@
 use Rattle.std.proofs.Common.{◌≡◌, ◌==◌, ◌<◌, ◌≤◌, ℕ, zero, suc, Bool, true, List, [], ◌∷◌, Option, Some, None, IfSome, All, slice_get, slice_index, refl, ◌∙◌, arith, inl, inr, eqb-true, length, get_or, subst}
 use Rattle.std.specs.Prelude.{find}
 use Rattle.std.proofs.lemmas.Bool.{cases_Bool}
-use Rattle.tm_plan.specs.declared.cases.Window.{Window}
-use Rattle.tm_plan.specs.declared.admitted.Admitted.{Admitted}
+use Rattle.tm_plan_map.specs.declared.windows.Window.{Window}
+use Rattle.tm_plan_map.specs.declared.admitted.Admitted.{Admitted}
 use Rattle.tm_place.specs.Limits.{IsWindow, IsPlacement}
 use Rattle.tm_place.specs.Draws.{draw}
 use Rattle.tm_place.specs.Placed.{standing}

@@ -1,6 +1,6 @@
 -- Placements of three windows, without hot lines.
 use Rattle.std.proofs.Common.{◌≡◌, ◌≤◌, ℕ, zero, suc, [], ◌∷◌, Option, Some, None, slice_get, slice_index, IsTrue, refl, subst}
-use Rattle.tm_plan.specs.declared.cases.Window.{Window}
+use Rattle.tm_plan_map.specs.declared.windows.Window.{Window}
 use Rattle.tm_place.specs.Numbers.{is_line_size, part_size}
 use Rattle.tm_place.specs.Limits.{IsWindow, IsPlacement}
 

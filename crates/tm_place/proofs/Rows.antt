@@ -1,9 +1,9 @@
 -- Worked rows.
 use Rattle.std.proofs.Common.{◌≡◌, ℕ, Option, Some, None, zero, suc, ◌≤◌, refl, arith, ap, subst}
-use Rattle.tm_plan.specs.declared.cases.Window.{Window}
-use Rattle.tm_plan.specs.declared.cases.Kind2.TheVariants.{False}
-use Rattle.tm_plan.specs.declared.cases.Kind2.{Kind2}
-use Rattle.tm_plan.specs.Map.{window_at, windows_base}
+use Rattle.tm_plan_map.specs.declared.windows.Window.{Window}
+use Rattle.tm_plan_map.specs.declared.windows.Kind2.TheVariants.{False}
+use Rattle.tm_plan_map.specs.declared.windows.Kind2.{Kind2}
+use Rattle.tm_plan_map.specs.Map.{window_at, windows_base}
 use Rattle.tm_place.specs.Sharing.{Sharing, StoresAt, MayStoreByte, MayLoadByte}
 use Rattle.tm_place.specs.Numbers.{choice, part_size}
 

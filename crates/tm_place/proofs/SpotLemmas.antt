@@ -2,8 +2,8 @@
 use Rattle.std.proofs.Common.{◌≡◌, ◌≤◌, ◌<◌, ℕ, zero, suc, ◌+◌, ◌-◌, ◌*◌, ◌/◌, ◌%◌, refl, inl, inr, sym, ◌∙◌, ap, subst, arith, Option, Some, None, List, [], ◌∷◌, slice_get, get_or, IsTrue}
 use Rattle.std.proofs.Math.Nat.{mod-lt}
 use Rattle.std.proofs.lemmas.Nat.{div-add-mod'}
-use Rattle.tm_plan.specs.declared.cases.Window.{Window}
-use Rattle.tm_plan.specs.Map.{window_at, windows_base}
+use Rattle.tm_plan_map.specs.declared.windows.Window.{Window}
+use Rattle.tm_plan_map.specs.Map.{window_at, windows_base}
 use Rattle.tm_place.specs.declared.placement.Placement.{Placement}
 use Rattle.tm_place.specs.Numbers.{is_line_size, part_size}
 use Rattle.tm_place.specs.Limits.{IsWindow}

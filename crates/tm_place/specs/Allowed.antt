@@ -1,9 +1,9 @@
 -- Which accesses are allowed, computed from their addresses (this project's own).
 use Rattle.std.specs.Prelude.{ℕ, ◌+◌, ◌-◌, ◌/◌, ◌%◌, ◌==◌, Bool, true, false, ◌&&◌, nat_lt, List, get_or, Option, Some, None, if◌then◌else◌}
-use Rattle.tm_plan.specs.declared.cases.Window.{Window}
-use Rattle.tm_plan.specs.declared.cases.Kind2.{Kind2}
-use Rattle.tm_plan.specs.declared.cases.Kind2.TheVariants.{True, False, Own}
-use Rattle.tm_plan.specs.Map.{windows_base}
+use Rattle.tm_plan_map.specs.declared.windows.Window.{Window}
+use Rattle.tm_plan_map.specs.declared.windows.Kind2.{Kind2}
+use Rattle.tm_plan_map.specs.declared.windows.Kind2.TheVariants.{True, False, Own}
+use Rattle.tm_plan_map.specs.Map.{windows_base}
 
 -- whether hart h may store to bytes first to last of line j of a window of a kind
 abbrev pub line_stores : Kind2 → (harts part h j first last : ℕ) → Bool

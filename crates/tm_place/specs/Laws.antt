@@ -1,7 +1,7 @@
 -- What keeps the harts apart (this project's own).
 use Rattle.std.specs.Prelude.{ℕ, ◌*◌, ◌≤◌, ◌≡◌, ◌≢◌}
-use Rattle.tm_plan.specs.declared.cases.Window.{Window}
-use Rattle.tm_plan.specs.declared.cases.Kind2.TheVariants.{True}
+use Rattle.tm_plan_map.specs.declared.windows.Window.{Window}
+use Rattle.tm_plan_map.specs.declared.windows.Kind2.TheVariants.{True}
 use Rattle.tm_place.specs.Sharing.{Sharing, StandsAt, MayStoreByte, MayLoadByte}
 
 -- No byte of a false or own window may be stored to by two harts.

@@ -1,7 +1,7 @@
 -- The limits of a placement's numbers (this project's own).
 use Rattle.std.specs.Prelude.{ℕ, ◌*◌, ◌<◌, ◌≤◌, ◌≡◌, List, Option, Some, None, slice_get, slice_index, IsTrue}
-use Rattle.tm_plan.specs.declared.cases.Window.{Window}
-use Rattle.tm_plan.specs.declared.cases.Kind2.TheVariants.{Own}
+use Rattle.tm_plan_map.specs.declared.windows.Window.{Window}
+use Rattle.tm_plan_map.specs.declared.windows.Kind2.TheVariants.{Own}
 use Rattle.tm_place.specs.Numbers.{is_line_size, part_size}
 
 -- Window w, below 3: of at least one line and at most 2048 bytes, and an own window has a line for each hart.

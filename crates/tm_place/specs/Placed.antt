@@ -1,6 +1,6 @@
 -- What a placement shares (this project's own).
 use Rattle.std.specs.Prelude.{ℕ, List, Option, Some, None, slice_get}
-use Rattle.tm_plan.specs.declared.cases.Window.{Window}
+use Rattle.tm_plan_map.specs.declared.windows.Window.{Window}
 use Rattle.tm_place.specs.declared.placement.Placement.{Placement}
 use Rattle.tm_place.specs.Sharing.{Sharing}
 

@@ -1,6 +1,6 @@
 -- How a case shares its windows. This project's own.
 use Rattle.std.specs.Prelude.{ℕ, ◌==◌, List, [], ◌∷◌, find, Option, Some, None}
-use Rattle.tm_plan.specs.declared.cases.Window.{Window}
+use Rattle.tm_plan_map.specs.declared.windows.Window.{Window}
 use Rattle.tm_place.specs.Numbers.{choice}
 use Rattle.tm_place.specs.Draws.{draw}
 

@@ -2,13 +2,13 @@
 use Rattle.std.specs.Prelude.{ℕ, ◌+◌, ◌-◌, ◌*◌, ◌%◌, ◌==◌, ◌<◌, ◌≤◌, ◌≡◌, ◌≢◌, IsTrue, IsFalse, List, length, find, slice_get, Some, All, AllPairs}
 use Rattle.tm_table.specs.declared.instr.Instr.{Instr}
 use Rattle.tm_table.specs.Words.{low, Fits}
-use Rattle.tm_plan.specs.Slots.{is_access, is_barred, is_jump, load_width, store_width, slot_addr, slot_target}
-use Rattle.tm_plan.specs.declared.cases.Window.{Window}
-use Rattle.tm_plan.specs.declared.cases.Kind2.TheVariants.{Own}
-use Rattle.tm_plan.specs.declared.admitted.Slot.{Slot}
-use Rattle.tm_plan.specs.declared.admitted.Slot.TheVariants.{Emit, Mix}
-use Rattle.tm_plan.specs.declared.admitted.AdmittedCase.{AdmittedCase}
-use Rattle.tm_plan.specs.declared.admitted.Admitted.{Admitted}
+use Rattle.tm_plan_map.specs.Slots.{is_access, is_barred, is_jump, load_width, store_width, slot_addr, slot_target}
+use Rattle.tm_plan_map.specs.declared.windows.Window.{Window}
+use Rattle.tm_plan_map.specs.declared.windows.Kind2.TheVariants.{Own}
+use Rattle.tm_plan_map.specs.declared.admitted.Slot.{Slot}
+use Rattle.tm_plan_map.specs.declared.admitted.Slot.TheVariants.{Emit, Mix}
+use Rattle.tm_plan_map.specs.declared.admitted.AdmittedCase.{AdmittedCase}
+use Rattle.tm_plan_map.specs.declared.admitted.Admitted.{Admitted}
 use Rattle.tm_place.specs.Numbers.{is_line_size, part_size}
 use Rattle.tm_place.specs.Sharing.{Sharing, StandsAt, MayStore, MayLoad}
 

@@ -1,9 +1,9 @@
 -- Who may store to and load from which byte of the windows (this project's own).
 use Rattle.std.specs.Prelude.{ℕ, ◌+◌, ◌*◌, ◌%◌, ◌<◌, ◌≤◌, ◌≡◌, ◌⊎◌, Option, Some}
-use Rattle.tm_plan.specs.declared.cases.Window.{Window}
-use Rattle.tm_plan.specs.declared.cases.Kind2.{Kind2}
-use Rattle.tm_plan.specs.declared.cases.Kind2.TheVariants.{True, False, Own}
-use Rattle.tm_plan.specs.Map.{window_at}
+use Rattle.tm_plan_map.specs.declared.windows.Window.{Window}
+use Rattle.tm_plan_map.specs.declared.windows.Kind2.{Kind2}
+use Rattle.tm_plan_map.specs.declared.windows.Kind2.TheVariants.{True, False, Own}
+use Rattle.tm_plan_map.specs.Map.{window_at}
 
 -- What decides it: the number of harts, the bytes of a line and those of a hart's part of one, and the window of each number.
 pub record Sharing : Type 0 where

@@ -5,7 +5,7 @@ ghost use Rattle.tm_place.specs.Allowed.{may_store_at, may_load_at};
 
 use crate::placement::Placement;
 use crate::spot::spot_of;
-use tm_plan::Kind2;
+use tm_plan_map::Kind2;
 
 /// Whether hart `h` may store `width` bytes at `addr`. `h` is below the harts, and `width` is 1, 2, 4 or 8.
 pub fn may_store(p: &Placement, h: u32, addr: u64, width: u8) -> bool

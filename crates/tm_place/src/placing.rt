@@ -7,7 +7,7 @@ ghost use Rattle.tm_place.specs.Ruled.{IsRuled, sharing_in};
 use crate::choosing::choice;
 use crate::drawing::draw;
 use crate::placement::Placement;
-use tm_plan::{Admitted, Window};
+use tm_plan_map::{Admitted, Window};
 
 /// How case `c` of a ruled test shares its windows, with the hot lines that the seed draws.
 pub fn place(a: &Admitted, seed: u64, c: u32) -> Placement

@@ -1,10 +1,10 @@
 ghost use Rattle.std.specs.Prelude.{ℕ, MatchOption};
-ghost use Rattle.tm_plan.specs.declared.cases.Window.{Window};
+ghost use Rattle.tm_plan_map.specs.declared.windows.Window.{Window};
 ghost use Rattle.tm_place.specs.Sharing.{StandsAt};
 ghost use Rattle.tm_place.specs.Placed.{sharing_of};
 
 use crate::placement::Placement;
-use tm_plan::{Window, window_base};
+use tm_plan_map::{Window, window_base};
 
 // A byte of a window: which window, which of its lines, and which byte of that.
 #[derive(Clone, Copy)]

@@ -1,7 +1,7 @@
 -- Numbers that are counted up.
 use Rattle.std.proofs.Common.{◌≡◌, ◌+◌, ℕ, zero, suc, List, [], ◌∷◌, ◌++◌, map, refl, ap, ◌∙◌, add-one, arith}
 use Rattle.std.proofs.lemmas.List.{map-append}
-use Rattle.tm_plan.specs.Collected.{count_from}
+use Rattle.tm_base.specs.Lists.{count_from}
 
 -- one number more
 pub counted : (a k x : ℕ) → x ≡ a + k → count_from a (suc k) ≡ count_from a k ++ x ∷ []

@@ -1,7 +1,7 @@
 -- Bytes of an area.
 use Rattle.std.proofs.Common.{◌≡◌, ◌+◌, ◌<◌, ◌≤◌, ℕ, true, arith}
 use Rattle.std.proofs.lemmas.Bool.Decides.{nat_tests}
-use Rattle.tm_plan.specs.Map.{within}
+use Rattle.tm_plan_map.specs.Map.{within}
 
 pub within-parts : (a n b : ℕ) → within a n b ≡ true → (a ≤ b) × (b < a + n)
 within-parts a n b h = grind (arith, nat_tests)

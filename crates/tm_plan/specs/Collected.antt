@@ -1,20 +1,11 @@
 -- What each hart collects of shared memory, and how many steps a hart may work (this project's own).
-use Rattle.std.specs.Prelude.{ℕ, zero, suc, ◌+◌, ◌-◌, ◌*◌, ◌/◌, ◌%◌, Bool, false, ◌&&◌, ◌||◌, ◌==◌, List, [], ◌∷◌, length, filter, map, slice_get, Option, Some, None}
+use Rattle.std.specs.Prelude.{ℕ, ◌+◌, ◌-◌, ◌*◌, ◌/◌, ◌%◌, Bool, ◌&&◌, ◌||◌, ◌==◌, List, [], ◌∷◌, length, filter, map, slice_get, Option, Some, None}
 use Rattle.tm_plan.specs.declared.cases.Cases.{Cases}
 use Rattle.tm_plan.specs.declared.cases.Case.{Case}
 use Rattle.tm_plan.specs.declared.cases.Stream.{Stream}
-use Rattle.tm_plan.specs.declared.cases.Window.{Window}
-use Rattle.tm_plan.specs.Map.{windows_base, window_at, within}
-
--- n numbers from a on
-abbrev pub count_from : ℕ → ℕ → List ℕ
-count_from a zero = []
-count_from a (suc n) = a ∷ count_from (suc a) n
-
--- some element passes the test
-abbrev pub any : {A : Type 0} → (A → Bool) → List A → Bool
-any test [] = false
-any test (x ∷ xs) = test x || any test xs
+use Rattle.tm_plan_map.specs.declared.windows.Window.{Window}
+use Rattle.tm_plan_map.specs.Map.{windows_base, window_at, within}
+use Rattle.tm_base.specs.Lists.{count_from, any}
 
 -- b is a byte of a declared line of the window
 abbrev pub declares : ℕ → ℕ → Window → Bool

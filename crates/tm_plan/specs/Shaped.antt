@@ -5,12 +5,12 @@ use Rattle.tm_table.specs.Words.{low}
 use Rattle.tm_plan.specs.declared.cases.Cases.{Cases}
 use Rattle.tm_plan.specs.declared.cases.Case.{Case}
 use Rattle.tm_plan.specs.declared.cases.Stream.{Stream}
-use Rattle.tm_plan.specs.declared.cases.Window.{Window}
+use Rattle.tm_plan_map.specs.declared.windows.Window.{Window}
 use Rattle.tm_plan.specs.declared.masks.Masks.{Masks}
 use Rattle.tm_plan.specs.declared.masks.CaseMask.{CaseMask}
 use Rattle.tm_plan.specs.declared.program.Program.{Program}
-use Rattle.tm_plan.specs.Map.{window_at, private_at, within}
-use Rattle.tm_plan.specs.Slots.{instr_of, load_width, store_width, is_access, is_barred, is_jump, slot_addr, slot_target}
+use Rattle.tm_plan_map.specs.Map.{window_at, private_at, within}
+use Rattle.tm_plan_map.specs.Slots.{instr_of, load_width, store_width, is_access, is_barred, is_jump, slot_addr, slot_target}
 use Rattle.tm_plan.specs.Collected.{declares}
 
 -- ---- one slot

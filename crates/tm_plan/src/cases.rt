@@ -1,21 +1,6 @@
 // What is run: cases, each with one stream for each hart.
 use tm_base::{List, Text, Words};
-
-/// How the harts share a window: all of each line, a part of each line, or lines of their own.
-#[derive(Clone, Copy, Debug, PartialEq, Eq)]
-pub enum Kind2 {
-    True,
-    False,
-    Own,
-}
-
-/// A window of shared memory, of which the first `lines` lines are declared. `number` is below 3.
-#[derive(Clone, Copy, Debug, PartialEq, Eq)]
-pub struct Window {
-    pub number: u32,
-    pub kind: Kind2,
-    pub lines: u32,
-}
+use tm_plan_map::{Kind2, Window};
 
 /// The words of one hart in one case, and the first values of x0 to x31.
 #[derive(Drop)]

@@ -1,10 +1,11 @@
 // The lines that a hart collects.
 ghost use Rattle.std.specs.Prelude.{◌≡◌, ◌+◌, ◌<◌, ◌≤◌, ◌*◌, ◌/◌, ◌^◌};
-ghost use Rattle.tm_plan.specs.Map.{windows_base};
+ghost use Rattle.tm_plan_map.specs.Map.{windows_base};
 ghost use Rattle.tm_plan.specs.Shaped.{AreShaped};
 ghost use Rattle.tm_plan_owned.specs.Lines.{lines_of, first_line, line_count, line_place};
 
-use tm_plan::{Cases, Window};
+use tm_plan::Cases;
+use tm_plan_map::Window;
 
 // How many lines window `v` declares.
 fn lines_of(v: u32, windows: &[Window]) -> u32
@@ -58,7 +59,7 @@ pub fn line_place(cases: &Cases, h: u32, v: u32) -> u64
 }
 
 /// The address of the first of them.
-#[tactic(auto, unfolding(tm_plan::specs::Map::windows_base))]
+#[tactic(auto, unfolding(tm_plan_map::specs::Map::windows_base))]
 pub fn line_addr(cases: &Cases, h: u32, v: u32) -> u64
     requires shaped { AreShaped cases.now }
     requires mine { h < cases.now.harts }

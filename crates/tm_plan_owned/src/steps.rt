@@ -1,7 +1,8 @@
 // How many steps a hart and a whole run may work.
 ghost use Rattle.std.specs.Prelude.{◌≡◌, ◌+◌, ◌-◌, ◌*◌, ◌^◌, ◌<◌, ◌≤◌, length, slice_get};
 ghost use Rattle.tm_plan.specs.Shaped.{AreShaped};
-ghost use Rattle.tm_plan.specs.Collected.{owned, slots_of, pass_work, work_in, work_of, budget_of, count_from, sum_of};
+ghost use Rattle.tm_plan.specs.Collected.{owned, slots_of, pass_work, work_in, work_of, budget_of, sum_of};
+ghost use Rattle.tm_base.specs.Lists.{count_from};
 ghost use Rattle.tm_plan_owned.specs.Lines.{FewSlots};
 
 use crate::dwords::owned;

@@ -5,8 +5,8 @@ use Rattle.std.specs.Int.{bit_at}
 use Rattle.std.proofs.lemmas.List.{get_or-set_same, get_or-set_other, get_or_past}
 use Rattle.std.proofs.lemmas.Bool.{cases_eq, and_parts, and_from, or_cases, or_left, or_right, leb-true, le-leb, not-true, false≢true, true≢false, false_from_ne_true}
 use Rattle.std.proofs.lemmas.Nat.Bits.{shr_and_one}
-use Rattle.tm_plan.specs.Map.{windows_base, windows_size, within}
-use Rattle.tm_plan.specs.Collected.{any, count_from}
+use Rattle.tm_plan_map.specs.Map.{windows_base, windows_size, within}
+use Rattle.tm_base.specs.Lists.{any, count_from}
 use Rattle.tm_plan.proofs.Within.{within-parts, within-true}
 use Rattle.tm_plane.proofs.WordLemmas.{bit-none, bit-lt, bit-and, bit-or}
 use Rattle.tm_plane.specs.Plane.{Bit, in_plane, IsNear, Spans, Overwritten}
@@ -51,9 +51,9 @@ spans addr width e low bits near at from run =
       place = omega (arith, near.low, near.high);
       few = λ j b. let p = (run j).0 b in omega (arith, p.1);
       bit = λ b above there. (
-          (λ h. let p = (run ((b - windows_base) % 64)).0 h in within-true addr width b (omega (arith, near.low, p.0)) (omega (arith, near.low, p.1))),
-          (λ h. let p = within-parts addr width b h in (run ((b - windows_base) % 64)).1 (omega (arith, near.low, p.0, p.1), omega (arith, near.low, p.0, p.1))),
-        );
+        (λ h. let p = (run ((b - windows_base) % 64)).0 h in within-true addr width b (omega (arith, near.low, p.0)) (omega (arith, near.low, p.1))),
+        (λ h. let p = within-parts addr width b h in (run ((b - windows_base) % 64)).1 (omega (arith, near.low, p.0, p.1), omega (arith, near.low, p.0, p.1))),
+      );
       element = λ b h. let p = within-parts addr width b h in (omega (arith, near.low, p.0), omega (arith, near.low, p.0, p.1));
     }
 
@@ -68,8 +68,7 @@ module _ (plane : List ℕ) (addr width e bits : ℕ) (room : length plane ≡ 9
   changed-here : (word b : ℕ) → windows_base ≤ b → (b - windows_base) / 64 ≡ e → (in_plane (set plane e word) b ≡ true) ↔ Bit word ((b - windows_base) % 64)
   changed-here word b low here =
       let is : slice_index (set plane e word) ((b - windows_base) / 64) ≡ word =
-      ap (λ (i : ℕ). slice_index (set plane e word) i) here ∙ get_or-set_same plane e word 0 (omega (arith, span.place)) in
-      (
+      ap (λ (i : ℕ). slice_index (set plane e word) i) here ∙ get_or-set_same plane e word 0 (omega (arith, span.place)) in (
         (λ h. subst (λ (v : ℕ). Bit v ((b - windows_base) % 64)) is ((in-plane (set plane e word) b).0 h).1),
         (λ h. (in-plane (set plane e word) b).1 (low, subst (λ (v : ℕ). Bit v ((b - windows_base) % 64)) (sym is) h)),
       )
@@ -85,14 +84,14 @@ module _ (plane : List ℕ) (addr width e bits : ℕ) (room : length plane ≡ 9
   where-is b = elim (cases_eq ((b - windows_base) / 64) e) [
     | inr n ↦ inr (λ word. changed-other word b n, λ t. n (span.element b t).1)
     | inl s ↦ elim (le-or-gt windows_base b) [
-        | inl l ↦ inl (l, s)
-        | inr g ↦ inr (
-            λ word. same-test _ _
-                (λ t. let l = ((in-plane (set plane e word) b).0 t).0 in absurd (omega arith))
-                (λ t. let l = ((in-plane plane b).0 t).0 in absurd (omega arith)),
-            λ t. (let l = (span.element b t).0 in absurd (omega arith)),
-          )
-      ]
+      | inl l ↦ inl (l, s)
+      | inr g ↦ inr (
+        λ word. same-test _ _
+            (λ t. let l = ((in-plane (set plane e word) b).0 t).0 in absurd (omega arith))
+            (λ t. let l = ((in-plane plane b).0 t).0 in absurd (omega arith)),
+        λ t. (let l = (span.element b t).0 in absurd (omega arith)),
+      )
+    ]
   ]
     where
       le-or-gt : (m n : ℕ) → (m ≤ n) ⊎ (n < m)
@@ -123,8 +122,7 @@ module _ (plane : List ℕ) (addr width e bits : ℕ) (room : length plane ≡ 9
         let old = here-is plane b at.0 at.1 in
         let mine = here-is own b at.0 at.1 in
         let new = span.bit b at.0 at.1 in
-        let g = f ((b - windows_base) % 64) in
-        (
+        let g = f ((b - windows_base) % 64) in (
           (λ t. elim (g.0 (here.0 t)) [
             | inl p ↦ (let q = both.0 p.0 in inl ((mine.1 q.0, new.0 q.1), p.1))
             | inr p ↦ inr (old.1 p.0, elim p.1 [ inl n ↦ inl (λ w. n (both.1 (mine.0 w.0, new.1 w.1))) | inr c ↦ inr c ])
@@ -135,9 +133,9 @@ module _ (plane : List ℕ) (addr width e bits : ℕ) (room : length plane ≡ 9
           ]))),
         )
     | inr out ↦ (
-        (λ t. inr (sym (out.0 word) ∙ t, inl (λ w. out.1 w.1))),
-        (λ t. elim t [ inl p ↦ absurd (out.1 p.0.1) | inr p ↦ out.0 word ∙ p.0 ]),
-      )
+      (λ t. inr (sym (out.0 word) ∙ t, inl (λ w. out.1 w.1))),
+      (λ t. elim t [ inl p ↦ absurd (out.1 p.0.1) | inr p ↦ out.0 word ∙ p.0 ]),
+    )
   ]
 
 -- ---- some byte of an access
@@ -225,13 +223,12 @@ union-told out x y n0 nx ny made b = told out (in_plane x b || in_plane y b) b n
     (λ t. elim (or_cases _ _ t) [ inl p ↦ ((in-plane x b).0 p).0 | inr p ↦ ((in-plane y b).0 p).0 ])
     (λ t g. elim (or_cases _ _ t) [ inl p ↦ none-in x b nx g p | inr p ↦ none-in y b ny g p ])
     (λ low few.
-        let k = (b - windows_base) / 64 in
-        let j = (b - windows_base) % 64 in
-        let both = bit-or (slice_index x k) (slice_index y k) j in
-        (
-          (λ h. elim (both.0 (subst (λ (v : ℕ). Bit v j) (made k few) h)) [ inl p ↦ or_left _ _ ((in-at x b low).1 p) | inr p ↦ or_right (in_plane x b) _ ((in-at y b low).1 p) ]),
-          (λ t. subst (λ (v : ℕ). Bit v j) (sym (made k few)) (both.1 (elim (or_cases _ _ t) [ inl p ↦ inl ((in-at x b low).0 p) | inr p ↦ inr ((in-at y b low).0 p) ]))),
-        ))
+    let k = (b - windows_base) / 64 in
+    let j = (b - windows_base) % 64 in
+    let both = bit-or (slice_index x k) (slice_index y k) j in (
+      (λ h. elim (both.0 (subst (λ (v : ℕ). Bit v j) (made k few) h)) [ inl p ↦ or_left _ _ ((in-at x b low).1 p) | inr p ↦ or_right (in_plane x b) _ ((in-at y b low).1 p) ]),
+      (λ t. subst (λ (v : ℕ). Bit v j) (sym (made k few)) (both.1 (elim (or_cases _ _ t) [ inl p ↦ inl ((in-at x b low).0 p) | inr p ↦ inr ((in-at y b low).0 p) ]))),
+    ))
 
 pub without-told : (out x y : List ℕ) → length out ≡ 96 → length x ≡ 96 → length y ≡ 96
     → ((k : ℕ) → k < 96 → (r : ℕ) → Bit (slice_index out k) r ↔ (Bit (slice_index x k) r × (Bit (slice_index y k) r → ⊥)))
@@ -240,11 +237,10 @@ without-told out x y n0 nx ny made b = told out (in_plane x b && not (in_plane y
     (λ t. ((in-plane x b).0 (and_parts (in_plane x b) _ t).0).0)
     (λ t g. none-in x b nx g (and_parts (in_plane x b) _ t).0)
     (λ low few.
-        let both = made ((b - windows_base) / 64) few ((b - windows_base) % 64) in
-        (
-          (λ h. let p = both.0 h in and_from (in_plane x b) (not (in_plane y b)) ((in-at x b low).1 p.0) (ap not (false_from_ne_true (in_plane y b) (λ t. p.1 ((in-at y b low).0 t))))),
-          (λ t. let p = and_parts (in_plane x b) (not (in_plane y b)) t in both.1 ((in-at x b low).0 p.0, λ h. true≢false (sym ((in-at y b low).1 h) ∙ not-true (in_plane y b) p.1))),
-        ))
+    let both = made ((b - windows_base) / 64) few ((b - windows_base) % 64) in (
+      (λ h. let p = both.0 h in and_from (in_plane x b) (not (in_plane y b)) ((in-at x b low).1 p.0) (ap not (false_from_ne_true (in_plane y b) (λ t. p.1 ((in-at y b low).0 t))))),
+      (λ t. let p = and_parts (in_plane x b) (not (in_plane y b)) t in both.1 ((in-at x b low).0 p.0, λ h. true≢false (sym ((in-at y b low).1 h) ∙ not-true (in_plane y b) p.1))),
+    ))
 
 pub spoiled-told : (out w x y z : List ℕ) → length out ≡ 96 → length w ≡ 96 → length x ≡ 96 → length y ≡ 96 → length z ≡ 96
     → ((k : ℕ) → k < 96 → slice_index out k ≡ bit_or (slice_index w k) (bit_and (slice_index x k) (bit_or (slice_index y k) (slice_index z k))))
@@ -253,21 +249,20 @@ spoiled-told out w x y z n0 nw nx ny nz made b = told out (in_plane w b || (in_p
     (λ t. elim (or_cases _ _ t) [ inl p ↦ ((in-plane w b).0 p).0 | inr p ↦ ((in-plane x b).0 (and_parts (in_plane x b) _ p).0).0 ])
     (λ t g. elim (or_cases _ _ t) [ inl p ↦ none-in w b nw g p | inr p ↦ none-in x b nx g (and_parts (in_plane x b) _ p).0 ])
     (λ low few.
-        let k = (b - windows_base) / 64 in
-        let j = (b - windows_base) % 64 in
-        let first = bit-or (slice_index w k) (bit_and (slice_index x k) (bit_or (slice_index y k) (slice_index z k))) j in
-        let second = bit-and (slice_index x k) (bit_or (slice_index y k) (slice_index z k)) j in
-        let third = bit-or (slice_index y k) (slice_index z k) j in
-        (
-          (λ h. elim (first.0 (subst (λ (v : ℕ). Bit v j) (made k few) h)) [
-            | inl p ↦ or_left _ _ ((in-at w b low).1 p)
-            | inr p ↦ (let q = second.0 p in
-                or_right (in_plane w b) _ (and_from (in_plane x b) _ ((in-at x b low).1 q.0)
-                (elim (third.0 q.1) [ inl r ↦ or_left _ _ ((in-at y b low).1 r) | inr r ↦ or_right (in_plane y b) _ ((in-at z b low).1 r) ])))
-          ]),
-          (λ t. subst (λ (v : ℕ). Bit v j) (sym (made k few)) (first.1 (elim (or_cases _ _ t) [
-            | inl p ↦ inl ((in-at w b low).0 p)
-            | inr p ↦ (let q = and_parts (in_plane x b) _ p in
-                inr (second.1 ((in-at x b low).0 q.0, third.1 (elim (or_cases _ _ q.1) [ inl r ↦ inl ((in-at y b low).0 r) | inr r ↦ inr ((in-at z b low).0 r) ]))))
-          ]))),
-        ))
+    let k = (b - windows_base) / 64 in
+    let j = (b - windows_base) % 64 in
+    let first = bit-or (slice_index w k) (bit_and (slice_index x k) (bit_or (slice_index y k) (slice_index z k))) j in
+    let second = bit-and (slice_index x k) (bit_or (slice_index y k) (slice_index z k)) j in
+    let third = bit-or (slice_index y k) (slice_index z k) j in (
+      (λ h. elim (first.0 (subst (λ (v : ℕ). Bit v j) (made k few) h)) [
+        | inl p ↦ or_left _ _ ((in-at w b low).1 p)
+        | inr p ↦ (let q = second.0 p in
+            or_right (in_plane w b) _ (and_from (in_plane x b) _ ((in-at x b low).1 q.0)
+            (elim (third.0 q.1) [ inl r ↦ or_left _ _ ((in-at y b low).1 r) | inr r ↦ or_right (in_plane y b) _ ((in-at z b low).1 r) ])))
+      ]),
+      (λ t. subst (λ (v : ℕ). Bit v j) (sym (made k few)) (first.1 (elim (or_cases _ _ t) [
+        | inl p ↦ inl ((in-at w b low).0 p)
+        | inr p ↦ (let q = and_parts (in_plane x b) _ p in
+            inr (second.1 ((in-at x b low).0 q.0, third.1 (elim (or_cases _ _ q.1) [ inl r ↦ inl ((in-at y b low).0 r) | inr r ↦ inr ((in-at z b low).0 r) ]))))
+      ]))),
+    ))

@@ -1,17 +1,17 @@
 // Planes: 96 words, one bit for each byte of the windows.
 ghost use Rattle.std.specs.Prelude.{◌≡◌, ◌<◌, ◌≤◌, ◌+◌, ℕ, ◌↔◌, ◌||◌, ◌&&◌, not, IsTrue};
-ghost use Rattle.tm_plan.specs.Map.{windows_base, windows_size, within};
-ghost use Rattle.tm_plan.specs.Collected.{any, count_from};
+ghost use Rattle.tm_plan_map.specs.Map.{windows_base, windows_size, within};
+ghost use Rattle.tm_base.specs.Lists.{any, count_from};
 ghost use Rattle.tm_plane.specs.Plane.{in_plane, IsNear, Spans, Overwritten};
 
 use crate::words::{meets, overwritten, run, word_without};
-use tm_plan::window_base;
+use tm_plan_map::window_base;
 
 /// One bit for each byte of the windows.
 pub type Plane = [u64; 96];
 
 /// Whether the byte at `addr`, in the windows, is in the plane.
-#[tactic(auto, unfolding(tm_plan::specs::Map::window_at, tm_plan::specs::Map::windows_size))]
+#[tactic(auto, unfolding(tm_plan_map::specs::Map::window_at, tm_plan_map::specs::Map::windows_size))]
 pub fn has(plane: &Plane, addr: u64) -> bool
     requires low { windows_base ≤ addr }
     requires high { addr < windows_base + windows_size }
@@ -22,7 +22,7 @@ pub fn has(plane: &Plane, addr: u64) -> bool
 }
 
 // Which element of a plane has the bytes of an access, and which of its bits they are.
-#[tactic(auto, unfolding(tm_plan::specs::Map::window_at, tm_plan::specs::Map::windows_size))]
+#[tactic(auto, unfolding(tm_plan_map::specs::Map::window_at, tm_plan_map::specs::Map::windows_size))]
 fn span(addr: u64, width: u8) -> (usize, u64)
     requires { IsNear addr width }
     ensures { Spans addr width result.0 result.1 }
@@ -51,14 +51,7 @@ pub fn put(plane: &mut Plane, addr: u64, width: u8)
 
 /// What the plane becomes where those bytes of an access are written that are in `own`: they come in where `marks` says so, and else
 /// they go, but where `covered` says that the write may be skipped.
-pub fn overwrite(
-    plane: &mut Plane,
-    own: &Plane,
-    addr: u64,
-    width: u8,
-    marks: bool,
-    covered: bool,
-)
+pub fn overwrite(plane: &mut Plane, own: &Plane, addr: u64, width: u8, marks: bool, covered: bool)
     requires { IsNear addr width }
     ensures { (b : ℕ) → IsTrue (in_plane plane.new b)
         ↔ Overwritten (IsTrue (in_plane own.now b) × IsTrue (within addr width b)) (IsTrue (in_plane plane.old b)) marks covered }

@@ -9,8 +9,9 @@ use Rattle.tm_plan.specs.declared.program.Program.{Program}
 use Rattle.tm_plan.specs.declared.cases.Case.{Case}
 use Rattle.tm_plan.specs.declared.cases.Stream.{Stream}
 use Rattle.tm_plan.specs.declared.masks.CaseMask.{CaseMask}
-use Rattle.tm_plan.specs.Map.{windows_base, windows_size}
-use Rattle.tm_plan.specs.Collected.{count_from, is_declared, collector}
+use Rattle.tm_plan_map.specs.Map.{windows_base, windows_size}
+use Rattle.tm_plan.specs.Collected.{is_declared, collector}
+use Rattle.tm_base.specs.Lists.{count_from}
 use Rattle.tm_world.specs.Lists.{first_of}
 use Rattle.tm_world.specs.Place.{harts, case_count, passes}
 use Rattle.tm_world.specs.Run.{Run, own, first_state, earliest}

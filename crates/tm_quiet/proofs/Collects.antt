@@ -9,8 +9,9 @@ use Rattle.tm_table.specs.declared.state.Access.TheVariants.{Quiet, Read, Write}
 use Rattle.tm_table.specs.State.{Hart}
 use Rattle.tm_plan.specs.declared.program.Program.{Program}
 use Rattle.tm_plan.specs.declared.cases.Cases.{Cases}
-use Rattle.tm_plan.specs.Map.{window_at, windows_base, within}
-use Rattle.tm_plan.specs.Collected.{any, is_declared, collector, owned}
+use Rattle.tm_plan_map.specs.Map.{window_at, windows_base, within}
+use Rattle.tm_plan.specs.Collected.{is_declared, collector, owned}
+use Rattle.tm_base.specs.Lists.{any}
 use Rattle.tm_plan.specs.Shaped.{AreShaped}
 use Rattle.tm_world.specs.Lists.{or_else}
 use Rattle.tm_world.specs.Place.{case_count, passes, exit_of, byte_of}

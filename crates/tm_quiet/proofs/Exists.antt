@@ -8,8 +8,9 @@ use Rattle.std.proofs.lemmas.Nat.{div-mul-add, mul-add-lt}
 use Rattle.tm_table.specs.declared.state.Access.TheVariants.{Write}
 use Rattle.tm_table.specs.State.{Hart}
 use Rattle.tm_plan.specs.declared.program.Program.{Program}
-use Rattle.tm_plan.specs.Map.{verdict_at}
-use Rattle.tm_plan.specs.Collected.{any, is_declared, collector}
+use Rattle.tm_plan_map.specs.Map.{verdict_at}
+use Rattle.tm_plan.specs.Collected.{is_declared, collector}
+use Rattle.tm_base.specs.Lists.{any}
 use Rattle.tm_world.specs.Lists.{or_else}
 use Rattle.tm_world.specs.Place.{harts, case_count, passes, exit_of, inside}
 use Rattle.tm_world.specs.Run.{Step, own, now, first_state, pc_of, access_of, phase, in_phase, earliest}

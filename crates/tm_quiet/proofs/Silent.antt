@@ -9,8 +9,9 @@ use Rattle.tm_table.specs.State.{Hart}
 use Rattle.tm_plan.specs.declared.program.Program.{Program}
 use Rattle.tm_plan.specs.declared.cases.Cases.{Cases}
 use Rattle.tm_plan.specs.declared.masks.CaseMask.{CaseMask}
-use Rattle.tm_plan.specs.Map.{verdict_at, window_at, windows_base}
-use Rattle.tm_plan.specs.Collected.{count_from, is_declared, collector, window_dwords, owned}
+use Rattle.tm_plan_map.specs.Map.{verdict_at, window_at, windows_base}
+use Rattle.tm_plan.specs.Collected.{is_declared, collector, window_dwords, owned}
+use Rattle.tm_base.specs.Lists.{count_from}
 use Rattle.tm_plan.specs.Shaped.{AreShaped}
 use Rattle.tm_world.specs.Place.{harts, case_count, passes}
 use Rattle.tm_world.specs.Run.{Step, own, first_state, hart_of, access_of}

@@ -6,9 +6,9 @@ use Rattle.std.proofs.lemmas.List.Elements.{Contains-append_left, Contains-appen
 use Rattle.tm_table.specs.declared.instr.Instr.{Instr}
 use Rattle.tm_plan.specs.declared.cases.Cases.{Cases}
 use Rattle.tm_plan.specs.declared.cases.Stream.{Stream}
-use Rattle.tm_plan.specs.Map.{windows_base, window_at, within}
+use Rattle.tm_plan_map.specs.Map.{windows_base, window_at, within}
 use Rattle.tm_plan.specs.Collected.{is_declared}
-use Rattle.tm_plan.specs.Slots.{instr_of, load_width, store_width, is_jump, slot_addr, slot_target, stores_to}
+use Rattle.tm_plan_map.specs.Slots.{instr_of, load_width, store_width, is_jump, slot_addr, slot_target, stores_to}
 use Rattle.tm_plan.specs.Shaped.{AreShaped, IsShapedSlot}
 use Rattle.tm_world.specs.Lists.{those}
 use Rattle.tm_world.specs.Writers.{stream_in, may_store}

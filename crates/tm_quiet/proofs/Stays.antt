@@ -10,7 +10,7 @@ use Rattle.tm_table.proofs.Decoding.{word-decoded}
 use Rattle.tm_plan.specs.declared.program.Program.{Program}
 use Rattle.tm_plan.specs.declared.cases.Case.{Case}
 use Rattle.tm_plan.specs.declared.cases.Stream.{Stream}
-use Rattle.tm_plan.specs.Slots.{instr_of}
+use Rattle.tm_plan_map.specs.Slots.{instr_of}
 use Rattle.tm_world.specs.Lists.{or_else}
 use Rattle.tm_world.specs.Place.{harts, case_count, start_of, end_of, exit_of, inside, byte_of}
 use Rattle.tm_world.specs.Run.{Step, now, first_state, pc_of, access_of, phase, in_phase, written, last_write, Reads}

@@ -5,8 +5,8 @@ use Rattle.std.proofs.lemmas.Bool.{cases_eq, cases_lt, or_cases, or_from, or_lef
 use Rattle.tm_table.specs.declared.state.Access.{Access}
 use Rattle.tm_table.specs.declared.state.Access.TheVariants.{Quiet, Read, Write}
 use Rattle.tm_plan.specs.declared.program.Program.{Program}
-use Rattle.tm_plan.specs.Map.{flag_at, verdict_at, private_at, private_size, windows_base, windows_size, within}
-use Rattle.tm_plan.specs.Collected.{any, count_from}
+use Rattle.tm_plan_map.specs.Map.{flag_at, verdict_at, private_at, private_size, windows_base, windows_size, within}
+use Rattle.tm_base.specs.Lists.{any, count_from}
 use Rattle.tm_world.specs.Lists.{or_else}
 use Rattle.tm_world.specs.Place.{harts, case_count, exit_of, is_flag, is_verdict, is_private, byte_of}
 use Rattle.tm_world.specs.Run.{Step, Always, own, first_state, hart_of, pc_of, access_of, phase, in_phase, last_write, Reads}

@@ -1,8 +1,9 @@
 // The dwords of the windows of which a byte isn't checked.
 ghost use Rattle.std.specs.Prelude.{◌≡◌, ◌++◌, ◌*◌, ◌+◌, ◌<◌, ◌≤◌, ◌^◌, OnOk, All, ◌∷◌, [], filter, length};
 ghost use Rattle.std.specs.List.{flat_map};
-ghost use Rattle.tm_plan.specs.Map.{windows_base};
-ghost use Rattle.tm_plan.specs.Collected.{any, declares as window_declares, is_declared as declared};
+ghost use Rattle.tm_plan_map.specs.Map.{windows_base};
+ghost use Rattle.tm_plan.specs.Collected.{declares as window_declares, is_declared as declared};
+ghost use Rattle.tm_base.specs.Lists.{any};
 ghost use Rattle.tm_plan.specs.Shaped.{IsShapedWindow};
 ghost use Rattle.tm_report.specs.Listing.{bytes_line, dword_bits as bits_at, dword_entries, dword_entry};
 ghost use Rattle.tm_report.specs.Listing.{is_listed as listed, unchecked_bits as bits_of};
@@ -10,13 +11,14 @@ ghost use Rattle.tm_report.specs.Listing.{is_listed as listed, unchecked_bits as
 use crate::entries::put_entries;
 use std::alloc::Global;
 use tm_base::{Bytes, NoMemory, push_hex};
-use tm_plan::{Cases, Window, window_base};
+use tm_plan::Cases;
+use tm_plan_map::{Window, window_base};
 
 // How many dwords the three windows have.
 const DWORDS: usize = 768;
 
 // Whether an address is in a declared line of a window.
-#[tactic(auto, unfolding(tm_plan::specs::Map::window_at, tm_plan::specs::Map::windows_base))]
+#[tactic(auto, unfolding(tm_plan_map::specs::Map::window_at, tm_plan_map::specs::Map::windows_base))]
 fn declares(line: u32, addr: u64, window: &Window) -> bool
     requires { IsShapedWindow line window.now }
     ensures { result ≡ window_declares line addr window.now }
@@ -69,7 +71,7 @@ fn is_declared(cases: &Cases, addr: u64) -> bool
 }
 
 // The address of a dword by its number.
-#[tactic(auto, unfolding(tm_plan::specs::Map::window_at, tm_plan::specs::Map::windows_base))]
+#[tactic(auto, unfolding(tm_plan_map::specs::Map::window_at, tm_plan_map::specs::Map::windows_base))]
 fn address(number: usize) -> u64
     requires { number < 768 }
     ensures address { result ≡ windows_base + 8 * number }

@@ -1,13 +1,13 @@
 // The lines of slots.
 ghost use Rattle.std.specs.Prelude.{◌≡◌, ◌++◌, OnOk};
-ghost use Rattle.tm_plan.specs.Slots.{instr_of};
+ghost use Rattle.tm_plan_map.specs.Slots.{instr_of};
 ghost use Rattle.tm_report.specs.Listing.{slot_line, slot_lines, word_text};
 
-use tm_asm::print_line;
+use tm_asm_line::print_line;
 use tm_base::{Bytes, NoMemory, push_decimal, push_hex};
 use tm_table::decode;
 
-#[tactic(auto, unfolding(tm_plan::specs::Slots::instr_of))]
+#[tactic(auto, unfolding(tm_plan_map::specs::Slots::instr_of))]
 fn put_form(out: &mut Bytes, word: u32) -> Result<(), NoMemory>
     ensures { OnOk result (out.new ≡ out.old ++ word_text (instr_of word)) }
 {

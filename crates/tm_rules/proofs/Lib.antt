@@ -1,7 +1,5 @@
-pub mod FirstLemmas
-pub mod TurnLemmas
-pub mod StatementLemmas
-pub mod CountLemmas
-pub mod FindLemmas
-pub mod SoundLemmas
-pub mod TemplateLemmas
+pub mod WrittenLemmas
+pub mod EachLemmas
+pub mod SlotLemmas
+pub mod RuledLemmas
+pub mod Passing

@@ -1,2 +1,2 @@
-pub mod Windows
-pub mod Rules
+pub mod Admitting
+pub mod Laws

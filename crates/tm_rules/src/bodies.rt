@@ -1,115 +1,75 @@
-// The rules of bodies.
-ghost use Rattle.std.specs.Prelude.{◌≡◌, ◌≤◌, ◌*◌, [], find};
-ghost use Rattle.tm_checks.specs.Teams.{IsSystem, harts_of, team};
-ghost use Rattle.tm_checks.specs.Slots.{first};
-ghost use Rattle.tm_rules.specs.Rules as rules;
+// The slots of each hart in each case.
+ghost use Rattle.std.specs.Prelude.{◌≡◌, IfOk, map};
+ghost use Rattle.tm_base.specs.Lists.{count_from};
+ghost use Rattle.tm_rules_slot.specs.Teams.{IsSystem, harts_of};
+ghost use Rattle.tm_rules.specs.Admitting as admitting;
 
-use crate::RuleAt;
-use crate::slots::{slot_count, slots_broken};
-use tm_checks::{RuleFault, is_in_team};
-use tm_place::Placement;
-use tm_tmpl::{BodyDecl, Selector};
+use crate::form::copy;
+use crate::slots::{one_slot, written_out};
+use std::alloc::Global;
+use tm_base::{List, NoMemory};
+use tm_plan_map::{AdmittedCase, SlotList};
+use tm_rules_slot::is_in_team;
+use tm_tmpl_types::{BodyDecl, CaseDecl};
 use tm_topo::Topology;
 
-// The first rule that the bodies of a case break.
-pub fn bodies_broken(p: &Placement, topo: &Topology, bodies: &[BodyDecl]) -> Option<RuleAt>
-    requires system { IsSystem topo.now }
-    requires harts { p.now.harts ≡ harts_of topo.now }
-    requires line { p.now.line ≡ topo.now.line }
-    ensures { result ≡ rules.first_of (rules.in_turn (rules.body_checks topo.now p.now.shape) [] bodies.now) }
-{
-    for (k, body) in bodies.iter().enumerate() {
-        if let Some(broken) = body_broken(p, topo, &bodies[..k], body) {
-            return Some(broken);
-        }
-    }
-    None
-}
-
-// The first rule that a body breaks behind those before it, or one of its statements.
-fn body_broken(
-    p: &Placement,
+// The cases of a template.
+pub fn cases_of(
+    alloc: Global,
     topo: &Topology,
-    before: &[BodyDecl],
-    body: &BodyDecl,
-) -> Option<RuleAt>
-    requires system { IsSystem topo.now }
-    requires harts { p.now.harts ≡ harts_of topo.now }
-    requires line { p.now.line ≡ topo.now.line }
-    ensures { result ≡ rules.first_of (rules.body_checks topo.now p.now.shape before.now body.now) }
-{
-    let slots = body.slots.as_slice();
-    let len = slot_count(slots);
-    if let Some(fault) = body_fault(topo, before, body.whom, len) {
-        return Some(RuleAt {
-            pos: body.at,
-            fault,
-        });
-    }
-    slots_broken(p, topo, body.whom, len as u32, slots)
-}
-
-// The first rule that a body of `len` slots breaks behind those before it.
-#[tactic(auto, unfolding(crate::specs::Rules::body_rules, crate::specs::Rules::twice_fault))]
-fn body_fault(topo: &Topology, before: &[BodyDecl], whom: Selector, len: u64) -> Option<RuleFault>
+    cases: &[CaseDecl],
+) -> Result<List<AdmittedCase>, NoMemory>
     requires { IsSystem topo.now }
-    ensures { result ≡ first (rules.body_rules topo.now before.now whom len) }
+    ensures { IfOk result (λ all. all ≡ map (admitting.admitted_case topo.now) cases.now) }
 {
-    if !is_there(topo, whom) {
-        return Some(RuleFault::NoHart { n: number_in(whom) });
+    let mut all = List::new(alloc);
+    for case in cases {
+        all.push(case_of(alloc, topo, case)?)?;
     }
-    if let Some(h) = first_twice(topo, before, whom) {
-        return Some(RuleFault::TwiceBody { h });
-    }
-    if len < 1 {
-        return Some(RuleFault::Slots { n: len });
-    }
-    if len > 256 {
-        return Some(RuleFault::Slots { n: len });
-    }
-    None
+    Ok(all)
 }
 
-// Whether the hart, core or thread that a selector names is there.
-fn is_there(topo: &Topology, whom: Selector) -> bool
+// A case with the slots of each hart.
+fn case_of(alloc: Global, topo: &Topology, case: &CaseDecl) -> Result<AdmittedCase, NoMemory>
     requires { IsSystem topo.now }
-    ensures { result ≡ rules.is_there topo.now whom }
+    ensures { IfOk result (λ all. all ≡ admitting.admitted_case topo.now case.now) }
 {
-    match whom {
-        Selector::All => true,
-        Selector::Hart(n) => n < topo.cores * topo.threads,
-        Selector::Core(n) => n < topo.cores,
-        Selector::Thread(n) => n < topo.threads,
-    }
+    let name = copy(alloc, case.name.as_slice())?;
+    let bodies = bodies_of(alloc, topo, case.bodies.as_slice())?;
+    Ok(AdmittedCase { name, bodies })
 }
 
-// The number that a selector names.
-fn number_in(whom: Selector) -> u32
-    ensures { result ≡ rules.number_in whom }
-{
-    match whom {
-        Selector::All => 0,
-        Selector::Hart(n) | Selector::Core(n) | Selector::Thread(n) => n,
-    }
-}
-
-// The least hart of a team that one of some bodies has.
-fn first_twice(topo: &Topology, before: &[BodyDecl], whom: Selector) -> Option<u32>
+// The slots of each hart, from its body in a case.
+fn bodies_of(
+    alloc: Global,
+    topo: &Topology,
+    bodies: &[BodyDecl],
+) -> Result<List<SlotList>, NoMemory>
     requires { IsSystem topo.now }
-    ensures { result ≡ find (rules.has_body topo.now before.now) (team topo.now whom) }
+    ensures { IfOk result (λ all. all ≡ map (admitting.hart_slots topo.now bodies.now) (count_from 0 (harts_of topo.now))) }
 {
+    let mut all = List::new(alloc);
     for h in 0..topo.cores * topo.threads {
-        if is_in_team(topo, whom, h) && has_body(topo, before, h) {
-            return Some(h);
+        all.push(hart_slots(alloc, topo, bodies, h)?)?;
+    }
+    Ok(all)
+}
+
+// The slots of a hart: those of the first body whose team has it.
+#[tactic(auto, unfolding(crate::specs::Admitting::hart_slots))]
+fn hart_slots(
+    alloc: Global,
+    topo: &Topology,
+    bodies: &[BodyDecl],
+    h: u32,
+) -> Result<SlotList, NoMemory>
+    requires { IsSystem topo.now }
+    ensures { IfOk result (λ slots. slots ≡ admitting.hart_slots topo.now bodies.now h) }
+{
+    for body in bodies {
+        if is_in_team(topo, body.whom, h) {
+            return written_out(alloc, body.slots.as_slice());
         }
     }
-    None
-}
-
-// Whether one of some bodies is for a hart.
-fn has_body(topo: &Topology, bodies: &[BodyDecl], h: u32) -> bool
-    requires { IsSystem topo.now }
-    ensures { result ≡ rules.has_body topo.now bodies.now h }
-{
-    bodies.iter().any(|body| is_in_team(topo, body.whom, h))
+    one_slot(alloc)
 }

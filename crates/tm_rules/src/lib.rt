@@ -1,15 +1,10 @@
-//! The first rule that a template breaks, and where.
+//! A template is admitted, or the first rule that it breaks is named.
 #![tactic(auto)]
 
 mod bodies;
-mod cases;
-mod fault;
+mod form;
 pub mod laws;
-mod place;
 mod slots;
-mod walk;
-mod windows;
 
-pub use fault::RuleAt;
-pub use place::window_of;
-pub use walk::first_broken;
+pub use form::admit;
+pub use tm_faults::{AdmitFault, RuleAt, RuleFault};

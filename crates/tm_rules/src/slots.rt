@@ -1,88 +1,87 @@
-// The rules of a body's slots.
-ghost use Rattle.std.specs.Prelude.{◌≡◌, ◌+◌, ◌≤◌, []};
-ghost use Rattle.tm_checks.specs.Teams.{IsSystem, harts_of};
-ghost use Rattle.tm_rules.specs.Rules as rules;
+// The slots of a body, written out.
+ghost use Rattle.std.specs.Prelude.{◌≡◌, ◌++◌, [], ◌∷◌, replicate, IfOk, OnOk};
+ghost use Rattle.tm_asm_line.specs.Reading.{line_of};
+ghost use Rattle.tm_rules.specs.Admitting as admitting;
 
-use crate::RuleAt;
-use tm_checks::{RuleFault, emit_fault, mix_fault};
-use tm_place::Placement;
-use tm_tmpl::{Selector, SlotDecl, SlotText};
-use tm_topo::Topology;
+use std::alloc::Global;
+use tm_asm_line::parse_line;
+use tm_base::{List, NoMemory};
+use tm_plan_map::{Slot, SlotList};
+use tm_table::{Instr, Op};
+use tm_tmpl_types::{SlotDecl, SlotText};
 
-// How many slots statements stand for, counted up to the greatest u64.
-pub fn slot_count(slots: &[SlotDecl]) -> u64
-    ensures { result ≡ rules.slot_count slots.now }
+// `addi x0, x0, 0`, which changes nothing.
+const NOTHING: Instr = Instr {
+    op: Op::Addi,
+    rd: 0,
+    rs1: 0,
+    rs2: 0,
+    imm: 0,
+};
+
+// The one slot of a hart without a body.
+#[tactic(auto, unfolding(crate::specs::Admitting::nothing))]
+pub fn one_slot(alloc: Global) -> Result<SlotList, NoMemory>
+    ensures { IfOk result (λ slots. slots ≡ Slot.Emit admitting.nothing ∷ []) }
 {
-    let mut count: u64 = 0;
-    for slot in slots {
-        count = count.saturating_add(u64::from(slots_in(&slot.what)));
-    }
-    count
+    let mut slots = List::new(alloc);
+    slots.push(Slot::Emit(NOTHING))?;
+    Ok(slots)
 }
 
-// How many slots a statement stands for.
-fn slots_in(what: &SlotText) -> u32
-    ensures { result ≡ rules.slots_in what.now }
+// The slots of statements, with each mix written out.
+pub fn written_out(alloc: Global, statements: &[SlotDecl]) -> Result<SlotList, NoMemory>
+    ensures { IfOk result (λ slots. slots ≡ admitting.written_out statements.now) }
+{
+    let mut slots = List::new(alloc);
+    for statement in statements {
+        put_slots(&mut slots, &statement.what)?;
+    }
+    Ok(slots)
+}
+
+// Appends the slots of one statement.
+#[tactic(auto, unfolding(crate::specs::Admitting::slots_of))]
+fn put_slots(slots: &mut SlotList, what: &SlotText) -> Result<(), NoMemory>
+    ensures { OnOk result (slots.new ≡ slots.old ++ admitting.slots_of what.now) }
 {
     match what {
-        SlotText::Emit(_) => 1,
-        SlotText::Mix { count, .. } => *count,
-    }
-}
-
-// The first rule that the statements of a body of `len` slots break.
-pub fn slots_broken(
-    p: &Placement,
-    topo: &Topology,
-    whom: Selector,
-    len: u32,
-    slots: &[SlotDecl],
-) -> Option<RuleAt>
-    requires system { IsSystem topo.now }
-    requires harts { p.now.harts ≡ harts_of topo.now }
-    requires line { p.now.line ≡ topo.now.line }
-    requires len { len ≡ rules.slot_count slots.now }
-    requires few { len ≤ 256 }
-    ensures { result ≡ rules.first_of (rules.in_turn (rules.slot_checks topo.now p.now.shape whom len) [] slots.now) }
-{
-    let mut at: u32 = 0;
-    for slot in slots {
-        if let Some(fault) = slot_fault(p, topo, whom, len, at, &slot.what) {
-            return Some(RuleAt {
-                pos: slot.at,
-                fault,
-            });
-        }
-        at += slots_in(&slot.what);
-    }
-    None
-}
-
-// The first rule that a statement of a body of `len` slots breaks, from slot `at` on.
-#[tactic(auto, unfolding(crate::specs::Rules::slot_fault))]
-fn slot_fault(
-    p: &Placement,
-    topo: &Topology,
-    whom: Selector,
-    len: u32,
-    at: u32,
-    what: &SlotText,
-) -> Option<RuleFault>
-    requires system { IsSystem topo.now }
-    requires harts { p.now.harts ≡ harts_of topo.now }
-    requires line { p.now.line ≡ topo.now.line }
-    requires within { at + rules.slots_in what.now ≤ len }
-    requires few { len ≤ 256 }
-    ensures { result ≡ rules.slot_fault topo.now p.now.shape whom len at what.now }
-{
-    match what {
-        SlotText::Emit(text) => emit_fault(p, topo, whom, at, len, text.as_slice()),
+        SlotText::Emit(text) => slots.push(Slot::Emit(spelled(text.as_slice()))),
         SlotText::Mix {
+            count,
             alu,
             load,
             store,
             branch,
-            ..
-        } => mix_fault(p, *alu, *load, *store, *branch),
+        } => {
+            let slot = Slot::Mix {
+                alu: *alu,
+                load: *load,
+                store: *store,
+                branch: *branch,
+            };
+            put_many(slots, *count, slot)
+        }
     }
+}
+
+// The instruction that a line spells, where it spells one.
+#[tactic(auto, unfolding(crate::specs::Admitting::nothing))]
+fn spelled(text: &[u8]) -> Instr
+    ensures { result ≡ admitting.or_nothing (line_of text.now) }
+{
+    match parse_line(text) {
+        Ok(instr) => instr,
+        Err(_) => NOTHING,
+    }
+}
+
+// Appends a slot so many times.
+fn put_many(slots: &mut SlotList, count: u32, slot: Slot) -> Result<(), NoMemory>
+    ensures { OnOk result (slots.new ≡ slots.old ++ replicate count slot) }
+{
+    for _ in 0..count {
+        slots.push(slot)?;
+    }
+    Ok(())
 }

@@ -6,8 +6,8 @@ use Rattle.tm_table.specs.State.{Hart}
 use Rattle.tm_table.specs.Words.{low}
 use Rattle.tm_table.specs.Row.{Effect, Gives, Loads, Stores, Branches, Jumps, effect, row, after as row_after}
 use Rattle.tm_plan.specs.declared.program.Program.{Program}
-use Rattle.tm_plan.specs.Slots.{instr_of}
-use Rattle.tm_plan.specs.Collected.{any}
+use Rattle.tm_plan_map.specs.Slots.{instr_of}
+use Rattle.tm_base.specs.Lists.{any}
 use Rattle.tm_world.specs.Lists.{IsFront, count}
 use Rattle.tm_world.specs.Place.{harts, halt_of, word_at}
 use Rattle.tm_world.specs.Run.{Step, Always, now, first_state, own as own_steps, pc_of, phase}

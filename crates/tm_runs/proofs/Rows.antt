@@ -13,7 +13,7 @@ use Rattle.tm_table.specs.Table.{row_of}
 use Rattle.tm_table.specs.Words.{low, split, decoded, word_of, FitsAs, Fits}
 use Rattle.tm_table.specs.Row.{Effect, Gives, Loads, Stores, Branches, Jumps, effect, word64, row, row_word}
 use Rattle.tm_table.proofs.Decoding.{word-decoded}
-use Rattle.tm_plan.specs.Slots.{instr_of}
+use Rattle.tm_plan_map.specs.Slots.{instr_of}
 use Rattle.tm_runs.specs.Machine.{target}
 
 -- less than 2 MiB on or back

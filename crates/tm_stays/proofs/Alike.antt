@@ -14,8 +14,8 @@ use Rattle.tm_table.specs.Row.{Effect, Gives, Loads, Stores, Branches, Jumps, ef
 use Rattle.tm_table.proofs.Signs.{low-lt}
 use Rattle.tm_plan.specs.declared.program.Program.{Program}
 use Rattle.tm_plan.specs.declared.cases.Stream.{Stream}
-use Rattle.tm_plan.specs.Collected.{count_from}
-use Rattle.tm_plan.specs.Slots.{load_width, is_access}
+use Rattle.tm_base.specs.Lists.{count_from}
+use Rattle.tm_plan_map.specs.Slots.{load_width, is_access}
 use Rattle.tm_world.specs.Lists.{or_else}
 use Rattle.tm_world.specs.Place.{harts, case_count, exit_of, start_of, inside, word_at}
 use Rattle.tm_world.specs.Run.{Step, own, now, first_state, access_of, read_value, phase}

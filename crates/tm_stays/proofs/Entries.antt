@@ -4,7 +4,7 @@ use Rattle.std.specs.Prelude.{flat_map, if◌then◌else◌}
 use Rattle.std.proofs.lemmas.Bool.{and_parts, and_left}
 use Rattle.tm_table.specs.State.{Hart}
 use Rattle.tm_plan.specs.declared.program.Program.{Program}
-use Rattle.tm_plan.specs.Collected.{count_from}
+use Rattle.tm_base.specs.Lists.{count_from}
 use Rattle.tm_world.specs.Lists.{those, first_of}
 use Rattle.tm_world.specs.Place.{harts, case_count, passes, start_of, exit_of, inside}
 use Rattle.tm_world.specs.Run.{Step, now, first_state, phase}

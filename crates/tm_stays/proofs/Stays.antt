@@ -7,7 +7,8 @@ use Rattle.tm_table.specs.State.{Hart}
 use Rattle.tm_plan.specs.declared.program.Program.{Program}
 use Rattle.tm_plan.specs.declared.cases.Case.{Case}
 use Rattle.tm_plan.specs.declared.cases.Stream.{Stream}
-use Rattle.tm_plan.specs.Collected.{count_from, sum_of, slots_of}
+use Rattle.tm_plan.specs.Collected.{sum_of, slots_of}
+use Rattle.tm_base.specs.Lists.{count_from}
 use Rattle.tm_world.specs.Place.{harts, case_count, passes, start_of, end_of, inside}
 use Rattle.tm_world.specs.Run.{Step, Always, own, now, first_state}
 use Rattle.tm_world.specs.Writers.{stream_in}

@@ -6,8 +6,8 @@ use Rattle.std.proofs.lemmas.List.Elements.{recursion_from_All}
 use Rattle.std.proofs.lemmas.Bool.{cases_eq, cases_Bool, and_parts, and_from, and_right, lt-ltb, false_from_ne_true, true≢false, false≢true}
 use Rattle.tm_table.specs.State.{Hart}
 use Rattle.tm_plan.specs.declared.program.Program.{Program}
-use Rattle.tm_plan.specs.Map.{text_base}
-use Rattle.tm_plan.specs.Collected.{count_from}
+use Rattle.tm_plan_map.specs.Map.{text_base}
+use Rattle.tm_base.specs.Lists.{count_from}
 use Rattle.tm_world.specs.Lists.{those}
 use Rattle.tm_world.specs.Place.{harts, case_count, passes, start_of, end_of, exit_of, inside}
 use Rattle.tm_world.specs.Run.{Step, now, first_state, own as own_steps, pc_of, phase}

@@ -3,7 +3,7 @@ use Rattle.std.specs.Prelude.{◌≡◌, ℕ, ◌+◌, ◌*◌, ◌<◌, ◌≤�
 use Rattle.tm_table.specs.declared.instr.Instr.{Instr}
 use Rattle.tm_plan.specs.declared.program.Program.{Program}
 use Rattle.tm_plan.specs.declared.cases.Stream.{Stream}
-use Rattle.tm_plan.specs.Slots.{instr_of, load_width}
+use Rattle.tm_plan_map.specs.Slots.{instr_of, load_width}
 use Rattle.tm_world.specs.Place.{harts, passes, exit_of}
 use Rattle.tm_world.specs.Run.{Run, now, phase}
 use Rattle.tm_world.specs.Writers.{stream_in, case_of_phase}

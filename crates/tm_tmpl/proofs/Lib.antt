@@ -1,10 +1,5 @@
-pub mod StepLemmas
-pub mod MadeLemmas
-pub mod LineLemmas
-pub mod TextLemmas
-pub mod TreeLemmas
-pub mod LexemeLemmas
-pub mod RawLemmas
-pub mod WritableLemmas
-pub mod LawLemmas
+pub mod PrintLemmas
+pub mod SpacedLemmas
+pub mod ReadBackLemmas
+pub mod BareLemmas
 pub mod Rows

@@ -1,4 +1,1 @@
-pub mod Grammar
-pub mod Steps
-pub mod Spelled
-pub mod Writable
+pub mod Printed

@@ -1,12 +1,10 @@
-//! Templates: what their texts say.
+//! Templates: their texts read, and printed.
 #![tactic(auto)]
 
-pub mod laws;
-mod parse;
-mod read;
-mod tokens;
+mod print;
 
-pub use parse::parse_template;
-pub use tm_form::{
+pub use print::print_template;
+pub use tm_tmpl_read::parse_template;
+pub use tm_tmpl_types::{
     BodyDecl, CaseDecl, Kind, Selector, SlotDecl, SlotText, Template, TmplFault, Want, WindowDecl,
 };

@@ -1,25 +1,25 @@
 -- How a call ended, and what follows of it.
 use Rattle.std.proofs.Common.{◌≡◌, ◌∙◌, ap, sym, refl, ℕ, List, IsTrue, ◌⊎◌, inl, inr, Option, None, Some}
 use Rattle.tm_desk.specs.declared.desk.DeskError.TheVariants.{Failed}
-use Rattle.tm_inputs.specs.declared.role.Role.{Role}
-use Rattle.tm_lines.specs.declared.fault.AnyFault.{AnyFault}
-use Rattle.tm_lines.specs.declared.fault.AnyFault.TheVariants.{Desk}
-use Rattle.tm_owed.specs.declared.stop.Stop.{Stop}
-use Rattle.tm_owed.specs.declared.stop.Stop.TheVariants as stop
-use Rattle.tm_owed.specs.Words.{Command, command_of}
-use Rattle.tm_owed.specs.Words.Command.{to_build, to_list}
-use Rattle.tm_lines.specs.Lines.{fault_text}
-use Rattle.tm_owed.specs.Texts.{usage}
-use Rattle.tm_owed.specs.Inputs.{first_fault}
-use Rattle.tm_owed.specs.Changes.{DeskChange, SinkChange, DeskFailed, SinkFailed, FilesStay, OtherFilesStay, Silent}
-use Rattle.tm_owed.specs.Owed.{Owes, Ended, IsDone, IsReady, IsRefusal, IsFailure, IsUntouched, RestStays}
-use Rattle.tm_owed.specs.Owed.{AlwaysAtFault, AlwaysDone, status_of}
-use Rattle.tm_owed.specs.Owed.MayBegin.{no_line, refusal_line, failure_line}
-use Rattle.tm_owed.specs.Owed.Ended.{done, no_command, refused, failed, no_memory_for_usage, no_memory}
-use Rattle.tm_owed.specs.Owed.InputFailure.{unread, missing}
-use Rattle.tm_owed.specs.Owed.IsFailure.{at_input, at_write, at_print}
-use Rattle.tm_owed.specs.Steps.{Stopped, Told, Reported, IsTellable}
-use Rattle.tm_owed.specs.Steps.Told.{told_whole, told_short}
+use Rattle.tm_faults.specs.declared.role.Role.{Role}
+use Rattle.tm_top_line.specs.declared.fault.AnyFault.{AnyFault}
+use Rattle.tm_top_line.specs.declared.fault.AnyFault.TheVariants.{Desk}
+use Rattle.tm_top_owed.specs.declared.stop.Stop.{Stop}
+use Rattle.tm_top_owed.specs.declared.stop.Stop.TheVariants as stop
+use Rattle.tm_top_owed.specs.Words.{Command, command_of}
+use Rattle.tm_top_owed.specs.Words.Command.{to_build, to_list}
+use Rattle.tm_top_line.specs.Lines.{fault_text}
+use Rattle.tm_top_owed.specs.Texts.{usage}
+use Rattle.tm_top_owed.specs.Inputs.{first_fault}
+use Rattle.tm_top_owed.specs.Changes.{DeskChange, SinkChange, DeskFailed, SinkFailed, FilesStay, OtherFilesStay, Silent}
+use Rattle.tm_top_owed.specs.Owed.{Owes, Ended, IsDone, IsReady, IsRefusal, IsFailure, IsUntouched, RestStays}
+use Rattle.tm_top_owed.specs.Owed.{AlwaysAtFault, AlwaysDone, status_of}
+use Rattle.tm_top_owed.specs.Owed.MayBegin.{no_line, refusal_line, failure_line}
+use Rattle.tm_top_owed.specs.Owed.Ended.{done, no_command, refused, failed, no_memory_for_usage, no_memory}
+use Rattle.tm_top_owed.specs.Owed.InputFailure.{unread, missing}
+use Rattle.tm_top_owed.specs.Owed.IsFailure.{at_input, at_write, at_print}
+use Rattle.tm_top_owed.specs.Steps.{Stopped, Told, Reported, IsTellable}
+use Rattle.tm_top_owed.specs.Steps.Told.{told_whole, told_short}
 
 -- ---- how a call ended
 

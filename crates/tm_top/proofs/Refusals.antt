@@ -1,31 +1,31 @@
 -- The first fault of a build's two inputs, step by step.
 use Rattle.std.proofs.Common.{◌≡◌, ◌≤◌, ◌<◌, ◌∙◌, ap, sym, subst, refl, ℕ, List, Option, None, Some, Result, Ok, Err, IsTrue, length, arith, inl, inr}
 use Rattle.std.specs.Prelude.{IsSomeAnd}
-use Rattle.tm_plan.specs.declared.admitted.Admitted.{Admitted}
+use Rattle.tm_plan_map.specs.declared.admitted.Admitted.{Admitted}
 use Rattle.tm_desk.specs.Causes.{Files}
 use Rattle.tm_desk.specs.declared.desk.DeskError.TheVariants.{TooLong, Failed}
-use Rattle.tm_inputs.specs.declared.role.Role.TheVariants.{Topology, Template}
-use Rattle.tm_inputs.specs.declared.fault.InputFault.{InputFault}
-use Rattle.tm_inputs.specs.Inputs.{topology_refusal, refusal_of as topology_refusal_of, behind_topology, inputs}
+use Rattle.tm_faults.specs.declared.role.Role.TheVariants.{Topology, Template}
+use Rattle.tm_faults.specs.declared.inputs.InputFault.{InputFault}
+use Rattle.tm_image_inputs.specs.Inputs.{topology_refusal, refusal_of as topology_refusal_of, behind_topology, inputs}
 use Rattle.tm_topo.specs.declared.system.Topology.{Topology as Topology_}
 use Rattle.tm_topo.specs.declared.system.TopoFault.{TopoFault}
 use Rattle.tm_topo.specs.Reading.{topology_of}
-use Rattle.tm_inputs.specs.declared.fault.InputFault.TheVariants.{Topo}
-use Rattle.tm_inputs.specs.Inputs.{IsNamed}
-use Rattle.tm_lines.proofs.Named.{input_calm}
-use Rattle.tm_image.specs.Built.{built, built_of}
-use Rattle.tm_lines.specs.declared.fault.AnyFault.{AnyFault}
-use Rattle.tm_lines.specs.declared.fault.AnyFault.TheVariants.{Input, Desk}
-use Rattle.tm_owed.specs.declared.stop.Stop.{Stop}
-use Rattle.tm_owed.specs.declared.stop.Stop.TheVariants as stop
-use Rattle.tm_owed.specs.Words.{Build}
-use Rattle.tm_owed.specs.Words.Command.{to_build}
-use Rattle.tm_owed.proofs.Limits.{long, short}
-use Rattle.tm_owed.specs.Inputs.{topology_limit, template_limit, refusal_of, as_fault, text_of, role_of, refused_topology, refused_template, fault_of_topology, fault_of_template, first_fault}
-use Rattle.tm_owed.specs.Changes.{DeskChange, DeskFailed}
-use Rattle.tm_owed.specs.Owed.{IsRefusal, IsMadeOf, IsImageOf}
-use Rattle.tm_owed.specs.Owed.InputFailure.{unread, missing}
-use Rattle.tm_owed.specs.Steps.{ReadStop, InputStop}
+use Rattle.tm_faults.specs.declared.inputs.InputFault.TheVariants.{Topo}
+use Rattle.tm_faults.specs.Named.{IsNamed}
+use Rattle.tm_top_line.proofs.Named.{input_calm}
+use Rattle.tm_image_build.specs.Built.{built, built_of}
+use Rattle.tm_top_line.specs.declared.fault.AnyFault.{AnyFault}
+use Rattle.tm_top_line.specs.declared.fault.AnyFault.TheVariants.{Input, Desk}
+use Rattle.tm_top_owed.specs.declared.stop.Stop.{Stop}
+use Rattle.tm_top_owed.specs.declared.stop.Stop.TheVariants as stop
+use Rattle.tm_top_owed.specs.Words.{Build}
+use Rattle.tm_top_owed.specs.Words.Command.{to_build}
+use Rattle.tm_top_owed.proofs.Limits.{long, short}
+use Rattle.tm_top_owed.specs.Inputs.{topology_limit, template_limit, refusal_of, as_fault, text_of, role_of, refused_topology, refused_template, fault_of_topology, fault_of_template, first_fault}
+use Rattle.tm_top_owed.specs.Changes.{DeskChange, DeskFailed}
+use Rattle.tm_top_owed.specs.Owed.{IsRefusal, IsMadeOf, IsImageOf}
+use Rattle.tm_top_owed.specs.Owed.InputFailure.{unread, missing}
+use Rattle.tm_top_owed.specs.Steps.{ReadStop, InputStop}
 use Rattle.tm_top.specs.Steps.{IsTopology, ImageStop}
 
 -- ---- which fault is the first

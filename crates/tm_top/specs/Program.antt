@@ -2,9 +2,9 @@
 use Rattle.std.specs.Prelude.{◌≡◌, ℕ, [], Vec, Result, Ok, Err}
 use Rattle.std.specs.declared.string.String.{String}
 use Rattle.std.specs.declared.alloc.Global.{Global}
-use Rattle.tm_owed.specs.Words.{bytes_of_words}
-use Rattle.tm_owed.specs.Changes.{DeskChange, SinkChange, FilesStay, Silent, TookFronts}
-use Rattle.tm_owed.specs.Owed.{Owes}
+use Rattle.tm_top_owed.specs.Words.{bytes_of_words}
+use Rattle.tm_top_owed.specs.Changes.{DeskChange, SinkChange, FilesStay, Silent, TookFronts}
+use Rattle.tm_top_owed.specs.Owed.{Owes}
 use Rattle.tm_top.specs.declared.program.NoWords.{NoWords}
 use Rattle.tm_top.specs.declared.program.NoWords.TheVariants.{NotText, NoMemory}
 

@@ -1,16 +1,16 @@
 -- What the steps of a build leave. Source: this project.
 use Rattle.std.specs.Prelude.{◌≡◌, ◌≤◌, ℕ, Bool, false, List, length, IsTrue, None, Some, Result, Err}
 use Rattle.tm_desk.specs.Causes.{Files}
-use Rattle.tm_plan.specs.declared.admitted.Admitted.{Admitted}
-use Rattle.tm_inputs.specs.declared.role.Role.TheVariants as roles
-use Rattle.tm_inputs.specs.declared.fault.InputFault.{InputFault}
-use Rattle.tm_inputs.specs.Inputs.{topology_refusal}
-use Rattle.tm_lines.specs.declared.fault.AnyFault.TheVariants.{Input}
-use Rattle.tm_owed.specs.declared.stop.Stop.{Stop}
-use Rattle.tm_owed.specs.declared.stop.Stop.TheVariants as stop
-use Rattle.tm_owed.specs.Words.{Build}
-use Rattle.tm_lines.specs.Lines.{wants_memory}
-use Rattle.tm_owed.specs.Inputs.{topology_limit, role_of}
+use Rattle.tm_plan_map.specs.declared.admitted.Admitted.{Admitted}
+use Rattle.tm_faults.specs.declared.role.Role.TheVariants as roles
+use Rattle.tm_faults.specs.declared.inputs.InputFault.{InputFault}
+use Rattle.tm_image_inputs.specs.Inputs.{topology_refusal}
+use Rattle.tm_top_line.specs.declared.fault.AnyFault.TheVariants.{Input}
+use Rattle.tm_top_owed.specs.declared.stop.Stop.{Stop}
+use Rattle.tm_top_owed.specs.declared.stop.Stop.TheVariants as stop
+use Rattle.tm_top_owed.specs.Words.{Build}
+use Rattle.tm_top_line.specs.Lines.{wants_memory}
+use Rattle.tm_top_owed.specs.Inputs.{topology_limit, role_of}
 
 -- The topology is held, within its limit and accepted.
 pub record IsTopology (b : Build) (tells : Bool) (held : Files) (text : List ℕ) : Type 0 where

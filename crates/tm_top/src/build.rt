@@ -1,18 +1,18 @@
 // The command that builds an image.
 ghost use Rattle.std.specs.Prelude.{IfErr, OnOk};
-ghost use Rattle.tm_owed.specs.Words.{build_in};
-ghost use Rattle.tm_owed.specs.Words.Command.{to_build};
-ghost use Rattle.tm_owed.specs.Changes.{desk_change, sink_change, OtherFilesStay};
-ghost use Rattle.tm_owed.specs.Owed.{IsDone};
-ghost use Rattle.tm_owed.specs.Steps.{Stopped};
+ghost use Rattle.tm_top_owed.specs.Words.{build_in};
+ghost use Rattle.tm_top_owed.specs.Words.Command.{to_build};
+ghost use Rattle.tm_top_owed.specs.Changes.{desk_change, sink_change, OtherFilesStay};
+ghost use Rattle.tm_top_owed.specs.Owed.{IsDone};
+ghost use Rattle.tm_top_owed.specs.Steps.{Stopped};
 
 use crate::inputs::make_image;
 use std::alloc::Global;
 use tm_desk::{Desk, Sink};
-use tm_owed::{BuildWords, Stop, print_text, write_output};
+use tm_top_owed::{BuildWords, Stop, print_text, write_output};
 
 /// Reads and refuses the inputs, builds, writes and prints.
-#[tactic(auto, using(tm_owed::proofs::Stops::input_stopped, tm_owed::proofs::Stops::write_stopped))]
+#[tactic(auto, using(tm_top_owed::proofs::Stops::input_stopped, tm_top_owed::proofs::Stops::write_stopped))]
 pub fn build_command<D: Desk, O: Sink>(
     alloc: Global,
     b: &BuildWords<'_>,

@@ -1,16 +1,16 @@
 // All that the program does, but for what waits.
 ghost use Rattle.std.specs.Prelude.{◌≡◌, None, IfErr, OnOk};
-ghost use Rattle.tm_owed.specs.Words.{bytes_of_words, command_in};
-ghost use Rattle.tm_owed.specs.Changes.{desk_change, sink_change};
-ghost use Rattle.tm_owed.specs.Owed.{Owes, Ended, IsDone, RestStays};
-ghost use Rattle.tm_owed.specs.Steps.{Stopped};
+ghost use Rattle.tm_top_owed.specs.Words.{bytes_of_words, command_in};
+ghost use Rattle.tm_top_owed.specs.Changes.{desk_change, sink_change};
+ghost use Rattle.tm_top_owed.specs.Owed.{Owes, Ended, IsDone, RestStays};
+ghost use Rattle.tm_top_owed.specs.Steps.{Stopped};
 
 use crate::build::build_command;
 use std::alloc::Global;
 use tm_desk::{Desk, Sink};
-use tm_list::list_command;
-use tm_owed::{CommandWords, Stop, read_words, tell_stop, tell_usage};
 use tm_plan::Journal;
+use tm_top_list::list_command;
+use tm_top_owed::{CommandWords, Stop, read_words, tell_stop, tell_usage};
 
 /// How a call ended: its status, and the journal of a simulation where the command made one.
 #[derive(Drop)]

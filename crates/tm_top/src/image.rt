@@ -1,24 +1,24 @@
 // The image of a build's two texts.
 ghost use Rattle.std.specs.Prelude.{◌≡◌, ◌≤◌, IfOk, IfErr, length};
-ghost use Rattle.tm_inputs.specs.Inputs.{inputs};
-ghost use Rattle.tm_inputs.specs.declared.role.Role.TheVariants as roles;
-ghost use Rattle.tm_lines.specs.declared.fault.AnyFault.TheVariants.{Input};
-ghost use Rattle.tm_owed.specs.Texts.{built_line};
-ghost use Rattle.tm_owed.specs.Inputs.{topology_limit, template_limit, role_of as role_of_fault};
-ghost use Rattle.tm_owed.specs.Owed.{IsMadeOf};
+ghost use Rattle.tm_image_inputs.specs.Inputs.{inputs};
+ghost use Rattle.tm_faults.specs.declared.role.Role.TheVariants as roles;
+ghost use Rattle.tm_top_line.specs.declared.fault.AnyFault.TheVariants.{Input};
+ghost use Rattle.tm_top_owed.specs.Texts.{built_line};
+ghost use Rattle.tm_top_owed.specs.Inputs.{topology_limit, template_limit, role_of as role_of_fault};
+ghost use Rattle.tm_top_owed.specs.Owed.{IsMadeOf};
 ghost use Rattle.tm_top.specs.Steps.{ImageStop};
 
 use crate::made::Made;
 use std::alloc::Global;
 use tm_base::{Bytes, NoMemory, Text, push_decimal};
-use tm_image::build;
-use tm_inputs::{BuildFault, InputFault};
-use tm_lines::{AnyFault, Role};
-use tm_owed::Stop;
+use tm_faults::{BuildFault, InputFault, Role};
+use tm_image_build::build;
 use tm_plan::Program;
+use tm_top_line::AnyFault;
+use tm_top_owed::Stop;
 
 /// The line that says what was built.
-#[tactic(auto, unfolding(tm_owed::specs::Texts::built_line))]
+#[tactic(auto, unfolding(tm_top_owed::specs::Texts::built_line))]
 fn line_of(alloc: Global, program: &Program, file: &[u8]) -> Result<Text, NoMemory>
     ensures { IfOk result (λ text. text ≡ built_line program.now file.now) }
 {

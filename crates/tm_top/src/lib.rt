@@ -10,4 +10,5 @@ mod program;
 
 pub use call::{Outcome, still};
 pub use program::{NoWords, exit_status, run};
-pub use tm_lines::{AnyFault, Role, fault_line};
+pub use tm_faults::Role;
+pub use tm_top_line::{AnyFault, fault_line};

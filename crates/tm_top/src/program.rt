@@ -1,5 +1,5 @@
 // The program: its words, its streams and its status.
-ghost use Rattle.tm_owed.specs.Changes.{desk_change, sink_change};
+ghost use Rattle.tm_top_owed.specs.Changes.{desk_change, sink_change};
 ghost use Rattle.tm_top.specs.Program.{OwesFor};
 
 use crate::call::still;
@@ -9,7 +9,7 @@ use std::io::ErrorKind;
 use std::process::ExitCode;
 use std::rt::HostRuntime;
 use tm_desk::{Desk, RealDesk, RealSink, Sink};
-use tm_owed::{Stop, tell_stop};
+use tm_top_owed::{Stop, tell_stop};
 
 /// Why the words couldn't be had.
 #[derive(Drop)]

@@ -4,7 +4,7 @@ use Rattle.tm_plan.specs.declared.cases.Cases.{Cases}
 use Rattle.tm_plan.specs.declared.cases.Stream.{Stream}
 use Rattle.tm_plan.specs.declared.masks.Masks.{Masks}
 use Rattle.tm_plan.specs.declared.masks.CaseMask.{CaseMask}
-use Rattle.tm_plan.specs.Map.{windows_base, windows_size}
+use Rattle.tm_plan_map.specs.Map.{windows_base, windows_size}
 use Rattle.tm_plan.specs.Collected.{is_declared}
 use Rattle.tm_world.specs.Writers.{may_store, stream_in}
 use Rattle.tm_world.specs.Slots.{slots_in, another_may_store}

@@ -5,8 +5,8 @@ use Rattle.tm_table.specs.declared.state.Access.TheVariants.{Quiet, Read, Write}
 use Rattle.tm_table.specs.State.{Hart}
 use Rattle.tm_table.specs.Row.{row_word}
 use Rattle.tm_plan.specs.declared.program.Program.{Program}
-use Rattle.tm_plan.specs.Map.{guest_base, guest_end, flag_at}
-use Rattle.tm_plan.specs.Collected.{any, count_from}
+use Rattle.tm_plan_map.specs.Map.{guest_base, guest_end, flag_at}
+use Rattle.tm_base.specs.Lists.{any, count_from}
 use Rattle.tm_world.specs.Lists.{count, first_of, or_else}
 use Rattle.tm_world.specs.Place.{harts, case_count, start_of, end_of, exit_of, halt_of, inside, is_text, is_table, is_private, is_window, image_byte, word_at}
 use Rattle.tm_world.specs.Run.{Step, Run, hart_of, pc_of, access_of, own, Always, now, first_state, last_write, Reads, Writes, read_value, HasShape, phase}

@@ -4,8 +4,9 @@ use Rattle.std.specs.Prelude.{◌≡◌, ℕ, ◌<◌, Bool, true, false, ◌&&�
 use Rattle.tm_table.specs.declared.instr.Instr.{Instr}
 use Rattle.tm_plan.specs.declared.cases.Cases.{Cases}
 use Rattle.tm_plan.specs.declared.cases.Stream.{Stream}
-use Rattle.tm_plan.specs.Collected.{any, count_from, is_declared}
-use Rattle.tm_plan.specs.Slots.{instr_of, load_width, store_width, is_branch, is_jump, slot_addr, slot_target}
+use Rattle.tm_plan.specs.Collected.{is_declared}
+use Rattle.tm_base.specs.Lists.{any, count_from}
+use Rattle.tm_plan_map.specs.Slots.{instr_of, load_width, store_width, is_branch, is_jump, slot_addr, slot_target}
 use Rattle.tm_world.specs.Lists.{those}
 use Rattle.tm_world.specs.Writers.{may_store, stream_in}
 

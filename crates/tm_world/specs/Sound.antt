@@ -2,7 +2,7 @@
 use Rattle.std.specs.Prelude.{◌≡◌, ℕ, ◌<◌, IsTrue}
 use Rattle.tm_table.specs.declared.state.Access.TheVariants.{Write}
 use Rattle.tm_plan.specs.declared.program.Program.{Program}
-use Rattle.tm_plan.specs.Map.{verdict_at}
+use Rattle.tm_plan_map.specs.Map.{verdict_at}
 use Rattle.tm_plan.specs.Shaped.{IsProgram}
 use Rattle.tm_plan.specs.Tables.{table_bytes}
 use Rattle.tm_world.specs.Place.{harts, round_count}

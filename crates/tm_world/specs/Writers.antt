@@ -5,8 +5,9 @@ use Rattle.tm_plan.specs.declared.cases.Cases.{Cases}
 use Rattle.tm_plan.specs.declared.cases.Case.{Case}
 use Rattle.tm_plan.specs.declared.cases.Stream.{Stream}
 use Rattle.tm_table.specs.declared.instr.Instr.{Instr}
-use Rattle.tm_plan.specs.Collected.{any, count_from, is_declared, collector}
-use Rattle.tm_plan.specs.Slots.{instr_of, stores_to}
+use Rattle.tm_plan.specs.Collected.{is_declared, collector}
+use Rattle.tm_base.specs.Lists.{any, count_from}
+use Rattle.tm_plan_map.specs.Slots.{instr_of, stores_to}
 use Rattle.tm_world.specs.Lists.{those, or_else}
 use Rattle.tm_world.specs.Place.{harts, round_count, case_of_round, passes, exit_of, is_flag, is_verdict, is_private, is_window, image_byte}
 use Rattle.tm_world.specs.Run.{Step, own, last_write, in_phase}

@@ -1,6 +1,6 @@
 use Rattle.std.proofs.Common.{[], ◌∷◌, ◌++◌, length, ap, ◌∙◌, arith, length-append}
-use Rattle.tm_code.specs.Sheet.{Sheet}
-use Rattle.tm_code.proofs.Append.{length-puts}
+use Rattle.tm_asm.specs.Sheet.{Sheet}
+use Rattle.tm_asm.proofs.Append.{length-puts}
 use Rattle.tm_blocks.specs.Instrs.{fence, go_to}
 use Rattle.tm_blocks_code.proofs.Puts.{and_then}
 use Rattle.tm_barrier.specs.Words.{meet, barrier}

@@ -1,6 +1,6 @@
 use Rattle.std.proofs.Common.{◌++◌}
 use Rattle.std.proofs.lemmas.Result.{on_ok_weaker}
-use Rattle.tm_plan.specs.Collected.{count_from}
+use Rattle.tm_base.specs.Lists.{count_from}
 use Rattle.tm_barrier.specs.Words.{prepare, signal, waits, meet}
 use Rattle.tm_blocks_code.proofs.Puts.{and_then}
 use Rattle.tm_barrier.proofs.barrier.put_meet.Goals as goal

@@ -1,7 +1,7 @@
 use Rattle.std.proofs.Common.{Bool, [], sym, ap, ◌∙◌, eq-eqb}
 use Rattle.std.specs.Prelude.{if◌then◌else◌}
-use Rattle.tm_code.specs.Sheet.{puts}
-use Rattle.tm_code.proofs.Append.{puts-none}
+use Rattle.tm_asm.specs.Sheet.{puts}
+use Rattle.tm_asm.proofs.Append.{puts-none}
 use Rattle.tm_barrier.specs.Words.{wait}
 use Rattle.tm_barrier.proofs.barrier.put_turn.Goals as goal
 

@@ -1,6 +1,6 @@
 use Rattle.std.proofs.Common.{ℕ, ◌-◌, ◌/◌, ◌^◌, List, [], ◌∷◌, flat_map, arith}
 use Rattle.tm_table.specs.declared.instr.Instr.{Instr}
-use Rattle.tm_plan.specs.Collected.{count_from}
+use Rattle.tm_base.specs.Lists.{count_from}
 use Rattle.tm_blocks.specs.Instrs.{addi}
 use Rattle.tm_blocks.specs.Blocks.{shift_in, constant}
 use Rattle.tm_blocks.proofs.Lists.{none_yet, one_more, all_done, and_then}

@@ -1,6 +1,6 @@
 use Rattle.std.proofs.Common.{ℕ, ◌≡◌, ◌-◌, ◌*◌, ◌++◌, List, [], ◌∷◌, ◌∙◌, ap, map, arith}
 use Rattle.tm_table.specs.declared.instr.Instr.{Instr}
-use Rattle.tm_plan.specs.Collected.{count_from}
+use Rattle.tm_base.specs.Lists.{count_from}
 use Rattle.tm_blocks.specs.Instrs.{ld, words_of}
 use Rattle.tm_blocks.specs.Blocks.{constant, load_registers}
 use Rattle.tm_blocks.proofs.Lists.{none_yet, one_more, all_single, and_then}

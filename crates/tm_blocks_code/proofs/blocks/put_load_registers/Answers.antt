@@ -1,7 +1,7 @@
 use Rattle.std.proofs.Common.{ℕ, ◌≡◌, ◌-◌, ◌*◌, List, [], ◌∷◌, ◌∙◌, ap, map, arith}
 use Rattle.tm_table.specs.declared.instr.Instr.{Instr}
-use Rattle.tm_plan.specs.Collected.{count_from}
-use Rattle.tm_code.specs.Sheet.{puts}
+use Rattle.tm_base.specs.Lists.{count_from}
+use Rattle.tm_asm.specs.Sheet.{puts}
 use Rattle.tm_blocks.specs.Instrs.{ld}
 use Rattle.tm_blocks.specs.Blocks.{constant, load_registers}
 use Rattle.tm_blocks.proofs.Registers.{load_registers_runs, load_all_but_last_runs, last_load_runs}

@@ -1,6 +1,6 @@
 use Rattle.std.proofs.Common.{ℕ, ◌≡◌, ◌-◌, ◌*◌, List, [], ◌∷◌, ◌∙◌, ap, arith}
 use Rattle.tm_table.specs.declared.instr.Instr.{Instr}
-use Rattle.tm_code.specs.Sheet.{puts}
+use Rattle.tm_asm.specs.Sheet.{puts}
 use Rattle.tm_blocks.specs.Instrs.{sd}
 use Rattle.tm_blocks.specs.Blocks.{save_registers}
 use Rattle.tm_blocks.proofs.Registers.{save_registers_runs}

@@ -1,6 +1,6 @@
 use Rattle.std.proofs.Common.{◌≡◌, ℕ, ◌+◌, length, ap₂, ◌∙◌, arith}
 use Rattle.std.proofs.lemmas.Result.{on_ok_weaker}
-use Rattle.tm_code.specs.Sheet.{puts}
+use Rattle.tm_asm.specs.Sheet.{puts}
 use Rattle.tm_blocks_code.proofs.Puts.{and_then}
 use Rattle.tm_blocks_compare.specs.Words.{first_check, next_check, last_check, pass_head, pass_body, pass_tail, one_pass, all_passes}
 use Rattle.tm_blocks_compare.proofs.Lengths.{length-one}

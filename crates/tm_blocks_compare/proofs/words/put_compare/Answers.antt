@@ -1,8 +1,8 @@
 use Rattle.std.proofs.Common.{ℕ, List, [], ◌∷◌, ◌++◌, ap, ap₂, ◌∙◌}
 use Rattle.std.proofs.lemmas.Result.{on_ok_weaker}
 use Rattle.tm_table.specs.declared.instr.Instr.{Instr}
-use Rattle.tm_plan.specs.Map.{save_at, verdict_at}
-use Rattle.tm_code.specs.Sheet.{puts}
+use Rattle.tm_plan_map.specs.Map.{save_at, verdict_at}
+use Rattle.tm_asm.specs.Sheet.{puts}
 use Rattle.tm_blocks.specs.Instrs.{addi, ld, sd}
 use Rattle.tm_blocks.specs.Blocks.{constant}
 use Rattle.tm_blocks_code.proofs.Puts.{and_then}

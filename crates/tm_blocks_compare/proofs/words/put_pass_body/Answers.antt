@@ -1,6 +1,6 @@
 use Rattle.std.proofs.Common.{◌≡◌, ℕ, ◌+◌, ◌++◌, length, ap, ◌∙◌, arith}
 use Rattle.std.proofs.lemmas.Result.{on_ok_weaker}
-use Rattle.tm_code.specs.Sheet.{puts}
+use Rattle.tm_asm.specs.Sheet.{puts}
 use Rattle.tm_blocks_code.proofs.Puts.{and_then}
 use Rattle.tm_blocks_compare.specs.Words.{register_loop, own_check, first_check, next_check, last_check, pass_body}
 use Rattle.tm_blocks_compare.proofs.words.put_pass_body.Goals as goal

@@ -2,7 +2,7 @@ use Rattle.std.proofs.Common.{◌≡◌, Bool, List, [], ◌∷◌, ◌++◌, ap
 use Rattle.std.specs.Prelude.{if◌then◌else◌}
 use Rattle.std.proofs.lemmas.Result.{on_ok_weaker}
 use Rattle.tm_table.specs.declared.instr.Instr.{Instr}
-use Rattle.tm_code.specs.Sheet.{puts}
+use Rattle.tm_asm.specs.Sheet.{puts}
 use Rattle.tm_blocks.specs.Instrs.{addi}
 use Rattle.tm_blocks.specs.Blocks.{constant}
 use Rattle.tm_blocks_code.proofs.Puts.{and_then}

@@ -1,9 +1,9 @@
 use Rattle.std.proofs.Common.{◌≡◌, ℕ, List, [], ◌∷◌, ◌++◌, length, Some, None, refl, ap, ap₂, ◌∙◌}
 use Rattle.tm_table.specs.declared.instr.Op.TheVariants.{Beq}
-use Rattle.tm_code.specs.declared.code.Item.{Item}
-use Rattle.tm_code.specs.declared.code.Item.TheVariants.{Plain, Branch}
-use Rattle.tm_code.specs.Sheet.{Sheet}
-use Rattle.tm_code.proofs.Words.{placed_more}
+use Rattle.tm_asm.specs.declared.code.Item.{Item}
+use Rattle.tm_asm.specs.declared.code.Item.TheVariants.{Plain, Branch}
+use Rattle.tm_asm.specs.Sheet.{Sheet}
+use Rattle.tm_asm.proofs.Words.{placed_more}
 use Rattle.tm_cases.proofs.labels.forward.Goals as goal
 
 start_items : (s t u : Sheet) (n : ℕ) → s ≡ record { items = []; places = [] } → n ≡ length s.places → t ≡ record { items = s.items; places = s.places ++ None ∷ [] }

@@ -1,5 +1,5 @@
 use Rattle.std.proofs.Common.{◌≡◌, ℕ, [], ◌∷◌, Some, None}
-use Rattle.tm_code.specs.Sheet.{AllPlaced}
+use Rattle.tm_asm.specs.Sheet.{AllPlaced}
 use Rattle.tm_cases.proofs.labels.forward.Given as goal
 
 abbrev pub invariant-loop : goal.invariant-loop

@@ -1,4 +1,4 @@
-use Rattle.tm_checks.proofs.Systems.{system_of}
+use Rattle.tm_rules_slot.proofs.Systems.{system_of}
 use Rattle.tm_cases.proofs.texts.rules.Goals as goal
 
 pub admit-requires : goal.admit-requires

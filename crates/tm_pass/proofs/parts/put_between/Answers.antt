@@ -1,7 +1,7 @@
 use Rattle.std.proofs.Common.{◌≡◌, ◌*◌, List, [], ◌∷◌, ◌++◌, ◌∙◌, ap, ℕ, arith}
 use Rattle.std.proofs.lemmas.Result.{on_ok_weaker}
 use Rattle.tm_table.specs.declared.instr.Instr.{Instr}
-use Rattle.tm_plan.specs.Map.{save_at, windows_base}
+use Rattle.tm_plan_map.specs.Map.{save_at, windows_base}
 use Rattle.tm_blocks.specs.Instrs.{jump_back, words_of}
 use Rattle.tm_blocks.specs.Blocks.{collect}
 use Rattle.tm_blocks.proofs.Lists.{and_then}

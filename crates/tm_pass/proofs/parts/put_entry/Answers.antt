@@ -1,7 +1,7 @@
 use Rattle.std.proofs.Common.{◌≡◌, ◌++◌, ◌∙◌, ap, List}
 use Rattle.std.proofs.lemmas.Result.{on_ok_weaker}
 use Rattle.tm_table.specs.declared.instr.Instr.{Instr}
-use Rattle.tm_plan.specs.Map.{private_at}
+use Rattle.tm_plan_map.specs.Map.{private_at}
 use Rattle.tm_blocks.specs.Instrs.{words_of}
 use Rattle.tm_blocks.specs.Blocks.{constant}
 use Rattle.tm_blocks.proofs.Lists.{and_then}

@@ -1,7 +1,7 @@
 use Rattle.std.proofs.Common.{◌≡◌, List, ◌++◌, ◌∙◌, ap}
 use Rattle.std.proofs.lemmas.Result.{on_ok_weaker}
 use Rattle.tm_table.specs.declared.instr.Instr.{Instr}
-use Rattle.tm_plan.specs.Map.{save_at, verdict_at, windows_base}
+use Rattle.tm_plan_map.specs.Map.{save_at, verdict_at, windows_base}
 use Rattle.tm_blocks.specs.Instrs.{words_of}
 use Rattle.tm_blocks.specs.Blocks.{collect}
 use Rattle.tm_blocks.specs.Compare.{compare}

@@ -1,6 +1,6 @@
 use Rattle.std.proofs.Common.{◌≡◌, ◌≢◌, ◌∙◌, sym, refl, inl, inr, ◌⊎◌}
-use Rattle.tm_plan.specs.declared.cases.Kind2.{Kind2}
-use Rattle.tm_plan.specs.declared.cases.Kind2.TheVariants.{True, False, Own}
+use Rattle.tm_plan_map.specs.declared.windows.Kind2.{Kind2}
+use Rattle.tm_plan_map.specs.declared.windows.Kind2.TheVariants.{True, False, Own}
 use Rattle.tm_place.specs.Placed.{sharing_of}
 use Rattle.tm_place.proofs.AccessLemmas.{begins-at, may_load-nowhere, may_load-free, may_load-own}
 use Rattle.tm_place.proofs.AllowedLemmas.{load-answer, load-unaligned}

@@ -1,5 +1,5 @@
 use Rattle.std.proofs.Common.{◌≡◌, ℕ, ◌+◌, ◌*◌, ◌/◌, ap₂, ◌∙◌, sym, arith}
-use Rattle.tm_plan.specs.Map.{windows_base}
+use Rattle.tm_plan_map.specs.Map.{windows_base}
 use Rattle.tm_plan_owned.specs.Lines.{line_count, line_place}
 use Rattle.tm_plan_owned.proofs.Reach.{length-lines, few-dwords}
 use Rattle.tm_plan_owned.proofs.dwords.owned_in.Goals as goal

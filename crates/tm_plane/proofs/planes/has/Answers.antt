@@ -1,5 +1,5 @@
 use Rattle.std.proofs.Common.{arith}
-use Rattle.tm_plan.specs.Map.{window_at}
+use Rattle.tm_plan_map.specs.Map.{window_at}
 use Rattle.tm_plane.proofs.PlaneLemmas.{has-told}
 use Rattle.tm_plane.proofs.planes.has.Goals as goal
 

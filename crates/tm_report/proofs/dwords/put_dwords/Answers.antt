@@ -1,5 +1,5 @@
 use Rattle.std.proofs.Common.{◌≡◌, ◌+◌, ◌*◌, arith}
-use Rattle.tm_plan.specs.Map.{windows_base}
+use Rattle.tm_plan_map.specs.Map.{windows_base}
 use Rattle.tm_report.specs.Listing.{is_listed, dword_entry}
 use Rattle.tm_report.proofs.Growing.{dwords_to, dwords-more, dwords-all, entries-more}
 use Rattle.tm_report.proofs.dwords.put_dwords.Goals as goal

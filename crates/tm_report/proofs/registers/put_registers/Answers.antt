@@ -1,5 +1,5 @@
 use Rattle.std.proofs.Common.{◌≡◌, ◌-◌, arith}
-use Rattle.tm_plan.specs.Collected.{count_from}
+use Rattle.tm_base.specs.Lists.{count_from}
 use Rattle.tm_report.specs.Listing.{is_unchecked, register_entry}
 use Rattle.tm_report.proofs.Growing.{count-next, registers-all, entries-more}
 use Rattle.tm_report.proofs.registers.put_registers.Goals as goal

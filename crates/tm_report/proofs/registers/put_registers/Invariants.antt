@@ -1,6 +1,6 @@
 use Rattle.std.proofs.Common.{◌≡◌, ◌++◌, ◌-◌, filter}
 use Rattle.std.specs.List.{flat_map}
-use Rattle.tm_plan.specs.Collected.{count_from}
+use Rattle.tm_base.specs.Lists.{count_from}
 use Rattle.tm_report.specs.Listing.{is_unchecked, register_entry}
 use Rattle.tm_report.proofs.registers.put_registers.Given as goal
 

@@ -1,7 +1,7 @@
-use Rattle.tm_owed.specs.Words.{build_in}
-use Rattle.tm_owed.specs.Words.Command.{to_build}
-use Rattle.tm_owed.specs.Changes.{desk_change, sink_change}
-use Rattle.tm_owed.proofs.Stops.{print_stopped}
+use Rattle.tm_top_owed.specs.Words.{build_in}
+use Rattle.tm_top_owed.specs.Words.Command.{to_build}
+use Rattle.tm_top_owed.specs.Changes.{desk_change, sink_change}
+use Rattle.tm_top_owed.proofs.Stops.{print_stopped}
 use Rattle.tm_top.proofs.build.build_command.Goals as goal
 
 pub returns-clause-stopped : goal.returns-clause-stopped

@@ -1,7 +1,7 @@
 use Rattle.std.proofs.Common.{refl}
-use Rattle.tm_owed.specs.Words.{command_in, bytes_of_words}
-use Rattle.tm_owed.specs.Changes.{desk_change, sink_change}
-use Rattle.tm_owed.specs.Owed.Ended.{done}
+use Rattle.tm_top_owed.specs.Words.{command_in, bytes_of_words}
+use Rattle.tm_top_owed.specs.Changes.{desk_change, sink_change}
+use Rattle.tm_top_owed.specs.Owed.Ended.{done}
 use Rattle.tm_top.proofs.Owing.{ended_stopped}
 use Rattle.tm_top.proofs.call.status_of_call.Goals as goal
 

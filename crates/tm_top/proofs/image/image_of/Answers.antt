@@ -1,6 +1,6 @@
 use Rattle.std.proofs.Common.{◌≡◌, ◌∙◌, ap, refl}
-use Rattle.tm_lines.specs.declared.fault.AnyFault.TheVariants.{Input}
-use Rattle.tm_lines.proofs.Named.{input_calm}
+use Rattle.tm_top_line.specs.declared.fault.AnyFault.TheVariants.{Input}
+use Rattle.tm_top_line.proofs.Named.{input_calm}
 use Rattle.tm_top.proofs.Refusals.{image_refused}
 use Rattle.tm_top.proofs.image.image_of.Goals as goal
 

@@ -1,6 +1,6 @@
 use Rattle.std.proofs.Common.{◌∙◌, ap, sym, Option, List, ℕ}
-use Rattle.tm_owed.specs.Words.{build_in}
-use Rattle.tm_owed.specs.Changes.{desk_change}
+use Rattle.tm_top_owed.specs.Words.{build_in}
+use Rattle.tm_top_owed.specs.Changes.{desk_change}
 use Rattle.tm_top.proofs.Refusals.{template_stop, image_stop, image_of_held}
 use Rattle.tm_top.proofs.inputs.make_image.Goals as goal
 

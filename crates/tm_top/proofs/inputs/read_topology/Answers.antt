@@ -1,6 +1,6 @@
 use Rattle.std.proofs.Common.{sym, ◌∙◌}
-use Rattle.tm_owed.specs.Words.{build_in}
-use Rattle.tm_owed.specs.Changes.{desk_change}
+use Rattle.tm_top_owed.specs.Words.{build_in}
+use Rattle.tm_top_owed.specs.Changes.{desk_change}
 use Rattle.tm_top.proofs.Refusals.{topology_stop, topology_refused}
 use Rattle.tm_top.proofs.inputs.read_topology.Goals as goal
 

@@ -1,5 +1,5 @@
 use Rattle.std.proofs.Common.{◌≡◌, map, take, length}
-use Rattle.tm_plan.specs.Collected.{count_from}
+use Rattle.tm_base.specs.Lists.{count_from}
 use Rattle.tm_place.specs.Draws.{draw}
 use Rattle.tm_place.proofs.DrawLemmas.{before}
 use Rattle.tm_place.proofs.drawing.Draws.of.Given as goal

@@ -1,4 +1,0 @@
-pub mod WrittenLemmas
-pub mod EachLemmas
-pub mod SlotLemmas
-pub mod RuledLemmas

@@ -1,6 +1,0 @@
-use Rattle.std.proofs.Common.{◌≡◌, map, take}
-use Rattle.tm_admit.specs.Admitting.{admitted_case}
-use Rattle.tm_admit.proofs.bodies.cases_of.Given as goal
-
-abbrev pub invariant-loop-case : goal.invariant-loop-case
-invariant-loop-case l = l.all ≡ map (admitted_case l.topo) (take l.case-index l.cases)

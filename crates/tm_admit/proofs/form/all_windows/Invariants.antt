@@ -1,6 +1,0 @@
-use Rattle.std.proofs.Common.{◌≡◌, take}
-use Rattle.tm_rules.specs.Windows.{windows_of}
-use Rattle.tm_admit.proofs.form.all_windows.Given as goal
-
-abbrev pub invariant-loop-window : goal.invariant-loop-window
-invariant-loop-window l = l.all ≡ windows_of (take l.window-index l.windows)

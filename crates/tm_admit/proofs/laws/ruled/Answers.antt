@@ -1,5 +1,0 @@
-use Rattle.tm_admit.proofs.RuledLemmas.{admitted-ruled}
-use Rattle.tm_admit.proofs.laws.ruled.Goals as goal
-
-pub returns : goal.returns
-returns c = admitted-ruled c.args.topo.now c.args.t.now c.requires

@@ -1,6 +1,0 @@
-use Rattle.std.proofs.Common.{◌≡◌, take}
-use Rattle.tm_admit.specs.Admitting.{written_out}
-use Rattle.tm_admit.proofs.slots.written_out.Given as goal
-
-abbrev pub invariant-loop-statement : goal.invariant-loop-statement
-invariant-loop-statement l = l.slots ≡ written_out (take l.statement-index l.statements)

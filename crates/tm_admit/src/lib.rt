@@ -1,9 +1,0 @@
-//! A template is admitted, or the first rule that it breaks is named.
-#![tactic(auto)]
-
-mod bodies;
-mod form;
-pub mod laws;
-mod slots;
-
-pub use form::{AdmitFault, admit};

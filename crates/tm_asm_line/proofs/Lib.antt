@@ -1,0 +1,5 @@
+pub mod Cutting
+pub mod Cut
+pub mod Back
+pub mod Printed
+mod Rows

@@ -1,7 +1,0 @@
-use Rattle.std.specs.Prelude.{is_ok}
-use Rattle.tm_code.specs.declared.code.Item.TheVariants.{Jump}
-use Rattle.tm_code.proofs.Words.{good_push}
-use Rattle.tm_code.proofs.code.Code.jump.Goals as goal
-
-pub invariant_of-self : goal.invariant_of-self
-invariant_of-self c = rw c.push.ensures.items (good_push (is_ok c.push.result) c.self.inside.items.items (Jump c.args.rd c.args.to.number) c.self.invariant c.requires)

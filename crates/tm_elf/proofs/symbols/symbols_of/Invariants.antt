@@ -1,9 +1,0 @@
-use Rattle.std.proofs.Common.{◌≡◌, ◌≤◌, ◌+◌, ◌*◌, ◌++◌, drop}
-use Rattle.tm_elf.specs.Symbols.{symbol_bytes, entries}
-use Rattle.tm_elf.proofs.symbols.symbols_of.Given as goal
-
-abbrev pub invariant-loop-s : goal.invariant-loop-s
-invariant-loop-s l = record {
-  bytes : l.out ++ entries l.name (drop l.s-index l.symbols) ≡ symbol_bytes l.symbols;
-  small : l.name ≤ 33 * l.s-index + 1;
-}

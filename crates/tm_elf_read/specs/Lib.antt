@@ -1,2 +1,0 @@
-pub mod SymbolTable
-pub mod Read

@@ -1,0 +1,9 @@
+pub mod Fields
+pub mod Places
+pub mod Header
+pub mod Segments
+pub mod Sections
+pub mod Plan
+pub mod Symbols
+pub mod Elf
+pub mod Stands

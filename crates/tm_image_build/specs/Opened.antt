@@ -1,0 +1,34 @@
+-- What a file is opened as.
+use Rattle.std.specs.Prelude.{ℕ, List, Option, Some, None, Result, Ok, Err}
+use Rattle.tm_elf_write.specs.declared.parts.Parts.{Parts}
+use Rattle.tm_elf_head.specs.declared.fault.ElfFault.{ElfFault}
+use Rattle.tm_elf_head.specs.Differences.{first_difference}
+use Rattle.tm_elf.specs.Read.{elf_of}
+use Rattle.tm_image_build.specs.Built.{built}
+use Rattle.tm_faults.specs.declared.inputs.InputFault.{InputFault}
+use Rattle.tm_faults.specs.declared.image.ImageFault.{ImageFault}
+use Rattle.tm_faults.specs.declared.image.ImageFault.TheVariants.{Elf, Inputs, Differs}
+
+-- a file, or the place at which another one differs from it (this project)
+abbrev pub unless_differs : List ℕ → Option ℕ → Result (List ℕ) ImageFault
+unless_differs file None = Ok file
+unless_differs file (Some at) = Err (Differs at)
+
+-- the file that is built again, if it is these bytes (this project)
+abbrev pub compared : (bytes : List ℕ) → Result (List ℕ) InputFault → Result (List ℕ) ImageFault
+compared bytes (Ok file) = unless_differs file (first_difference file bytes)
+compared bytes (Err fault) = Err (Inputs fault)
+
+-- what is built of the plan of parts (this project)
+unfoldable pub rebuilt : Parts → Result (List ℕ) InputFault
+rebuilt parts = built parts.plan.topo parts.plan.template parts.plan.seed
+
+-- the file of the plan that was read, if it is these bytes (this project)
+abbrev pub opened_from : (bytes : List ℕ) → Result Parts ElfFault → Result (List ℕ) ImageFault
+opened_from bytes (Ok parts) = compared bytes (rebuilt parts)
+opened_from bytes (Err fault) = Err (Elf fault)
+
+-- the file that a file is opened as, itself, or the first fault: of its form, of the two texts of its plan, or a byte that the plan doesn't give
+-- (this project)
+unfoldable pub opened : List ℕ → Result (List ℕ) ImageFault
+opened bytes = opened_from bytes (elf_of bytes)

@@ -1,0 +1,8 @@
+//! From the two input texts to the program of an image and its file.
+#![tactic(auto)]
+
+mod image;
+
+pub use image::{Image, build};
+pub use tm_faults::{BuildFault, InputFault, Role};
+pub use tm_image_inputs::topology_fault;

@@ -1,0 +1,8 @@
+//! The two input texts of an image: the test that they ask for, or their first fault.
+#![tactic(auto)]
+
+mod late;
+mod read;
+
+pub use read::{read_inputs, topology_fault};
+pub use tm_faults::{BuildFault, InputFault, Role};

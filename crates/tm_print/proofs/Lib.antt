@@ -1,5 +1,0 @@
-pub mod PrintLemmas
-pub mod SpacedLemmas
-pub mod ReadBackLemmas
-pub mod BareLemmas
-pub mod Rows

@@ -1,5 +1,0 @@
-use Rattle.tm_reopen.proofs.Opening.{opened-again}
-use Rattle.tm_reopen.proofs.laws.opened_again.Goals as goal
-
-pub returns : goal.returns
-returns c = opened-again c.args.topo.now c.args.template.now

@@ -1,4 +1,0 @@
-//! A law of images: each file that is built is opened again.
-#![tactic(auto)]
-
-pub mod laws;

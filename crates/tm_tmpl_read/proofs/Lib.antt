@@ -1,0 +1,10 @@
+pub mod StepLemmas
+pub mod MadeLemmas
+pub mod LineLemmas
+pub mod TextLemmas
+pub mod TreeLemmas
+pub mod LexemeLemmas
+pub mod RawLemmas
+pub mod WritableLemmas
+pub mod LawLemmas
+pub mod Rows

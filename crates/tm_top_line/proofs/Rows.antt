@@ -1,0 +1,90 @@
+-- Worked lines.
+use Rattle.std.proofs.Common.{◌≡◌, codes, refl}
+use Rattle.std.specs.Fmt.{digits}
+use Rattle.tm_base.specs.Numbers.{hex_text}
+use Rattle.tm_asm_line.specs.Shapes.{name_of}
+use Rattle.tm_desk.specs.declared.desk.DeskError.TheVariants as desk
+use Rattle.tm_elf_head.specs.declared.fault.ElfFault.TheVariants as elf
+use Rattle.tm_faults.specs.declared.role.Role.TheVariants as role
+use Rattle.tm_faults.specs.declared.inputs.InputFault.TheVariants.{Topo, Tmpl, Rule, NotYet}
+use Rattle.tm_faults.specs.declared.image.ImageFault.TheVariants as image
+use Rattle.std.specs.Prelude.{pos, negsuc}
+use Rattle.tm_asm_line.specs.declared.fault.AsmFault.TheVariants as asm
+use Rattle.tm_topo.specs.declared.system.TopoFault.TheVariants as topo
+use Rattle.tm_topo.specs.declared.system.TopoKey.TheVariants as key
+use Rattle.tm_lex.specs.declared.token.LexFault.TheVariants as lex
+use Rattle.tm_tmpl_types.specs.declared.template.TmplFault.TheVariants as tmpl
+use Rattle.tm_tmpl_types.specs.declared.template.Want.TheVariants as want
+use Rattle.tm_table.specs.declared.instr.Op.TheVariants as op
+use Rattle.tm_faults.specs.declared.rule.RuleFault.TheVariants as rule
+use Rattle.tm_top_line.specs.Inputs.{with_value, pos_text, shown_key, signed_text, input_text, addr_text}
+use Rattle.tm_top_line.specs.declared.fault.AnyFault.TheVariants as any
+use Rattle.tm_top_line.specs.Lines.{fault_text}
+
+short : fault_text role.Image (any.Image (image.Elf (elf.Short 63))) ≡ codes "threadmill: image: Elf Short 63\n"
+unfolding fault_text with_value digits
+short = refl
+
+another_machine : fault_text role.Image (any.Image (image.Elf (elf.NotRiscv 62))) ≡ codes "threadmill: image: Elf NotRiscv 62\n"
+unfolding fault_text with_value digits
+another_machine = refl
+
+no_plan : fault_text role.Image (any.Image (image.Elf elf.NoPlan)) ≡ codes "threadmill: image: Elf NoPlan\n"
+unfolding fault_text with_value digits
+no_plan = refl
+
+a_text_of_the_plan : fault_text role.Image (any.Image (image.Inputs (NotYet role.Template 2))) ≡ codes "threadmill: image: Inputs NotYet 2\n"
+unfolding fault_text with_value digits
+a_text_of_the_plan = refl
+
+another_file : fault_text role.Image (any.Image (image.Differs 14592)) ≡ codes "threadmill: image: Differs 14592\n"
+unfolding fault_text with_value digits
+another_file = refl
+
+a_text : fault_text role.Template (any.Input (NotYet role.Template 2)) ≡ codes "threadmill: template: NotYet 2\n"
+unfolding fault_text with_value digits
+a_text = refl
+
+too_long : fault_text role.Image (any.Desk (desk.TooLong 16777216)) ≡ codes "threadmill: image: TooLong 16777216\n"
+unfolding fault_text with_value digits
+too_long = refl
+
+failed : fault_text role.Output (any.Desk desk.Failed) ≡ codes "threadmill: output: Failed\n"
+unfolding fault_text with_value digits
+failed = refl
+
+an_unknown_key : input_text (Topo (topo.UnknownKey (codes "spe d"))) ≡ codes "Topo UnknownKey spe?d"
+unfolding digits with_value pos_text shown_key signed_text
+an_unknown_key = refl
+
+a_negative_number : input_text (Topo (topo.OutOfRange key.Line (negsuc 47))) ≡ codes "Topo OutOfRange line -48"
+unfolding digits with_value pos_text shown_key signed_text
+a_negative_number = refl
+
+a_bad_byte : input_text (Tmpl (tmpl.Lex (lex.BadByte (record { line = 1; col = 10 }) 7))) ≡ codes "Tmpl Lex BadByte 1:10 7"
+unfolding digits with_value pos_text shown_key signed_text
+a_bad_byte = refl
+
+no_name : input_text (Tmpl (tmpl.Expected (record { line = 1; col = 10 }) want.Name)) ≡ codes "Tmpl Expected 1:10 Name"
+unfolding digits with_value pos_text shown_key signed_text
+no_name = refl
+
+another_owner : input_text (Rule (record { pos = record { line = 6; col = 1 }; fault = rule.NotOwner 1 0x80E80000 })) ≡ codes "Rule 6:1 NotOwner 1 0x80e80000"
+unfolding digits with_value pos_text shown_key signed_text addr_text hex_text
+another_owner = refl
+
+a_wide_address : addr_text 0x180E80000 ≡ codes "0x0000000180e80000"
+unfolding addr_text hex_text
+a_wide_address = refl
+
+a_barred_op : input_text (Rule (record { pos = record { line = 6; col = 1 }; fault = rule.NotAllowed op.Ecall })) ≡ codes "Rule 6:1 NotAllowed ecall"
+unfolding digits with_value pos_text shown_key signed_text name_of
+a_barred_op = refl
+
+no_instruction : input_text (Rule (record { pos = record { line = 6; col = 3 }; fault = rule.Asm (asm.OutOfRange (pos 2048)) })) ≡ codes "Rule 6:3 Asm OutOfRange 2048"
+unfolding digits with_value pos_text shown_key signed_text
+no_instruction = refl
+
+backward : input_text (Rule (record { pos = record { line = 6; col = 1 }; fault = rule.Target 3 (negsuc 7) })) ≡ codes "Rule 6:1 Target 3 -8"
+unfolding digits with_value pos_text shown_key signed_text
+backward = refl

@@ -1,0 +1,13 @@
+//! The lines that tell of faults on the error stream.
+#![tactic(auto)]
+
+mod fault;
+mod grammar;
+mod line;
+mod rule;
+mod topology;
+mod values;
+
+pub use fault::AnyFault;
+pub use line::fault_line;
+pub use tm_faults::Role;

@@ -1,0 +1,220 @@
+-- What a command owes: what its files and its sinks are after it, by the status that it ends with.
+-- Source: this project.
+use Rattle.std.specs.Prelude.{◌≡◌, ◌⊎◌, ℕ, Bool, true, false, IsTrue, IsFalse, List, [], None, Some, Ok}
+use Rattle.tm_desk.specs.Causes.{Files}
+use Rattle.tm_desk.specs.declared.desk.DeskError.TheVariants.{Failed, TooLong, NoMemory}
+use Rattle.tm_plan_map.specs.declared.admitted.Admitted.{Admitted}
+use Rattle.tm_plan.specs.declared.program.Program.{Program}
+use Rattle.tm_image_program.specs.Program.{IsTestOf}
+use Rattle.tm_world.specs.Sound.{SoundSoFar}
+use Rattle.tm_elf_write.specs.declared.parts.Parts.{Parts}
+use Rattle.tm_elf.specs.Read.{elf_of}
+use Rattle.tm_faults.specs.declared.role.Role.{Role}
+use Rattle.tm_faults.specs.declared.role.Role.TheVariants as roles
+use Rattle.tm_image_inputs.specs.Inputs.{inputs}
+use Rattle.tm_image_build.specs.Built.{built, image_file, program_from}
+use Rattle.tm_image_build.specs.Opened.{opened, rebuilt}
+use Rattle.tm_report.specs.Listing.{listing}
+use Rattle.tm_top_line.specs.declared.fault.AnyFault.{AnyFault}
+use Rattle.tm_top_line.specs.declared.fault.AnyFault.TheVariants.{Input, Image, Desk}
+use Rattle.tm_top_line.specs.Lines.{fault_text, wants_memory}
+use Rattle.tm_top_owed.specs.Words.{Build, Command, command_of}
+use Rattle.tm_top_owed.specs.Words.Command.{to_build, to_list}
+use Rattle.tm_top_owed.specs.Texts.{usage, built_line}
+use Rattle.tm_top_owed.specs.Inputs.{first_fault, fault_before}
+use Rattle.tm_top_owed.specs.Changes.{DeskChange, SinkChange, DeskFailed, SinkFailed}
+use Rattle.tm_top_owed.specs.Changes.{FilesStay, OtherFilesStay, Silent, Took, TookFront, TookFronts, Said}
+
+-- ---- a build
+
+-- The file is built of two texts and a seed; its program has the cases of the test that the texts ask for,
+-- and is sound, so far as that is claimed; and the line is that of its program.
+pub record IsMadeOf (topo template : List ℕ) (seed : ℕ) (file line : List ℕ) : Type 0 where
+  pub program : Program
+  pub its_program : program_from (inputs topo template) ≡ Ok program
+  pub its_test : (a : Admitted) → inputs topo template ≡ Ok a → IsTestOf a program.cases
+  pub its_file : built topo template seed ≡ Ok file
+  pub of_program : file ≡ image_file program topo template seed
+  pub is_sound : SoundSoFar program
+  pub its_line : line ≡ built_line program file
+
+-- The file and its line are made of the two held texts and the seed, and neither text has a fault.
+pub record IsImageOf (b : Build) (tells : Bool) (held : Files) (file line : List ℕ) : Type 0 where
+  pub topo : List ℕ
+  pub template : List ℕ
+  pub made : IsMadeOf topo template b.seed file line
+  pub read : IsTrue tells → (held b.topo ≡ Some topo) × (held b.template ≡ Some template)
+  pub accepted : IsTrue tells → first_fault (to_build b) held ≡ None
+
+-- Such a file was written, and this is its line.
+pub record IsWritten (b : Build) (desk : DeskChange) (line : List ℕ) : Type 0 where
+  pub file : List ℕ
+  pub image : IsImageOf b desk.tells desk.held file line
+  pub written : IsTrue desk.tells → desk.holds b.out ≡ Some file
+
+-- ---- a listing
+
+-- The file is an image: it is what is built of its own plan, of this program and seed; the program is sound,
+-- so far as that is claimed.
+pub record IsOpened (file : List ℕ) (program : Program) (seed : ℕ) : Type 0 where
+  pub parts : Parts
+  pub form : elf_of file ≡ Ok parts
+  pub again : rebuilt parts ≡ Ok file
+  pub its_seed : seed ≡ parts.plan.seed
+  pub its_program : program_from (inputs parts.plan.topo parts.plan.template) ≡ Ok program
+  pub is_sound : SoundSoFar program
+  pub accepted : opened file ≡ Ok file
+
+-- The text is the listing of an image.
+pub record IsListingIn (file text : List ℕ) : Type 0 where
+  pub program : Program
+  pub seed : ℕ
+  pub image : IsOpened file program seed
+  pub its_text : text ≡ listing program seed
+
+-- The text is the listing of the held image, and that has no fault.
+pub record IsListingOf (image : List ℕ) (tells : Bool) (held : Files) (text : List ℕ) : Type 0 where
+  pub file : List ℕ
+  pub of_file : IsListingIn file text
+  pub read : IsTrue tells → held image ≡ Some file
+  pub accepted : IsTrue tells → first_fault (to_list image) held ≡ None
+
+-- ---- each command
+
+-- the text is what the command prints, and all that comes before it is done
+abbrev pub IsReady : Command → DeskChange → List ℕ → Type 0
+IsReady (to_build b) desk text = IsWritten b desk text
+IsReady (to_list image) desk text = IsListingOf image desk.tells desk.held text
+
+-- The job was done: all that comes before the text, and the text was printed.
+pub record IsDone (c : Command) (desk : DeskChange) (out : SinkChange) : Type 0 where
+  pub text : List ℕ
+  pub ready : IsReady c desk text
+  pub printed : Took out text
+
+-- all files that the command doesn't write are as at entry
+abbrev pub RestStays : Command → DeskChange → Type 0
+RestStays (to_build b) desk = OtherFilesStay desk b.out
+RestStays (to_list image) desk = FilesStay desk
+
+-- the command writes a file
+abbrev pub writes : Command → Bool
+writes (to_build b) = true
+writes (to_list image) = false
+
+-- the command reads the file of a role
+abbrev pub reads : Command → Role → Bool
+reads (to_build b) roles.Topology = true
+reads (to_build b) roles.Template = true
+reads (to_build b) _ = false
+reads (to_list image) roles.Image = true
+reads (to_list image) _ = false
+
+-- ---- faults
+
+-- the status of a fault: 3 for a refusal, 5 for a failure
+abbrev pub status_of : AnyFault → ℕ
+status_of (Input fault) = 3
+status_of (Image fault) = 3
+status_of (Desk (TooLong max)) = 3
+status_of (Desk Failed) = 5
+status_of (Desk NoMemory) = 6
+
+-- The fault is a refusal, and the first fault of the command's inputs.
+pub record IsRefusal (c : Command) (desk : DeskChange) (role : Role) (fault : AnyFault) : Type 0 where
+  pub status : status_of fault ≡ 3
+  pub has_line : IsFalse (wants_memory fault)
+  pub first : IsTrue desk.tells → first_fault c desk.held ≡ Some (role, fault)
+
+-- an input failed, and none that is read before it is at fault: the desk's count rose, or the input isn't held
+pub data InputFailure (c : Command) (desk : DeskChange) (role : Role) : Type 0 where
+  unread : IsTrue (reads c role) → DeskFailed desk → (IsTrue desk.tells → fault_before c role desk.held ≡ None)
+      → InputFailure c desk role
+  missing : IsTrue desk.tells → first_fault c desk.held ≡ Some (role, Desk Failed) → InputFailure c desk role
+
+-- ---- how far a command came that ended before its job was done
+
+-- It wrote and printed nothing: all files and the output are as at entry.
+pub record IsUntouched (desk : DeskChange) (out : SinkChange) : Type 0 where
+  pub files : FilesStay desk
+  pub output : Silent out
+
+-- Its write was begun, and not ended: no input is at fault, and nothing was printed. Of the file that the
+-- command writes nothing is known.
+pub record IsUnwritten (c : Command) (desk : DeskChange) (out : SinkChange) : Type 0 where
+  pub writes : IsTrue (writes c)
+  pub accepted : IsTrue desk.tells → first_fault c desk.held ≡ None
+  pub output : Silent out
+
+-- Its printing was begun, and not ended: all that comes before it is done, and of its text a front was printed,
+-- which may be empty.
+pub record IsUnprinted (c : Command) (desk : DeskChange) (out : SinkChange) : Type 0 where
+  pub text : List ℕ
+  pub ready : IsReady c desk text
+  pub printed : TookFront out text
+
+-- one of the three
+pub data IsUnfinished (c : Command) (desk : DeskChange) (out : SinkChange) : Type 0 where
+  untouched : IsUntouched desk out → IsUnfinished c desk out
+  unwritten : IsUnwritten c desk out → IsUnfinished c desk out
+  unprinted : IsUnprinted c desk out → IsUnfinished c desk out
+
+-- the file of this role failed: an input, before anything was written or printed; or the output, where the desk's
+-- count rose and the write didn't end, or the sink's did and the printing didn't
+pub data IsFailure (c : Command) (desk : DeskChange) (out : SinkChange) (role : Role) : Type 0 where
+  at_input : InputFailure c desk role → IsUntouched desk out → IsFailure c desk out role
+  at_write : role ≡ roles.Output → DeskFailed desk → IsUnwritten c desk out → IsFailure c desk out role
+  at_print : role ≡ roles.Output → SinkFailed out → IsUnprinted c desk out → IsFailure c desk out role
+
+-- a line that a command may begin on the error sink before memory is wanting, with how far it came: none, or that
+-- of its refusal or failure
+pub data MayBegin (c : Command) (desk : DeskChange) (out : SinkChange) (text : List ℕ) : Type 0 where
+  no_line : text ≡ [] → IsUnfinished c desk out → MayBegin c desk out text
+  refusal_line : (role : Role) (fault : AnyFault) → IsRefusal c desk role fault → IsUntouched desk out
+      → text ≡ fault_text role fault → MayBegin c desk out text
+  failure_line : (role : Role) → IsFailure c desk out role → text ≡ fault_text role (Desk Failed)
+      → MayBegin c desk out text
+
+-- ---- the five statuses
+
+-- how a call ended: there are these statuses alone, and this holds with each
+pub data Ended (words : List (List ℕ)) (desk : DeskChange) (out err : SinkChange) (status : ℕ) : Type 0 where
+  -- the job was done, and no file changed that the command doesn't write
+  done : (c : Command) → status ≡ 0 → command_of words ≡ Some c → IsDone c desk out → RestStays c desk
+      → Silent err → Ended words desk out err status
+  -- the words are no command: all is as it was, but for the usage text
+  no_command : status ≡ 2 → command_of words ≡ None → FilesStay desk → Silent out
+      → Said err usage → Ended words desk out err status
+  -- an input was refused: all is as it was, but for the line of the first refusal
+  refused : (c : Command) (role : Role) (fault : AnyFault) → status ≡ 3 → command_of words ≡ Some c
+      → IsRefusal c desk role fault → IsUntouched desk out → Said err (fault_text role fault)
+      → Ended words desk out err status
+  -- the outside failed: at an input all is as it was, at the write nothing was printed, and at the printing the file
+  -- is written and a front of its line may have been printed
+  failed : (c : Command) (role : Role) → status ≡ 5 → command_of words ≡ Some c → IsFailure c desk out role
+      → RestStays c desk → Said err (fault_text role (Desk Failed)) → Ended words desk out err status
+  -- no memory for the usage text
+  no_memory_for_usage : status ≡ 6 → command_of words ≡ None → FilesStay desk → Silent out
+      → TookFronts err usage → Ended words desk out err status
+  -- no memory for a command, or for its line
+  no_memory : (c : Command) (text : List ℕ) → status ≡ 6 → command_of words ≡ Some c → RestStays c desk
+      → MayBegin c desk out text → TookFronts err text → Ended words desk out err status
+
+-- where the files are told, the desk's count didn't rise and an input is at fault, the status is that of the first
+-- fault, but for want of memory
+abbrev pub AlwaysAtFault : Command → DeskChange → ℕ → Type 0
+AlwaysAtFault c desk status = (role : Role) (fault : AnyFault) → IsTrue desk.tells → (DeskFailed desk → ⊥)
+    → first_fault c desk.held ≡ Some (role, fault) → (status ≡ status_of fault) ⊎ (status ≡ 6)
+
+-- where the files are told, no input is at fault and neither count rose, the job is done, but for want of memory
+abbrev pub AlwaysDone : Command → DeskChange → SinkChange → ℕ → Type 0
+AlwaysDone c desk out status = IsTrue desk.tells → (DeskFailed desk → ⊥) → (SinkFailed out → ⊥)
+    → first_fault c desk.held ≡ None → (status ≡ 0) ⊎ (status ≡ 6)
+
+-- All that a call owes.
+pub record Owes (words : List (List ℕ)) (desk : DeskChange) (out err : SinkChange) (status : ℕ) : Type 0 where
+  pub ended : Ended words desk out err status
+  -- words that are no command are always refused, but for want of memory
+  pub always_usage : command_of words ≡ None → (status ≡ 2) ⊎ (status ≡ 6)
+  pub always_at_fault : (c : Command) → command_of words ≡ Some c → AlwaysAtFault c desk status
+  pub always_done : (c : Command) → command_of words ≡ Some c → AlwaysDone c desk out status
