@@ -19,7 +19,8 @@ use Rattle.tm_stays.specs.Stays.{outside_work, words_in}
 use Rattle.tm_alone.specs.Sets.{SetsFirst}
 use Rattle.tm_world.specs.Verdict.{HasEnds}
 
--- A program with one tame hart, which outside streams writes only what it may and sets the first bytes before each stay.
+-- A program with one tame hart, which outside streams writes only what it may and sets the first bytes before each
+-- stay.
 pub record Alone (p : Program) : Type 0 where
   pub one : harts p ≡ 1
   pub formed : Formed p
@@ -36,8 +37,8 @@ abbrev pub IsCompared : Program → Part → Type 0
 IsCompared p (Register r) = Unit {0}
 IsCompared p (Byte b) = IsTrue (is_declared p.cases b)
 
--- On a legal run any two passes of a case agree: where a register or a shared byte has an end value in both, it is the same, whatever
--- the stream loads and stores.
+-- On a legal run any two passes of a case agree: where a register or a shared byte has an end value in both, it is
+-- the same, whatever the stream loads and stores.
 abbrev pub PassesAgree : Program → Type 0
 PassesAgree p = Alone p → OnHalf p 0 (KeepsCollecting p 0) → (c : ℕ) → c < case_count p
     → OnLegal p 0 (λ first own. (part : Part) → IsCompared p part → (k k' u u' : ℕ) → k < passes p → k' < passes p
@@ -45,7 +46,8 @@ PassesAgree p = Alone p → OnHalf p 0 (KeepsCollecting p 0) → (c : ℕ) → c
 
 -- Where the hart writes its verdict cells as it should, and true verdicts, no case is reported on a legal run.
 abbrev pub Silent : Program → Type 0
-Silent p = Alone p → length p.masks.cases ≡ case_count p → OnHalf p 0 (KeepsCollecting p 0) → OnHalf p 0 (KeepsVerdicts p 0)
+Silent p = Alone p → length p.masks.cases ≡ case_count p → OnHalf p 0 (KeepsCollecting p 0)
+    → OnHalf p 0 (KeepsVerdicts p 0)
     → OnHalf p 0 (WritesExactly p 0) → OnHalf p 0 (HasEnds p 0)
     → (r : Run) → Legal p r → NotReported p r
 

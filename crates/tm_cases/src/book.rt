@@ -9,7 +9,7 @@ pub struct Entry {
     pub text: Bytes,
 }
 
-/// Texts by name; of two with one name the later one counts.
+/// Texts by name.
 #[derive(Drop)]
 pub struct Book {
     alloc: Global,
@@ -35,11 +35,27 @@ impl Book {
         }
     }
 
+    /// Puts a text under a name, in place of the one that had it.
     pub(crate) fn put(&mut self, name: &str, text: Bytes) -> Result<(), NoMemory> {
+        let at = self.place(name);
+        if at < self.entries.len() {
+            self.entries[at].text = text;
+            return Ok(());
+        }
         let name = Name::of(self.alloc, name)?;
         self.entries
             .push(Entry { name, text })
             .map_err(|_| NoMemory)
+    }
+
+    // The place of a name, behind all places where there is none.
+    fn place(&self, name: &str) -> usize {
+        for (at, entry) in self.entries.as_slice().iter().enumerate() {
+            if entry.name.as_str() == name {
+                return at;
+            }
+        }
+        usize::MAX
     }
 
     pub(crate) fn entries(&self) -> &[Entry] {

@@ -72,8 +72,9 @@ fn read_before(rest: &str) -> Before {
             "pc" => all.pc = value,
             "read" => all.read = value,
             _ => {
-                if let Some(slot) = all.x.get_mut(register(name)) {
-                    *slot = value;
+                let at = register(name);
+                if at < 32 {
+                    all.x[at] = value;
                 }
             }
         }

@@ -1,19 +1,22 @@
-// Labelled code: a branch or a jump over so many words, forward or back.
-use crate::show::{put, small, words_of};
+// Labelled code: a branch over so many words, and a jump to itself.
+ghost use Rattle.tm_table.specs.Words.{Fits};
+
+use crate::show::{put, small};
 use std::alloc::Global;
-use tm_asm::{Code, CodeFault, Label};
+use tm_asm::{Code, CodeFault};
 use tm_base::{Bytes, NoMemory, Words};
 use tm_table::{Instr, Op, decode};
 
-/// `forward N` and `back N` branch, `jump N` and `jump_back N` jump, over N words of `addi x0, x0, 0`.
+/// A branch to the word so many words on, behind which nothing stands; for 0 a jump to itself.
 pub fn code(alloc: Global, rest: &str, out: &mut Bytes) -> Result<(), NoMemory> {
-    let [way, count, ..] = words_of(rest);
-    let count = small(count);
-    let made = match way {
-        "forward" => forward(alloc, count, true)?,
-        "jump" => forward(alloc, count, false)?,
-        "back" => back(alloc, count, true)?,
-        _ => back(alloc, count, false)?,
+    let Some(nop) = decode(0x13) else {
+        return out.append(b"no such word");
+    };
+    let to = small(rest);
+    let made = if to == 0 {
+        to_itself(alloc)?
+    } else {
+        forward(alloc, nop, u64::from(to))?
     };
     match made {
         Ok(words) => put_ends(alloc, words.as_slice(), out),
@@ -31,46 +34,23 @@ fn put_ends(alloc: Global, words: &[u32], out: &mut Bytes) -> Result<(), NoMemor
     )
 }
 
-fn nop() -> Instr {
-    Instr {
-        op: Op::Addi,
-        rd: 0,
-        rs1: 0,
-        rs2: 0,
-        imm: 0,
-    }
-}
-
-fn forward(
-    alloc: Global,
-    count: u32,
-    branches: bool,
-) -> Result<Result<Words, CodeFault>, NoMemory> {
+fn forward(alloc: Global, nop: Instr, to: u64) -> Result<Result<Words, CodeFault>, NoMemory>
+    requires { Fits nop }
+{
     let mut code = Code::new(alloc);
     let label = code.fresh()?;
-    if branches {
-        code.branch(Op::Beq, 0, 0, label)?;
-    } else {
-        code.jump(0, label)?;
-    }
-    for _ in 0..count {
-        code.put(nop())?;
+    code.branch(Op::Beq, 0, 0, label)?;
+    for _ in 1..to {
+        code.put(nop)?;
     }
     code.here(label);
     Ok(code.finish())
 }
 
-fn back(alloc: Global, count: u32, branches: bool) -> Result<Result<Words, CodeFault>, NoMemory> {
+fn to_itself(alloc: Global) -> Result<Result<Words, CodeFault>, NoMemory> {
     let mut code = Code::new(alloc);
     let label = code.fresh()?;
     code.here(label);
-    for _ in 0..count {
-        code.put(nop())?;
-    }
-    if branches {
-        code.branch(Op::Beq, 0, 0, label)?;
-    } else {
-        code.jump(0, label)?;
-    }
+    code.jump(0, label)?;
     Ok(code.finish())
 }

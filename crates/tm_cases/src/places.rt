@@ -1,6 +1,9 @@
 // Addresses, placement and choices.
-ghost use Rattle.std.specs.Prelude.{◌≡◌, ◌≤◌, IfSome};
-ghost use Rattle.tm_place.specs.Limits.{IsWindow, is_line_size};
+ghost use Rattle.std.specs.Prelude.{◌≡◌, ◌≤◌, ◌<◌, IfSome, Some, IsTrue};
+ghost use Rattle.tm_place.specs.Limits.{IsWindow};
+ghost use Rattle.tm_place.specs.Numbers.{is_line_size};
+ghost use Rattle.tm_place.specs.Sharing.{IsWidth};
+ghost use Rattle.tm_plan_map.specs.declared.windows.Window.{Window as Held};
 
 use crate::show::{number, small, words_of};
 use tm_base::{Bytes, NoMemory, push_decimal, push_hex};
@@ -40,29 +43,58 @@ pub fn choose(rest: &str, out: &mut Bytes) -> Result<(), NoMemory> {
     push_decimal(out, u64::from(choice(small(word), n)))
 }
 
+fn line_size(word: &str) -> Option<u32>
+    ensures { IfSome result (λ n. IsTrue (is_line_size n)) }
+{
+    match small(word) {
+        32 => Some(32),
+        64 => Some(64),
+        128 => Some(128),
+        _ => None,
+    }
+}
+
 /// The part of a line for so many harts.
 pub fn part(rest: &str, out: &mut Bytes) -> Result<(), NoMemory> {
     let [line, harts, ..] = words_of(rest);
-    let line = small(line);
-    let harts = small(harts);
-    if line != 32 && line != 64 && line != 128 || harts < 1 || harts > 16 {
+    let Some(line) = line_size(line) else {
         return out.append(b"no such line");
+    };
+    let harts = small(harts);
+    if harts < 1 {
+        return out.append(b"no harts");
+    }
+    if harts > 16 {
+        return out.append(b"too many harts");
     }
     push_decimal(out, u64::from(part_size(line, harts)))
 }
 
-/// The window of a word such as `own5`, where it may stand there.
+/// The kind and the lines of a word such as `own5`.
+fn kind_of(word: &str) -> Option<(Kind2, u32)> {
+    match word.get(..1) {
+        Some("t") => Some((Kind2::True, small(word.get(4..).unwrap_or("")))),
+        Some("f") => Some((Kind2::False, small(word.get(5..).unwrap_or("")))),
+        Some("o") => Some((Kind2::Own, small(word.get(3..).unwrap_or("")))),
+        _ => None,
+    }
+}
+
+/// The window of a word, where it may stand there and has a line for each hart.
 fn window(harts: u32, line: u32, number: u32, word: &str) -> Option<Window>
-    requires { 1 ≤ line }
-    ensures { IfSome result (λ v. IsWindow harts line number v) }
+    requires { number < 3 }
+    ensures { (v : Held) → result ≡ Some v → IsWindow harts line number v }
 {
-    let (kind, lines) = match word.get(..1) {
-        Some("t") => (Kind2::True, small(word.get(4..).unwrap_or(""))),
-        Some("f") => (Kind2::False, small(word.get(5..).unwrap_or(""))),
-        Some("o") => (Kind2::Own, small(word.get(3..).unwrap_or(""))),
-        _ => return None,
+    let Some((kind, lines)) = kind_of(word) else {
+        return None;
     };
-    if lines < harts || lines < 1 || lines > 2048 / line {
+    if lines < 1 {
+        return None;
+    }
+    if lines < harts {
+        return None;
+    }
+    if u64::from(lines) * u64::from(line) > 2048 {
         return None;
     }
     Some(Window {
@@ -72,15 +104,13 @@ fn window(harts: u32, line: u32, number: u32, word: &str) -> Option<Window>
     })
 }
 
-/// Whether a hart may store and load: `HARTS LINE W0 W1 W2 HART ADDR WIDTH`, with windows such as `true1` and `own5`, or `-`.
-pub fn may(rest: &str, out: &mut Bytes) -> Result<(), NoMemory> {
-    let [harts, line, w0, w1, w2, h, addr, width] = words_of(rest);
-    let harts = small(harts);
-    let line = small(line);
-    if line != 32 && line != 64 && line != 128 || harts < 1 || harts > 8 {
-        return out.append(b"no such placement");
-    }
-    let p = Placement {
+fn placement(harts: u32, line: u32, w0: &str, w1: &str, w2: &str) -> Placement
+    requires some { 1 ≤ harts }
+    requires few { harts ≤ 8 }
+    requires line { IsTrue (is_line_size line) }
+    ensures { result.harts ≡ harts }
+{
+    Placement {
         harts,
         line,
         part: part_size(line, harts),
@@ -90,26 +120,50 @@ pub fn may(rest: &str, out: &mut Bytes) -> Result<(), NoMemory> {
             window(harts, line, 2, w2),
         ],
         hot: [0; 3],
+    }
+}
+
+/// Whether a hart may store and load: `HARTS LINE W0 W1 W2 HART ADDR WIDTH`, with windows such as `true1` and `own5`, or `-`.
+pub fn may(rest: &str, out: &mut Bytes) -> Result<(), NoMemory> {
+    let [harts, line, w0, w1, w2, h, addr, width] = words_of(rest);
+    let harts = small(harts);
+    let Some(line) = line_size(line) else {
+        return out.append(b"no such line");
     };
-    put_rights(&p, small(h), number(addr), small(width), out)
+    if harts < 1 {
+        return out.append(b"no harts");
+    }
+    if harts > 8 {
+        return out.append(b"too many harts");
+    }
+    let p = placement(harts, line, w0, w1, w2);
+    put_rights(&p, small(h), number(addr), width, out)
+}
+
+fn width_of(word: &str) -> Option<u8>
+    ensures { IfSome result IsWidth }
+{
+    match small(word) {
+        1 => Some(1),
+        2 => Some(2),
+        4 => Some(4),
+        8 => Some(8),
+        _ => None,
+    }
 }
 
 fn put_rights(
     p: &Placement,
     h: u32,
     addr: u64,
-    width: u32,
+    width: &str,
     out: &mut Bytes,
 ) -> Result<(), NoMemory> {
     if h >= p.harts {
         return out.append(b"no such hart");
     }
-    let width = match width {
-        1 => 1,
-        2 => 2,
-        4 => 4,
-        8 => 8,
-        _ => return out.append(b"no such width"),
+    let Some(width) = width_of(width) else {
+        return out.append(b"no such width");
     };
     match (may_store(p, h, addr, width), may_load(p, h, addr, width)) {
         (true, true) => out.append(b"store and load"),

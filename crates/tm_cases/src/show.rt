@@ -48,8 +48,10 @@ pub fn put_pos(out: &mut Bytes, pos: Pos) -> Result<(), NoMemory> {
 /// The first eight words of a line, empty where there are fewer.
 pub fn words_of(line: &str) -> [&str; 8] {
     let mut words = [""; 8];
-    for (word, slot) in line.split(' ').zip(words.iter_mut()) {
-        *slot = word;
+    for (at, word) in line.split(' ').enumerate() {
+        if at < 8 {
+            words[at] = word;
+        }
     }
     words
 }

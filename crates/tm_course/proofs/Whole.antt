@@ -130,7 +130,7 @@ module _ (p : Program) (case : Case) (stream : Stream) (mask : CaseMask) (is : I
   -- ---- the bound
 
   pub formed : Formed p
-  formed = record { sizes = sizes p case stream mask is; cases = is.program.cases; laid = laid }
+  formed = record { program = is.program; typed = is.typed; laid = laid }
 
   pub tame : Tame p 0
   tame = record { order = order p case stream mask is; fresh = fresh p case stream mask is; spares = spares p case stream mask is }

@@ -4,61 +4,7 @@ use std::fmt::Display;
 use std::fs;
 use std::io::{self, ErrorKind, Print};
 use std::test::Fail;
-use tm_base::{Bytes, List};
-
-#[test]
-fn a_desk_in_memory_fails_where_told(rt: HostRuntime) -> Result<(), Fail> {
-    let alloc = rt.alloc();
-    let mut fails = List::new(alloc);
-    fails.push(2)?;
-    fails.push(7)?;
-    let mut desk = MemDesk::new(alloc, fails);
-    desk.put_file("a", b"one")?;
-    desk.put_file("b", b"other")?;
-    assert_eq!(rt; desk.read("a", 3)?.as_slice(), b"one".as_slice());
-    assert!(rt; matches!(desk.read("a", 3), Err(DeskError::Failed)));
-    assert!(rt; matches!(desk.read("a", 2), Err(DeskError::TooLong { max: 2 })));
-    assert!(rt; matches!(desk.read("none", 2), Err(DeskError::Failed)));
-    desk.write("a", b"")?;
-    assert_eq!(rt; desk.read("a", 0)?.as_slice(), b"".as_slice());
-    assert_eq!(rt; desk.write("a", b"lost"), Err(DeskError::Failed));
-    assert_eq!(rt; desk.read("b", 5)?.as_slice(), b"other".as_slice());
-    Ok(())
-}
-
-#[test]
-fn a_calm_desk_holds_an_empty_file_under_every_other_name(rt: HostRuntime) -> Result<(), Fail> {
-    let mut desk = CalmDesk::new(rt.alloc());
-    desk.put_file("a", b"one")?;
-    desk.write("b", b"two")?;
-    for (name, held) in [("a", "one"), ("b", "two"), ("c", "")] {
-        assert_eq!(rt;
-            desk.read(name, 3)?.as_slice(),
-            held.as_bytes(),
-            "at {name}"
-        );
-    }
-    assert!(rt; matches!(desk.read("a", 2), Err(DeskError::TooLong { max: 2 })));
-    Ok(())
-}
-
-#[test]
-fn a_sink_in_memory_takes_pieces_and_fails_where_told(rt: HostRuntime) -> Result<(), Fail> {
-    let alloc = rt.alloc();
-    let mut fails = List::new(alloc);
-    fails.push(4)?;
-    let mut sink = MemSink::new(alloc, 2, fails);
-    put_all(&mut sink, b"abcde")?;
-    assert_eq!(rt; sink.taken(), b"abcde".as_slice());
-    assert_eq!(rt; put_all(&mut sink, b"f"), Err(SinkError::Failed));
-    assert_eq!(rt; sink.taken(), b"abcde".as_slice());
-    assert_eq!(rt; sink.put(b"fgh"), Ok(2));
-    assert_eq!(rt; sink.taken(), b"abcdefg".as_slice());
-    let mut calm = CalmSink::new(alloc);
-    assert_eq!(rt; calm.put(b"abc"), Ok(3));
-    assert_eq!(rt; calm.taken(), b"abc".as_slice());
-    Ok(())
-}
+use tm_base::Bytes;
 
 #[test]
 fn real_files_are_written_and_read(rt: HostRuntime) -> Result<(), Fail> {

@@ -1,19 +1,23 @@
--- The numbers of the program have their bits.
-use Rattle.std.proofs.Common.{◌≡◌, ℕ, zero, suc, ◌+◌, ◌^◌, ◌<◌, ◌≤◌, List, [], ◌∷◌, ◌++◌, length, replicate, map, drop, arith, lit<, lit≤, length-append}
-use Rattle.std.specs.Prelude.{slice_index, All}
+-- The numbers of the program have the bits that their types give.
+use Rattle.std.proofs.Common.{◌≡◌, ℕ, zero, suc, ◌+◌, ◌^◌, ◌<◌, ◌≤◌, List, [], ◌∷◌, ◌++◌, length, replicate, map, drop, Some, ap, ◌∙◌, subst, arith, lit<, length-append}
+use Rattle.std.specs.Prelude.{slice_get, slice_index, All}
 use Rattle.std.proofs.lemmas.List.{length-map}
 use Rattle.tm_table.specs.declared.instr.Instr.{Instr}
 use Rattle.tm_table.specs.Words.{word_of}
 use Rattle.tm_table.proofs.Decoding.{word-lt}
 use Rattle.tm_plan_map.specs.Map.{window_at, windows_base, private_at}
 use Rattle.tm_plan.specs.Tables.{dword_bytes, dwords_bytes, table_bytes}
-use Rattle.tm_runs.specs.World.{Sizes}
+use Rattle.tm_plan.specs.declared.cases.Case.{Case}
+use Rattle.tm_plan.specs.declared.cases.Stream.{Stream}
+use Rattle.tm_plan.specs.declared.masks.CaseMask.{CaseMask}
+use Rattle.tm_plan.specs.Shaped.{IsTyped}
 use Rattle.tm_pass.specs.Hart.{hart_words, before_stream, behind_stream}
 use Rattle.tm_pass.proofs.Numbers.{length-before_stream, length-behind_stream}
 use Rattle.tm_course.proofs.Fitting.{AllFit, Fit, fit-before, fit-behind}
 use Rattle.tm_image_inputs.specs.Built.{IsEmitted}
 use Rattle.tm_image_program.specs.Program.{Names, first_registers, zero_dwords, case_of, cases_of, declared_bytes, all_checked, program_of}
-use Rattle.tm_image_program.proofs.TableLemmas.{tables_short}
+use Rattle.tm_image_program.proofs.MaskLemmas.{the-one, the-mask}
+use Rattle.tm_image_program.proofs.ShapedLemmas.{its-stream, registers-length}
 
 -- each number is less than m
 abbrev AllLess : ℕ → List ℕ → Type 0
@@ -91,24 +95,42 @@ registers-less : AllLess (2 ^ 64) first_registers
 unfolding first_registers window_at windows_base private_at
 registers-less = less-append (2 ^ 64) (replicate 28 0) (window_at 0 ∷ window_at 1 ∷ window_at 2 ∷ private_at 0 ∷ []) (less-replicate (2 ^ 64) 28 0 (lit< tt)) (lit< tt, (lit< tt, (lit< tt, (lit< tt, tt))))
 
-pub registers-fit : (r : ℕ) → slice_index first_registers r < 2 ^ 64
+registers-fit : (r : ℕ) → slice_index first_registers r < 2 ^ 64
 registers-fit = less-at (2 ^ 64) first_registers (lit< tt) registers-less
 
 -- ---- the whole
 
-one-hart-only : (names : Names) (words : List ℕ) → (cases_of names words).harts ≤ 8
-unfolding cases_of
-one-hart-only names words = lit≤ tt
+module _ (names : Names) (stream : List Instr) (few : length stream ≤ 256) (each : All IsEmitted stream) where
+  abbrev words : List ℕ
+  words = map word_of stream
 
-pub sizes : (names : Names) (stream : List Instr) → length stream ≤ 256 → All IsEmitted stream → Sizes (program_of names stream)
-unfolding program_of
-sizes names stream few each =
-    let words = map word_of stream in
-    let n = length-map stream word_of in
-    record {
-      harts = one-hart-only names words;
-      text = omega (arith, text-length words, n);
-      tables = tables_short names words;
-      words = less-at (2 ^ 32) (hart_words words) (lit< tt) (text-words words (omega (arith, n)) (stream-words stream each));
-      bytes = less-at 256 (table_bytes (cases_of names words) all_checked) (lit< tt) (tables-less names words);
-    }
+  words-fit : (n : ℕ) → slice_index words n < 2 ^ 32
+  words-fit = less-at (2 ^ 32) words (lit< tt) (stream-words stream each)
+
+  -- the one stream of the one case
+  of-stream : (P : Stream → Type 0) → P (its-stream words) → (c h : ℕ) (case : Case) (s : Stream) → slice_get (cases_of names words).cases c ≡ Some case → slice_get case.streams h ≡ Some s → P s
+  unfolding cases_of case_of
+  of-stream P p c h case s e f =
+      let one = the-one (case_of names words) case c e in
+      let streams : slice_get (its-stream words ∷ []) h ≡ Some s = ap (λ (k : Case). slice_get k.streams h) one.1 ∙ f in
+      subst P (the-one (its-stream words) s h streams).1 p
+
+  of-case : (c : ℕ) (case : Case) → slice_get (cases_of names words).cases c ≡ Some case → (k : ℕ) → slice_index case.first k < 2 ^ 64
+  unfolding cases_of case_of zero_dwords
+  of-case c case e k = subst (λ (d : Case). slice_index d.first k < 2 ^ 64) (the-one (case_of names words) case c e).1 (less-at (2 ^ 64) zero_dwords (lit< tt) (less-replicate (2 ^ 64) 768 0 (lit< tt)) k)
+
+  of-mask : (c : ℕ) (m : CaseMask) → slice_get all_checked.cases c ≡ Some m → (h : ℕ) → slice_index m.regs h < 2 ^ 32
+  unfolding all_checked
+  of-mask c m e h = subst (λ (d : CaseMask). slice_index d.regs h < 2 ^ 32) (the-one the-mask m c e).1 (less-at (2 ^ 32) (2147483646 ∷ []) (lit< tt) (lit< tt, tt) h)
+
+  pub typed : IsTyped (program_of names stream)
+  unfolding program_of
+  typed = record {
+    text = less-at (2 ^ 32) (hart_words words) (lit< tt) (text-words words (omega (arith, length-map stream word_of)) (stream-words stream each));
+    tables = less-at 256 (table_bytes (cases_of names words) all_checked) (lit< tt) (tables-less names words);
+    words = of-stream (λ s. (n : ℕ) → slice_index s.words n < 2 ^ 32) words-fit;
+    count = of-stream (λ s. length s.regs ≡ 32) registers-length;
+    regs = of-stream (λ s. (r : ℕ) → slice_index s.regs r < 2 ^ 64) registers-fit;
+    first = of-case;
+    masks = of-mask;
+  }

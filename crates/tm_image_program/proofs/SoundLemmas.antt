@@ -15,8 +15,8 @@ use Rattle.tm_image_inputs.specs.Built.{IsEmitted}
 use Rattle.tm_image_program.specs.Program.{Names, case_of, cases_of, zero_dwords, all_checked, marks_around, program_of}
 use Rattle.tm_image_program.proofs.MaskLemmas.{the-mask, are-checked, mask-ends}
 use Rattle.tm_image_program.proofs.TableLemmas.{tables_short}
-use Rattle.tm_image_program.proofs.ShapedLemmas.{found, plain, its-stream, shaped-cases, registers-length, mask-length}
-use Rattle.tm_image_program.proofs.SizeLemmas.{text-length, registers-fit, sizes}
+use Rattle.tm_image_program.proofs.ShapedLemmas.{found, plain, its-stream, shaped-cases, mask-length}
+use Rattle.tm_image_program.proofs.SizeLemmas.{text-length, typed}
 
 all-zero : (n k : ℕ) → slice_index (replicate n 0) k ≡ 0
 all-zero zero k = refl
@@ -58,18 +58,15 @@ module _ (names : Names) (stream : List Instr) (some : 1 ≤ length stream) (few
   unfolding program_of cases_of case_of all_checked marks_around zero_dwords
   of-one-hart = record {
     program = is-program;
-    sizes = sizes names stream few each;
+    typed = typed names stream few each;
     harts = refl;
     passes = refl;
     line = refl;
     windows = refl;
     cases = refl;
     streams = refl;
-    regs = registers-length;
-    fits = registers-fit;
     first = λ k. all-zero 768 k;
     masks = refl;
-    small = omega arith;
     starts = refl;
     ends = refl;
     exits = refl;

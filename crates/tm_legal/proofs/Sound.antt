@@ -1,5 +1,4 @@
 -- Each legal run of a sound program is a half run.
-use Rattle.std.proofs.Common.{ℕ, ◌<◌}
 use Rattle.tm_plan.specs.declared.program.Program.{Program}
 use Rattle.tm_legal.specs.Tame.{Formed}
 use Rattle.tm_legal.specs.Laws.{CourseRunsAreHalf, SoundRunsAreHalf, ClaimedRunsAreHalf}

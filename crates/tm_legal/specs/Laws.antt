@@ -35,13 +35,14 @@ CourseRunsAreHalf p = IsProgram p → IsTyped p → Course p → (r : Run) → L
 abbrev pub SoundRunsAreHalf : Program → Type 0
 SoundRunsAreHalf p = IsTyped p → Sound p → (r : Run) → Legal p r → Half p r
 
--- Of a program that is sound so far as claimed this is so where on half runs its harts outside streams write no byte of text or
--- tables, of which the claims so far say nothing.
+-- Of a program that is sound so far as claimed this is so where on half runs its harts outside streams write no byte
+-- of text or tables, of which the claims so far say nothing.
 abbrev pub ClaimedRunsAreHalf : Program → Type 0
 ClaimedRunsAreHalf p = IsTyped p → SoundSoFar p → ((h : ℕ) → h < harts p → OnHalf p h (SparesImage p h))
     → (r : Run) → Legal p r → Half p r
 
--- With one hart, where it writes only what it may, each byte that is read on a legal run is the one written last, else the image's.
+-- With one hart, where it writes only what it may, each byte that is read on a legal run is the one written last,
+-- else the image's.
 abbrev pub LegalIsPlain : Program → Type 0
 LegalIsPlain p = harts p ≡ 1 → (r : Run) → Legal p r → WritesRight p r → Plain p r
 

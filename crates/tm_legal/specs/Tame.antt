@@ -1,4 +1,5 @@
--- What a program and the support code of one of its harts have to keep, so that legal runs are half runs (this project's own).
+-- What a program and the support code of one of its harts have to keep, so that legal runs are half runs (this
+-- project's own).
 use Rattle.std.specs.Prelude.{ℕ, ◌||◌, List, Option, None, Some, IsFalse}
 use Rattle.tm_table.specs.State.{Hart}
 use Rattle.tm_plan.specs.declared.program.Program.{Program}
@@ -9,8 +10,8 @@ use Rattle.tm_world.specs.Kinds.{stream_at}
 use Rattle.tm_world.specs.Course.{OnHalf, KeepsOrder, EntersFresh}
 use Rattle.tm_world.specs.Whole.{Laid}
 
--- A program that the calls of the workspace take, with what the types of its parts give, whose text has its marks and streams where they
--- belong.
+-- A program that the calls of the workspace take, with what the types of its parts give, whose text has its marks and
+-- streams where they belong.
 pub record Formed (p : Program) : Type 0 where
   pub program : IsProgram p
   pub typed : IsTyped p

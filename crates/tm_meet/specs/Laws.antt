@@ -20,32 +20,39 @@ use Rattle.tm_meet.specs.Waits.{Waits, IsHalted}
 abbrev pub PlainIsLegal : Program → Type 0
 PlainIsLegal p = AllMeet p → (r : Run) → Plain p r → Legal p r
 
--- In each state of a run of one memory each flag holds how often its hart has written it: once in each phase that the hart has left, and once more
--- where it has signalled in the phase that it is in.
+-- In each state of a run of one memory each flag holds how often its hart has written it: once in each phase that the
+-- hart has left, and once more where it has signalled in the phase that it is in.
 abbrev pub FlagsCount : Program → Type 0
 FlagsCount p = AllMeet p → (r : Run) → OneMemory p r → (g : ℕ) → g < harts p
-    → ((i : ℕ) → i < 8 → unwrap_or (last_write (flag_at g + i) r.steps) (image_byte p (flag_at g + i)) ≡ byte_of (flag_writes g (own g r.steps)) i)
-    × (flag_writes g (own g r.steps) ≡ phase_of p r.steps g + (if any (signals g) (this_phase p g (own g r.steps)) then 1 else 0))
+    → ((i : ℕ) → i < 8 → unwrap_or (last_write (flag_at g + i) r.steps) (image_byte p (flag_at g + i))
+    ≡ byte_of (flag_writes g (own g r.steps)) i)
+    × (flag_writes g (own g r.steps)
+    ≡ phase_of p r.steps g + (if any (signals g) (this_phase p g (own g r.steps)) then 1 else 0))
 
--- In each state of a run of one memory no hart is in a later phase than all others have signalled: it leaves no barrier before they have arrived.
+-- In each state of a run of one memory no hart is in a later phase than all others have signalled: it leaves no
+-- barrier before they have arrived.
 abbrev pub NoneAhead : Program → Type 0
 NoneAhead p = AllMeet p → (r : Run) → OneMemory p r → (h g : ℕ) → h < harts p → g < harts p → g ≢ h
     → (phase_of p r.steps h ≤ flag_writes g (own g r.steps)) × (phase_of p r.steps h ≤ phase_of p r.steps g + 1)
 
 -- An idle read is made by a hart that waits.
 abbrev pub IdleWaits : Program → Type 0
-IdleWaits p = AllMeet p → (r : Run) → OneMemory p r → Always (λ past s. IsTrue (is_idle_read p (hart_of s) (own (hart_of s) past) s) → Waits p past (hart_of s)) r.steps
+IdleWaits p = AllMeet p → (r : Run) → OneMemory p r
+    → Always (λ past s. IsTrue (is_idle_read p (hart_of s) (own (hart_of s) past) s) → Waits p past (hart_of s)) r.steps
 
 -- On half runs a hart at halt is in the last phase.
 abbrev pub HaltIsLast : Program → Type 0
-HaltIsLast p = AllMeet p → (r : Run) → Half p r → (h : ℕ) → h < harts p → IsHalted p r h → phase_of p r.steps h ≡ last_phase p
+HaltIsLast p = AllMeet p → (r : Run) → Half p r → (h : ℕ) → h < harts p → IsHalted p r h
+    → phase_of p r.steps h ≡ last_phase p
 
--- Harts never wait for each other all at once: in each state of a run of one memory, where some hart isn't at halt, some such hart doesn't wait.
+-- Harts never wait for each other all at once: in each state of a run of one memory, where some hart isn't at halt,
+-- some such hart doesn't wait.
 abbrev pub SomeGoesOn : Program → Type 0
 SomeGoesOn p = AllMeet p → (r : Run) → OneMemory p r → (h : ℕ) → h < harts p → (IsHalted p r h → ⊥)
     → (g : ℕ) × (g < harts p) × (IsHalted p r g → ⊥) × (Waits p r.steps g → ⊥)
 
--- In each state of a plain run in which no hart is past phase q, a byte that has settled by the end of phase q is the one written last.
+-- In each state of a plain run in which no hart is past phase q, a byte that has settled by the end of phase q is the
+-- one written last.
 abbrev pub SettledIsLast : Program → Type 0
 SettledIsLast p = AllMeet p → (r : Run) → Plain p r → (q b v : ℕ) → ((g : ℕ) → g < harts p → phase_of p r.steps g ≤ q)
     → settled p r.steps (suc q) b ≡ Some v → v ≡ unwrap_or (last_write b r.steps) (image_byte p b)

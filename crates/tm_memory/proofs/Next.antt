@@ -1,18 +1,17 @@
 -- A hart that isn't at halt has a next step on each half run, inside its streams too.
 use Rattle.std.proofs.Common.{◌≡◌, ◌≢◌, ℕ, ◌+◌, ◌-◌, ◌*◌, ◌/◌, ◌%◌, ◌<◌, ◌≤◌, List, [], ◌∷◌, length, true, ◌==◌, not, Option, None, Some, refl, sym, ap, ◌∙◌, subst, arith, eqb-true, get_or}
-use Rattle.std.specs.Prelude.{slice_index, option_map}
+use Rattle.std.specs.Prelude.{slice_index}
 use Rattle.std.proofs.lemmas.Bool.{false≢true, and_parts, ltb-true}
 use Rattle.std.proofs.lemmas.Option.{slice_get-get_or}
 use Rattle.std.proofs.lemmas.List.Elements.{All-contains}
-use Rattle.tm_table.specs.declared.instr.Instr.{Instr}
 use Rattle.tm_table.specs.State.{Hart}
 use Rattle.tm_table.specs.Words.{low}
-use Rattle.tm_table.specs.Row.{Effect, Gives, Loads, Stores, Branches, Jumps, effect_at, row, row_word, after}
+use Rattle.tm_table.specs.Row.{Effect, Gives, Loads, Stores, Branches, Jumps, effect_at, row, after}
 use Rattle.tm_table.proofs.Signs.{low-lt}
 use Rattle.tm_plan.specs.declared.program.Program.{Program}
 use Rattle.tm_plan.specs.declared.cases.Stream.{Stream}
 use Rattle.tm_plan_map.specs.Map.{guest_base, guest_end, text_base, windows_base, windows_size}
-use Rattle.tm_plan_map.specs.Slots.{instr_of, load_width, store_width, is_access, slot_addr}
+use Rattle.tm_plan_map.specs.Slots.{load_width, store_width, is_access, slot_addr}
 use Rattle.tm_plan.specs.Shaped.{IsShapedWindow}
 use Rattle.tm_world.specs.Place.{harts, case_count, start_of, halt_of, inside, is_window, word_at}
 use Rattle.tm_world.specs.Run.{Step, own, now, first_state}
@@ -30,6 +29,7 @@ use Rattle.tm_legal.proofs.Half.{legal-runs}
 use Rattle.tm_memory.specs.Laws.{NoneStuck, AllUnstuck}
 use Rattle.tm_memory.proofs.Meets.{tame}
 use Rattle.tm_memory.proofs.Memory.{memory-half}
+use Rattle.tm_memory.proofs.Faults.{faulted-half}
 use Rattle.tm_memory.proofs.PlainMemory.{plain-half}
 use Rattle.tm_memory.proofs.Machines.{half-machine}
 use Rattle.tm_runs.proofs.Rows.{decoded-row}
@@ -124,4 +124,5 @@ all-unstuck p m goes = record {
   legal = λ r legal h l. none-stuck p m.formed h l (m.each h l).order (m.each h l).fresh (goes h l) r (legal-runs p m.formed (tame p m) r legal);
   plain = λ r plain h l. none-stuck p m.formed h l (m.each h l).order (m.each h l).fresh (goes h l) r (plain-half p m r plain);
   memory = λ r memory h l. none-stuck p m.formed h l (m.each h l).order (m.each h l).fresh (goes h l) r (memory-half p m.formed (λ g k. (m.each g k).writes) r memory);
+  faulted = λ change small r faulted h l. none-stuck p m.formed h l (m.each h l).order (m.each h l).fresh (goes h l) r (faulted-half p m change small r faulted);
 }

@@ -18,7 +18,8 @@ CourseMeets p = Formed p → ((h : ℕ) → h < harts p → HartCourse p h) → 
 
 -- Each run of one memory is a half run, where outside streams each hart writes only what it may on half runs.
 abbrev pub MemoryIsHalf : Program → Type 0
-MemoryIsHalf p = Formed p → ((h : ℕ) → h < harts p → OnHalf p h (KeepsWrites p h)) → (r : Run) → OneMemory p r → Half p r
+MemoryIsHalf p = Formed p → ((h : ℕ) → h < harts p → OnHalf p h (KeepsWrites p h)) → (r : Run) → OneMemory p r
+    → Half p r
 
 -- Each plain run is a run of one memory.
 abbrev pub PlainIsMemory : Program → Type 0
@@ -30,7 +31,8 @@ PlainIsHalf p = AllMeet p → (r : Run) → Plain p r → Half p r
 
 -- Each run in which steps of streams are changed, with numbers of 64 bits xored to results, is a run of one memory.
 abbrev pub FaultedIsMemory : Program → Type 0
-FaultedIsMemory p = AllMeet p → (change : ℕ → ℕ → ℕ → Change) → ((h q pc : ℕ) → (change h q pc).result < 2 ^ 64) → (r : Run) → Faulted p change r → OneMemory p r
+FaultedIsMemory p = AllMeet p → (change : ℕ → ℕ → ℕ → Change) → ((h q pc : ℕ) → (change h q pc).result < 2 ^ 64)
+    → (r : Run) → Faulted p change r → OneMemory p r
 
 -- So it is a half run.
 abbrev pub FaultedIsHalf : Program → Type 0
@@ -46,20 +48,25 @@ pub record NothingIsPlain (p : Program) : Type 0 where
 abbrev pub LegalWritesRight : Program → Type 0
 LegalWritesRight p = AllMeet p → (r : Run) → Legal p r → WritesRight p r
 
--- On half runs no hart gets stuck that doesn't outside streams: where it isn't at halt it has a next step, inside its streams too.
+-- On half runs no hart gets stuck that doesn't outside streams: where it isn't at halt it has a next step, inside its
+-- streams too.
 abbrev pub NoneStuck : Program → Type 0
-NoneStuck p = Formed p → (h : ℕ) → h < harts p → OnHalf p h (KeepsOrder p h) → OnHalf p h (EntersFresh p h) → OnHalf p h (GoesOn p h)
+NoneStuck p = Formed p → (h : ℕ) → h < harts p → OnHalf p h (KeepsOrder p h) → OnHalf p h (EntersFresh p h)
+    → OnHalf p h (GoesOn p h)
     → OnHalf p h (λ first own. (now first own).pc ≢ halt_of p h → HasNext p (now first own))
 
 -- Each hart that isn't at halt has a next step in the run.
 abbrev pub GoOn : Program → Run → Type 0
-GoOn p r = (h : ℕ) → h < harts p → (now (first_of_hart r h) (own h r.steps)).pc ≢ halt_of p h → HasNext p (now (first_of_hart r h) (own h r.steps))
+GoOn p r = (h : ℕ) → h < harts p → (now (first_of_hart r h) (own h r.steps)).pc ≢ halt_of p h
+    → HasNext p (now (first_of_hart r h) (own h r.steps))
 
--- So on legal runs, on plain runs, and on all runs of one memory.
+-- So on legal runs, on plain runs, on all runs of one memory, and on runs in which steps of streams are changed.
 pub record Unstuck (p : Program) : Type 0 where
   pub legal : (r : Run) → Legal p r → GoOn p r
   pub plain : (r : Run) → Plain p r → GoOn p r
   pub memory : (r : Run) → OneMemory p r → GoOn p r
+  pub faulted : (change : ℕ → ℕ → ℕ → Change) → ((h q pc : ℕ) → (change h q pc).result < 2 ^ 64) → (r : Run)
+      → Faulted p change r → GoOn p r
 
 -- where harts meet, and on half runs don't get stuck outside streams
 abbrev pub AllUnstuck : Program → Type 0

@@ -1,12 +1,12 @@
 -- What each hart keeps on half runs, so that the harts of a program meet at their barrier (this project's own).
-use Rattle.std.specs.Prelude.{ℕ, ◌-◌, ◌<◌}
+use Rattle.std.specs.Prelude.{ℕ, ◌<◌}
 use Rattle.tm_plan.specs.declared.program.Program.{Program}
 use Rattle.tm_world.specs.Place.{harts}
 use Rattle.tm_world.specs.Course.{OnHalf, KeepsOrder, EntersFresh, KeepsWrites, KeepsBarrier}
 use Rattle.tm_legal.specs.Tame.{Formed}
 
--- On half runs hart h comes to its marks in order, enters its streams with fresh registers, writes outside streams only what it may,
--- and keeps the barrier.
+-- On half runs hart h comes to its marks in order, enters its streams with fresh registers, writes outside streams
+-- only what it may, and keeps the barrier.
 pub record Meets (p : Program) (h : ℕ) : Type 0 where
   pub order : OnHalf p h (KeepsOrder p h)
   pub fresh : OnHalf p h (EntersFresh p h)

@@ -1,4 +1,4 @@
-//! Runs of one memory: support code reads what was written last; plain runs, and runs with faults in their streams, are such runs.
+//! Runs of one memory, in which support code reads what was written last: plain runs, and those with faults in streams.
 #![tactic(auto)]
 
 pub mod laws;

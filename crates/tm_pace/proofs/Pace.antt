@@ -22,8 +22,9 @@ use Rattle.tm_legal.proofs.Streams.{Onward}
 use Rattle.tm_memory.specs.Meet.{AllMeet}
 use Rattle.tm_pace.specs.Pace.{phase_work, Pace, KeepsPace}
 use Rattle.tm_memory.specs.Memory.{MemoryStep}
-use Rattle.tm_pace.specs.Laws.{PhasesEnd, PhasesAddUp, PaceBounds, PaceHolds}
+use Rattle.tm_pace.specs.Laws.{PhasesEnd, PhasesAddUp, PaceBounds, PaceHolds, FaultedPaceHolds}
 use Rattle.tm_memory.proofs.Memory.{memory-half}
+use Rattle.tm_memory.proofs.Faults.{faulted-memory}
 use Rattle.tm_meet.proofs.Told.{StepsBy}
 use Rattle.tm_meet.proofs.Counts.{Keeps, phase-most}
 use Rattle.tm_memory.proofs.Meets.{tame}
@@ -133,3 +134,6 @@ pace-holds p m h l pace fits keeps r memory =
     let e = work-parts p.cases h p.cases.cases in
     let c = mul-le-mul_left (case_count p) fits in
     omega arith
+
+pub faulted-pace_holds : (p : Program) → FaultedPaceHolds p
+faulted-pace_holds p m h l pace fits keeps change small r faulted = pace-holds p m h l pace fits keeps r (faulted-memory p m change small r faulted)

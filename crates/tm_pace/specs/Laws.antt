@@ -1,5 +1,5 @@
 -- Laws of runs in which harts meet (this project's own).
-use Rattle.std.specs.Prelude.{ℕ, suc, ◌+◌, ◌*◌, ◌<◌, ◌≤◌, length, IsFalse}
+use Rattle.std.specs.Prelude.{◌^◌, ℕ, suc, ◌+◌, ◌*◌, ◌<◌, ◌≤◌, length, IsFalse}
 use Rattle.tm_plan.specs.declared.program.Program.{Program}
 use Rattle.tm_plan.specs.Collected.{sum_of, work_of, budget_of}
 use Rattle.tm_base.specs.Lists.{count_from}
@@ -11,29 +11,42 @@ use Rattle.tm_legal.specs.Laws.{OnLegal}
 use Rattle.tm_stays.specs.Stays.{words_in}
 use Rattle.tm_memory.specs.Meet.{Meets, AllMeet}
 use Rattle.tm_memory.specs.Memory.{OneMemory}
+use Rattle.tm_memory.specs.Faulted.{Change, Faulted}
 use Rattle.tm_pace.specs.Pace.{phase_work, Pace, KeepsPace, PaceFits}
 
 -- On half runs a hart that keeps the barrier never leaves the last phase.
 abbrev pub PhasesEnd : Program → Type 0
 PhasesEnd p = (h : ℕ) → Meets p h → OnHalf p h (λ first own. phase (exit_of p h) own ≤ last_phase p)
 
--- Where the work outside streams in each phase q is at most most q on half runs, all work on legal runs is at most their sum and the words
--- of the streams.
+-- Where the work outside streams in each phase q is at most most q on half runs, all work on legal runs is at most
+-- their sum and the words of the streams.
 abbrev pub PhasesAddUp : Program → Type 0
-PhasesAddUp p = AllMeet p → (h : ℕ) → h < harts p → (most : ℕ → ℕ) → OnHalf p h (λ first own. (q : ℕ) → q ≤ last_phase p → phase_work p h first q own ≤ most q)
-    → OnLegal p h (λ first own. work_steps p h own ≤ sum_of most (count_from 0 (suc (last_phase p))) + passes p * words_in h p.cases.cases)
+PhasesAddUp p = AllMeet p → (h : ℕ) → h < harts p → (most : ℕ → ℕ)
+    → OnHalf p h (λ first own. (q : ℕ) → q ≤ last_phase p → phase_work p h first q own ≤ most q)
+    → OnLegal p h (λ first own. work_steps p h own
+    ≤ sum_of most (count_from 0 (suc (last_phase p))) + passes p * words_in h p.cases.cases)
 
 -- A hart that keeps a pace which fits, and on half runs doesn't get stuck, keeps its bound.
 abbrev pub PaceBounds : Program → Type 0
-PaceBounds p = AllMeet p → (h : ℕ) → h < harts p → (pace : Pace) → PaceFits p h pace → OnHalf p h (KeepsPace p h pace) → OnHalf p h (GoesOn p h) → Bound p h
+PaceBounds p = AllMeet p → (h : ℕ) → h < harts p → (pace : Pace) → PaceFits p h pace → OnHalf p h (KeepsPace p h pace)
+    → OnHalf p h (GoesOn p h) → Bound p h
 
 -- On each run of one memory, too, a hart that keeps a pace which fits works within its bound.
 abbrev pub PaceHolds : Program → Type 0
-PaceHolds p = AllMeet p → (h : ℕ) → h < harts p → (pace : Pace) → PaceFits p h pace → OnHalf p h (KeepsPace p h pace) → (r : Run) → OneMemory p r → work_steps p h (own h r.steps) ≤ work_of p.cases h
+PaceHolds p = AllMeet p → (h : ℕ) → h < harts p → (pace : Pace) → PaceFits p h pace → OnHalf p h (KeepsPace p h pace)
+    → (r : Run) → OneMemory p r → work_steps p h (own h r.steps) ≤ work_of p.cases h
 
--- A run in which no hart reads idly, and each works within its bound, has at most as many steps as all harts may work, and so no more than
--- the budget.
+-- So on each run in which steps of streams are changed.
+abbrev pub FaultedPaceHolds : Program → Type 0
+FaultedPaceHolds p = AllMeet p → (h : ℕ) → h < harts p → (pace : Pace) → PaceFits p h pace
+    → OnHalf p h (KeepsPace p h pace)
+    → (change : ℕ → ℕ → ℕ → Change) → ((g q pc : ℕ) → (change g q pc).result < 2 ^ 64)
+    → (r : Run) → Faulted p change r → work_steps p h (own h r.steps) ≤ work_of p.cases h
+
+-- A run in which no hart reads idly, and each works within its bound, has at most as many steps as all harts may
+-- work, and so no more than the budget.
 abbrev pub QuietRunsEnd : Program → Type 0
-QuietRunsEnd p = 1 ≤ harts p → (r : Run) → Always (λ past s. hart_of s < harts p) r.steps → ((h : ℕ) → h < harts p → work_steps p h (own h r.steps) ≤ work_of p.cases h)
+QuietRunsEnd p = 1 ≤ harts p → (r : Run) → Always (λ past s. hart_of s < harts p) r.steps
+    → ((h : ℕ) → h < harts p → work_steps p h (own h r.steps) ≤ work_of p.cases h)
     → Always (λ past s. IsFalse (is_idle_read p (hart_of s) (own (hart_of s) past) s)) r.steps
     → (length r.steps ≤ sum_of (work_of p.cases) (count_from 0 (harts p))) × (length r.steps ≤ budget_of p.cases)

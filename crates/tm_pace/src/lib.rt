@@ -1,4 +1,4 @@
-//! How much harts work: a pace, phase by phase, that keeps the bound on every run, and so ends each run without an idle read.
+//! How much harts work: a pace, phase by phase, keeps the bound on every run, and ends runs without idle reads.
 #![tactic(auto)]
 
 pub mod laws;

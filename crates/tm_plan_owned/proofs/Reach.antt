@@ -1,5 +1,5 @@
 -- How far the lines of a hart reach, and how many dwords they have.
-use Rattle.std.proofs.Common.{◌≡◌, ℕ, zero, suc, ◌+◌, ◌-◌, ◌*◌, ◌/◌, ◌%◌, ◌<◌, ◌≤◌, List, [], ◌∷◌, ◌++◌, length, map, refl, sym, ap, ◌∙◌, arith, append-nil, length-append}
+use Rattle.std.proofs.Common.{◌≡◌, ℕ, zero, suc, ◌+◌, ◌-◌, ◌*◌, ◌/◌, ◌%◌, ◌<◌, ◌≤◌, [], ◌++◌, length, map, refl, sym, ap, ◌∙◌, arith, append-nil, length-append}
 use Rattle.std.proofs.Math.Nat.{mul-le-mul_left, mod-add-div}
 use Rattle.tm_plan.specs.declared.cases.Cases.{Cases}
 use Rattle.tm_plan_map.specs.Map.{windows_base}
@@ -12,7 +12,7 @@ use Rattle.tm_plan_owned.proofs.Windows.{IsLine, line-of, lines-few, lines_are_o
 
 -- ---- sizes
 
-harts_most : (cases : Cases) → AreShaped cases → cases.harts ≤ 16
+pub harts_most : (cases : Cases) → AreShaped cases → cases.harts ≤ 16
 harts_most cases s = omega (arith, s.harts)
 
 pub line_most : (cases : Cases) → AreShaped cases → cases.line ≤ 128

@@ -27,10 +27,11 @@ pub record Tracked (p : Program) : Type 0 where
   pub masks : AreChecked p.cases p.masks
   pub course : Course p
 
--- On a legal run, in any two passes of a round case in which a checked part has an end value, it is the same, whatever the racing
--- reads return and whichever branches they steer.
+-- On a legal run, in any two passes of a round case in which a checked part has an end value, it is the same,
+-- whatever the racing reads return and whichever branches they steer.
 abbrev pub PassesAgree : Program → Type 0
-PassesAgree p = Tracked p → (h e : ℕ) (m : CaseMask) → h < harts p → slice_get p.masks.cases (case_of_round p e) ≡ Some m
+PassesAgree p = Tracked p → (h e : ℕ) (m : CaseMask) → h < harts p
+    → slice_get p.masks.cases (case_of_round p e) ≡ Some m
     → OnLegal p h (λ first own. (part : Part) → IsCompared p h part → IsTrue (is_checked m h part)
     → (k k' u u' : ℕ) → k < passes p → k' < passes p
     → end_value p h e k first own part ≡ Some u → end_value p h e k' first own part ≡ Some u' → u ≡ u')
@@ -41,4 +42,5 @@ EndsThere p = Formed p → (h : ℕ) → h < harts p → HartCourse p h → OnHa
 
 -- Where each hart writes true verdicts on half runs, no round case is reported on a legal run.
 abbrev pub Silent : Program → Type 0
-Silent p = Tracked p → ((h : ℕ) → h < harts p → OnHalf p h (WritesExactly p h)) → (r : Run) → Legal p r → NotReported p r
+Silent p = Tracked p → ((h : ℕ) → h < harts p → OnHalf p h (WritesExactly p h)) → (r : Run) → Legal p r
+    → NotReported p r

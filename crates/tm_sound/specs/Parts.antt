@@ -22,8 +22,9 @@ pub record HartParts (p : Program) (h : ℕ) : Type 0 where
   pub fits : PaceFits p h pace
   pub keeps : OnHalf p h (KeepsPace p h pace)
 
--- The parts of a sound program: it is a program with what the types of its parts give, its text has its marks and streams where they
--- belong, its masks are the checked sets, its tables those of the format, and its harts keep their parts.
+-- The parts of a sound program: it is a program with what the types of its parts give, its text has its marks and
+-- streams where they belong, its masks are the checked sets, its tables those of the format, and its harts keep their
+-- parts.
 pub record SoundParts (p : Program) : Type 0 where
   pub program : IsProgram p
   pub typed : IsTyped p

@@ -3,9 +3,12 @@ ghost use Rattle.tm_sound.specs.Laws.{SoundByHarts};
 
 use tm_plan::Program;
 
-/// A program of any number of harts is sound by its parts and by what each of its harts keeps on half runs, one hart's own steps alone: that
-/// no case is reported on a legal run, and that each plain run is legal, follows. The parts are the builder's: shape, layout, masks and
-/// tables are clauses of what makes them, the numbers' ranges come from the types, and what a hart keeps is told by its code's words.
+/// A program of any number of harts is sound by its parts and by what each of its harts keeps on half runs, of
+/// one hart's own steps alone. That no case is reported on a legal run, that shared memory has settled to first
+/// bytes, that all writes are right and that each plain run is legal follows.
+///
+/// Asked: the shape, the layout, the masks and the tables, each a clause of what makes it; the ranges of the
+/// types of its fields; and what each hart keeps, which the words of its code show.
 pub fn sound(program: &Program)
     ensures { SoundByHarts program.now }
 {

@@ -29,8 +29,8 @@ abbrev pub inside_steps : Program → ℕ → Hart → List Step → ℕ
 inside_steps p h first [] = 0
 inside_steps p h first (s ∷ past) = one_inside (stream_at p h (now first past).pc) (inside_steps p h first past)
 
--- How many of its last steps, one after another, hart h has taken inside stream (h, c): how long its stay there is so far, or has been
--- where it has just left.
+-- How many of its last steps, one after another, hart h has taken inside stream (h, c): how long its stay there is so
+-- far, or has been where it has just left.
 abbrev pub stay_steps : Program → ℕ → ℕ → Hart → List Step → ℕ
 stay_steps p h c first [] = 0
 stay_steps p h c first (s ∷ past) = if inside p h c (now first past).pc then suc (stay_steps p h c first past) else 0
@@ -39,7 +39,8 @@ stay_steps p h c first (s ∷ past) = if inside p h c (now first past).pc then s
 abbrev pub outside_work : Program → ℕ → Hart → List Step → ℕ
 outside_work p h first [] = 0
 outside_work p h first (s ∷ past) =
-    if idle_lately p h 4 (s ∷ past) then outside_work p h first past else one_outside (stream_at p h (now first past).pc) (outside_work p h first past)
+    if idle_lately p h 4 (s ∷ past) then outside_work p h first past
+    else one_outside (stream_at p h (now first past).pc) (outside_work p h first past)
 
 -- the words of hart h's streams in these cases
 abbrev pub words_in : ℕ → List Case → ℕ

@@ -1,4 +1,4 @@
-use Rattle.std.proofs.Common.{rules, arith}
+use Rattle.std.proofs.Common.{arith}
 use Rattle.std.proofs.lemmas.Result.{on_ok_weaker}
 use Rattle.tm_blocks.specs.Blocks.{constant}
 use Rattle.tm_blocks.proofs.Constant.{constant_runs}

@@ -1,5 +1,4 @@
-use Rattle.std.proofs.Common.{◌≡◌, ◌+◌, ◌-◌, ◌∙◌, length, arith}
-use Rattle.tm_plan_owned.specs.Lines.{own_dwords}
+use Rattle.std.proofs.Common.{◌-◌, ◌∙◌, arith}
 use Rattle.tm_plan_owned.proofs.Places.{owned-parts, own-few, first-at, next-at, last-at}
 use Rattle.tm_plan_owned.proofs.dwords.owned_addr.Goals as goal
 

@@ -1,0 +1,10 @@
+pub mod Moves
+pub mod Lengths
+pub mod Shapes
+pub mod Loop
+pub mod Blocks
+pub mod Collecting
+pub mod Sizes
+pub mod Places
+pub mod Pointwise
+pub mod Once

@@ -1,0 +1,5 @@
+pub mod Words
+pub mod Laws
+pub mod Lines
+pub mod Runs
+pub mod Once
