@@ -9,7 +9,7 @@ use Rattle.tm_world.specs.Place.{harts, exit_of}
 use Rattle.tm_world.specs.Marks.{Mark, Exit}
 use Rattle.tm_runs.specs.Machine.{World, State, Entry, put, get}
 use Rattle.tm_runs.specs.Runs.{Keeps, At, Each, Does}
-use Rattle.tm_runs.specs.Course.{trail, Story}
+use Rattle.tm_runs.specs.Course.{trail, Story, Sofar, Good}
 use Rattle.tm_runs.proofs.Compose.{keeps_after, keeps_then, keeps_map, keeps_now, takes_map}
 use Rattle.tm_runs.proofs.Tables.{get_put_zero, at_front, at_next}
 use Rattle.tm_blocks.specs.Instrs.{fence, go_to}
@@ -18,19 +18,6 @@ use Rattle.tm_barrier.specs.Laws.{Meeting, Meets, Barred, HasMet, after_fence, a
 use Rattle.tm_barrier.specs.Course.{Keeping, work_at, Comes, PassesBarrier}
 use Rattle.tm_barrier.proofs.Meet.{meet_runs, fence_runs, return_runs}
 use Rattle.tm_barrier.proofs.Passing.{barriers_keep}
-
--- What a log tells so far: the marks that were come to; a fact of each entry and of what was before it; and how much of it is work.
-pub record Sofar (arrive : ℕ → ℕ → List Mark) (F : List Entry → Entry → Type 0) (size : List Entry → ℕ) (ms : List Mark) (n : ℕ) (log : List Entry) : Type 0 where
-  pub way : trail arrive log ≡ ms
-  pub story : Story F log
-  pub few : size log ≤ n
-
--- the same of some front of a way
-pub record Good (arrive : ℕ → ℕ → List Mark) (F : List Entry → Entry → Type 0) (size : List Entry → ℕ) (way : List Mark) (most : ℕ) (log : List Entry) : Type 0 where
-  pub marks : List Mark
-  pub rest : List Mark
-  pub front : way ≡ marks ++ rest
-  pub sofar : Sofar arrive F size marks most log
 
 work-step : (p : Program) (h : ℕ) (e : Entry) (log : List Entry) → work_at p h (e ∷ log) ≤ suc (work_at p h log)
 work-step p h e log = by _

@@ -58,9 +58,9 @@ worked test (e ∷ es) = if lately test 4 (e ∷ es) then worked test es else su
 
 -- ---- what each step of a barrier keeps
 
--- An entry of a barrier in which hart h of n signals m, and those before it in the same barrier. Its signal writes m to the flag with
--- width 8, for the first time, and behind a fence that stands after all writes; behind the signal it only looks at other flags, and it
--- waits for them only there.
+-- An entry of a barrier in which hart h of n signals m, and those before it in the same barrier. Its signal writes m
+-- to the flag with width 8, for the first time, and behind a fence that stands after all writes; behind the signal it
+-- only looks at other flags, and it waits for them only there.
 pub record Keeps-in-step (h n m : ℕ) (before : List Entry) (e : Entry) : Type 0 where
   pub value : IsTrue (signals_in h e) → e.access ≡ Write (flag_at h) 8 m
   pub once : IsTrue (signals_in h e) → any (signals_in h) before ≡ false
@@ -99,14 +99,16 @@ pub record HasMet (lo hi h n c m : ℕ) (s t : State) : Type 0 where
   pub fits : RegistersFit s → RegistersFit t
   pub barred : Barred lo hi h n c m s t
   pub signalled : any (signals_in h) barred.entries ≡ true
-  pub met : (g : ℕ) → g < n → g ≢ h → any (λ e. gets (flag_at g) m e.access) (front_to (signals_in h) barred.entries) ≡ true
+  pub met : (g : ℕ) → g < n → g ≢ h
+      → any (λ e. gets (flag_at g) m e.access) (front_to (signals_in h) barred.entries) ≡ true
   pub looks : List Access
   pub only : EachAccess (Looks h n) looks
   pub accesses : accesses t.log ≡ looks ++ Write (flag_at h) 8 m ∷ Write c 8 m ∷ Read c 8 (s.mem c) ∷ accesses s.log
 
 -- From the first word to the last fence, if the others ever signal.
 abbrev pub MeetRuns : (h n : ℕ) → Type 0
-MeetRuns h n = (w : World) (s : State) (c : ℕ) → Meeting w h n c → get s.regs 31 + 256 ≡ c → s.mem c + 1 < 2 ^ 64 → At w.text s.pc (meet h n)
+MeetRuns h n = (w : World) (s : State) (c : ℕ) → Meeting w h n c → get s.regs 31 + 256 ≡ c → s.mem c + 1 < 2 ^ 64
+    → At w.text s.pc (meet h n)
     → Keeps w (Barred s.pc (s.pc + 4 * length (meet h n)) h n c (s.mem c + 1) s) (HasMet s.pc (s.pc + 4 * length (meet h n)) h n c (s.mem c + 1) s) s
 
 -- the state after a step that only goes on
@@ -115,7 +117,8 @@ after_fence s = moved fence s Quiet (s.pc + 4) s.regs s.mem
 
 -- the last fence, to the exit mark
 abbrev pub FenceRuns : Type 0
-FenceRuns = (w : World) (s : State) → At w.text s.pc (fence ∷ []) → Takes w (λ t. t ≡ after_fence s) (λ t. t ≡ after_fence s) 1 s
+FenceRuns = (w : World) (s : State) → At w.text s.pc (fence ∷ [])
+    → Takes w (λ t. t ≡ after_fence s) (λ t. t ≡ after_fence s) 1 s
 
 -- the state after the way back
 abbrev pub after_return : ℕ → State → State
@@ -123,5 +126,6 @@ after_return link s = moved (go_to 1) s Quiet link (put s.regs 0 (s.pc + 4)) s.m
 
 -- from the exit mark to the address in x1
 abbrev pub ReturnRuns : Type 0
-ReturnRuns = (w : World) (s : State) (link : ℕ) → At w.text s.pc (go_to 1 ∷ []) → get s.regs 1 ≡ link → link % 2 ≡ 0 → link < 2 ^ 64
+ReturnRuns = (w : World) (s : State) (link : ℕ) → At w.text s.pc (go_to 1 ∷ []) → get s.regs 1 ≡ link → link % 2 ≡ 0
+    → link < 2 ^ 64
     → Takes w (λ t. t ≡ after_return link s) (λ t. t ≡ after_return link s) 1 s

@@ -1,12 +1,13 @@
--- The words of a barrier, as a list of instructions (this project's own). A hart comes to the first of them with its private area's
--- address in x31 and the address behind the barrier in x1.
+-- The words of a barrier, as a list of instructions (this project's own). A hart comes to the first of them with its
+-- private area's address in x31 and the address behind the barrier in x1.
 use Rattle.std.specs.Prelude.{ℕ, ◌*◌, ◌==◌, List, [], ◌∷◌, ◌++◌, flat_map, if◌then◌else◌}
 use Rattle.tm_table.specs.declared.instr.Instr.{Instr}
 use Rattle.tm_base.specs.Lists.{count_from}
 use Rattle.tm_blocks.specs.Instrs.{addi, slli, ld, sd}
 use Rattle.tm_blocks.specs.Instrs.{fence, bltu_back, go_to}
 
--- The count of exits, 256 bytes into the private area, goes up by one into x2, and x3 is the address of the first flag: 515 * 2 ^ 22.
+-- The count of exits, 256 bytes into the private area, goes up by one into x2, and x3 is the address of the first
+-- flag: 515 * 2 ^ 22.
 unfoldable pub prepare : List Instr
 prepare = ld 2 256 31 ∷ addi 2 2 1 ∷ sd 2 256 31 ∷ addi 3 0 515 ∷ slli 3 3 22 ∷ fence ∷ []
 

@@ -1,12 +1,12 @@
 // The comparison of all passes, appended as words.
 ghost use Rattle.std.specs.Prelude.{◌≡◌, ◌+◌, ◌*◌, ◌^◌, ◌<◌, ◌≤◌, [], ◌∷◌, length, OnOk};
 ghost use Rattle.tm_plan.specs.Shaped.{AreShaped};
-ghost use Rattle.tm_plan_map.specs.Map.{save_at, verdict_at};
+ghost use Rattle.tm_plan_map.specs.Map.{verdict_at};
 ghost use Rattle.tm_asm.specs.Sheet.{puts};
 ghost use Rattle.tm_blocks.specs.Instrs.{add, addi, ld, sd, slli};
 ghost use Rattle.tm_blocks.specs.Laws.{LastStoreRuns};
-ghost use Rattle.tm_blocks_compare.specs.Words.{pass_head, pass_body, pass_tail, all_passes, closing, compare_all, case_masks, case_bytes};
-ghost use Rattle.tm_blocks_compare.specs.Runs.{CompareAllRuns, NamesLeastOfAll};
+ghost use Rattle.tm_blocks_compare.specs.Words.{pass_head, pass_body, pass_tail, all_passes, closing, compare_case, case_masks, case_bytes};
+ghost use Rattle.tm_blocks_compare.specs.Runs.{CaseRuns, CaseNamesLeast};
 
 use crate::checks::{check_length, put_own_check, put_register_loop};
 use tm_asm::Code;
@@ -15,17 +15,17 @@ use tm_blocks_code::{add, addi, bne_back, jump, ld, put_all, put_constant, sd, s
 use tm_plan::Cases;
 use tm_plan_map::{save_addr, table_addr, verdict_addr};
 
-/// Compares the saved dwords of all passes of case `c`, below 64, with those of pass 0, under the masks of the case's table,
-/// and writes hart `h`'s verdict cell once. It changes x1 to x10 alone. Without memory a part may have been appended.
+/// Compares the saved dwords of all passes of case `c`, below 64, with those of pass 0, under the masks of the case's
+/// table, and writes hart `h`'s verdict cell once. It changes x1 to x10 alone. Without memory a part may have been appended.
 pub fn put_compare(code: &mut Code, cases: &Cases, c: u32, h: u32) -> Result<(), NoMemory>
     requires shaped { AreShaped cases.now }
     requires mine { h < cases.now.harts }
     requires case { c < 64 }
-    ensures words { OnOk result (code.new ≡ puts code.old (compare_all cases.now h (save_at h 0) (case_masks cases.now h c) (case_bytes cases.now c) (verdict_at c h))) }
-    ensures short { OnOk result (length (compare_all cases.now h (save_at h 0) (case_masks cases.now h c) (case_bytes cases.now c) (verdict_at c h)) ≤ 143) }
-    ensures runs { OnOk result (CompareAllRuns cases.now h (save_at h 0) (case_masks cases.now h c) (case_bytes cases.now c) (verdict_at c h)) }
+    ensures words { OnOk result (code.new ≡ puts code.old (compare_case cases.now c h)) }
+    ensures short { OnOk result (length (compare_case cases.now c h) ≤ 143) }
+    ensures runs { OnOk result (CaseRuns cases.now c h) }
     ensures last { OnOk result (LastStoreRuns (verdict_at c h)) }
-    ensures least { OnOk result (NamesLeastOfAll cases.now h (save_at h 0) (case_masks cases.now h c) (case_bytes cases.now c)) }
+    ensures least { OnOk result (CaseNamesLeast cases.now c h) }
 {
     put_constant(code, 4, masks_of(cases, h, c))?;
     put_opening(code)?;

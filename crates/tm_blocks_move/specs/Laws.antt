@@ -1,4 +1,5 @@
--- What moving dwords does, told of a list of moves (this project's own). A move is an address that is read and one that is written.
+-- What moving dwords does, told of a list of moves (this project's own). A move is an address that is read and one
+-- that is written.
 use Rattle.std.specs.Prelude.{◌≡◌, ◌≢◌, ◌⊎◌, ℕ, zero, suc, ◌+◌, ◌*◌, ◌^◌, ◌<◌, List, [], ◌∷◌, ◌++◌, false, IsTrue, map}
 use Rattle.tm_table.specs.declared.state.Access.{Access}
 use Rattle.tm_table.specs.declared.state.Access.TheVariants.{Read, Write}

@@ -1,12 +1,12 @@
--- Words that move dwords line by line (this project's own): x1 points to what is read, x2 to where it is written, x4 counts lines down,
--- and x3 carries a dword.
+-- Words that move dwords line by line (this project's own): x1 points to what is read, x2 to where it is written, x4
+-- counts lines down, and x3 carries a dword.
 use Rattle.std.specs.Prelude.{ℕ, ◌+◌, ◌*◌, ◌==◌, List, [], ◌∷◌, ◌++◌, if◌then◌else◌}
 use Rattle.tm_table.specs.declared.instr.Instr.{Instr}
 use Rattle.tm_blocks.specs.Instrs.{addi, subi, bne_back}
 use Rattle.tm_blocks.specs.Blocks.{constant, copy_dwords}
 
--- x1 and x2 go on by 2 * a and 2 * b bytes, and back to the line's first word where lines are left; a distance of 2048 bytes is more
--- than one addition reaches
+-- x1 and x2 go on by 2 * a and 2 * b bytes, and back to the line's first word where lines are left; a distance of
+-- 2048 bytes is more than one addition reaches
 abbrev pub line_turn : (n a b : ℕ) → List Instr
 line_turn n a b = addi 1 1 a ∷ addi 1 1 a ∷ addi 2 2 b ∷ addi 2 2 b ∷ subi 4 4 1 ∷ bne_back 4 0 (8 * n + 20) ∷ []
 

@@ -15,7 +15,7 @@ use Rattle.tm_image_inputs.specs.Inputs.{inputs, IsFaultOf}
 use Rattle.tm_image_inputs.specs.Built.{AreBuilt}
 use Rattle.tm_image_program.specs.Program.{program_for, case_from, IsTestOf}
 use Rattle.tm_image_build.specs.Symbols.{symbols_at, IsOfOne}
-use Rattle.tm_image_build.specs.Built.{parts_of, image_file, built, program_from}
+use Rattle.tm_image_build.specs.Built.{parts_of, image_file, built, program_from, IsOfTexts}
 use Rattle.tm_image_build.proofs.SymbolLemmas.{symbols_are}
 
 one_case : (cs : List AdmittedCase) (c : AdmittedCase) → cs ≡ c ∷ [] → length (map case_from cs) ≡ 1
@@ -56,6 +56,18 @@ built_ok topo template seed a p parts file read is made written = rw (read, writ
 pub program_ok : (topo template : List ℕ) (a : Admitted) (p : Program) → inputs topo template ≡ Ok a → p ≡ program_for a
     → program_from (inputs topo template) ≡ Ok p
 program_ok topo template a p read is = rw (read, is) refl
+
+-- so the program and its file are those of the two texts
+pub of_texts : (topo template : List ℕ) (seed : ℕ) (a : Admitted) (p : Program) (parts : Parts) (file : List ℕ) → length topo ≤ 65536 → length template ≤ 1048576
+    → inputs topo template ≡ Ok a → p ≡ program_for a → parts ≡ parts_of p topo template seed → file ≡ elf_file parts → IsOfTexts p seed file
+of_texts topo template seed a p parts file topo_short template_short read is made written = record {
+  topo = topo;
+  template = template;
+  topo_short = topo_short;
+  template_short = template_short;
+  its_program = program_ok topo template a p read is;
+  its_file = built_ok topo template seed a p parts file read is made written;
+}
 
 pub file_is : (topo template : List ℕ) (seed : ℕ) (p : Program) (parts : Parts) (file : List ℕ) → parts ≡ parts_of p topo template seed → file ≡ elf_file parts
     → file ≡ image_file p topo template seed

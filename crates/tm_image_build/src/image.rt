@@ -5,7 +5,7 @@ ghost use Rattle.tm_plan_map.specs.declared.admitted.Admitted.{Admitted as Test}
 ghost use Rattle.tm_image_inputs.specs.Inputs.{inputs, IsFaultOf};
 ghost use Rattle.tm_image_program.specs.Program.{IsTestOf};
 ghost use Rattle.tm_image_build.specs.Symbols.{symbol, symbols_at, AreOfOne, IsOfOne};
-ghost use Rattle.tm_image_build.specs.Built.{built, parts_of as parts_with, image_file, program_from};
+ghost use Rattle.tm_image_build.specs.Built.{built, parts_of as parts_with, image_file, program_from, IsOfTexts};
 
 use std::alloc::Global;
 use tm_base::{Bytes, List, NoMemory, Words};
@@ -15,12 +15,15 @@ use tm_image_inputs::read_inputs;
 use tm_image_program::program_of;
 use tm_plan::{Marks, Program};
 
-/// A program with the seed that it was built with, and its file.
+/// A program with the seed that it was built with, and its file. Each image is sound in the parts that
+/// are claimed so far, and is what is built of some two texts within the limits.
 #[derive(Drop)]
 pub struct Image {
     pub program: Program,
     pub seed: u64,
     pub file: Bytes,
+    pub ghost is_sound: { ∥ SoundSoFar program ∥₁ },
+    pub ghost of_texts: { ∥ IsOfTexts program seed file ∥₁ },
 }
 
 /// The image of two texts and a seed, or their first fault. The topology, of at most 65,536 bytes, is

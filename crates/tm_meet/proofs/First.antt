@@ -1,7 +1,7 @@
 -- Where a hart comes into a stream, shared memory has settled to the case's first bytes: each collector has signalled since it set them.
-use Rattle.std.proofs.Common.{◌≡◌, ◌≢◌, ℕ, suc, ◌+◌, ◌*◌, ◌/◌, ◌%◌, ◌<◌, ◌≤◌, List, [], ◌∷◌, Bool, true, false, ◌||◌, nat_lt, ◌==◌, not, Option, None, Some, inl, inr, refl, sym, ap, ◌∙◌, subst, arith, eq-eqb, ne_eqb, eqb-true}
+use Rattle.std.proofs.Common.{◌≡◌, ◌≢◌, ℕ, suc, ◌+◌, ◌*◌, ◌/◌, ◌%◌, ◌<◌, ◌≤◌, List, [], ◌∷◌, Bool, true, false, ◌||◌, nat_lt, ◌==◌, Option, None, Some, inl, inr, refl, sym, ap, ◌∙◌, subst, arith, eq-eqb, ne_eqb}
 use Rattle.std.specs.Prelude.{IsTrue, slice_get, if◌then◌else◌}
-use Rattle.std.proofs.lemmas.Bool.{cases_eq, cases_lt, and_parts, and_from, lt-ltb}
+use Rattle.std.proofs.lemmas.Bool.{cases_eq, cases_lt, and_from, lt-ltb}
 use Rattle.std.proofs.lemmas.Option.{slice_get_within}
 use Rattle.tm_table.specs.declared.state.Access.{Access}
 use Rattle.tm_table.specs.declared.state.Access.TheVariants.{Write}
@@ -12,7 +12,7 @@ use Rattle.tm_plan_map.specs.Map.{flag_at}
 use Rattle.tm_plan.specs.Collected.{is_declared, collector}
 use Rattle.tm_base.specs.Lists.{any}
 use Rattle.tm_world.specs.Lists.{or_else}
-use Rattle.tm_world.specs.Place.{harts, case_count, passes, start_of, exit_of, inside}
+use Rattle.tm_world.specs.Place.{harts, case_count, passes, exit_of}
 use Rattle.tm_world.specs.Run.{Step, own, now, first_state, hart_of, pc_of, access_of, phase, in_phase, written, last_write}
 use Rattle.tm_world.specs.Writers.{case_of_phase, wrote, settle, settled}
 use Rattle.tm_world.specs.Kinds.{Legal, HalfPath, phase_of, flag_writes}
@@ -20,11 +20,9 @@ use Rattle.tm_world.specs.Marks.{Enter, comes_to}
 use Rattle.tm_world.specs.Course.{KeepsOrder, signals, this_phase}
 use Rattle.tm_world.specs.Whole.{SettlesFirst, first_byte}
 use Rattle.tm_world.proofs.Prefix.{earlier, Legal-earlier}
-use Rattle.tm_runs.proofs.Arrivals.{inside-true}
 use Rattle.tm_legal.specs.Tame.{Formed}
 use Rattle.tm_legal.proofs.Own.{own-here}
 use Rattle.tm_legal.proofs.Phases.{phase-other, in_phase-here, in_phase-there}
-use Rattle.tm_legal.proofs.Streams.{stream-of, shaped-stream}
 use Rattle.tm_legal.proofs.Half.{half-path, on-legal}
 use Rattle.tm_stays.proofs.Turns.{exits-inside, exits-phase, not-at-exit, at_exit}
 use Rattle.tm_memory.specs.Meet.{AllMeet}

@@ -4,7 +4,7 @@ use Rattle.tm_plan.specs.declared.program.Program.{Program}
 use Rattle.tm_plan_map.specs.Map.{flag_at}
 use Rattle.tm_base.specs.Lists.{any}
 use Rattle.tm_world.specs.Place.{harts, image_byte, byte_of}
-use Rattle.tm_world.specs.Run.{Run, Always, hart_of, own, phase, last_write}
+use Rattle.tm_world.specs.Run.{Run, Always, hart_of, own, last_write}
 use Rattle.tm_world.specs.Writers.{settled}
 use Rattle.tm_world.specs.Kinds.{Legal, Half, Plain, phase_of, flag_writes}
 use Rattle.tm_world.specs.Course.{OnHalf, HartCourse, signals, this_phase, last_phase}

@@ -1,5 +1,5 @@
--- The lines that a hart collects (this project's own). A window's lines are counted from 0, and of the declared ones each N-th is the
--- hart's, from one of the first N on.
+-- The lines that a hart collects (this project's own). A window's lines are counted from 0, and of the declared ones
+-- each N-th is the hart's, from one of the first N on.
 use Rattle.std.specs.Prelude.{◌≡◌, ℕ, zero, suc, ◌+◌, ◌-◌, ◌*◌, ◌/◌, ◌%◌, ◌<◌, ◌≤◌, ◌==◌, List, [], ◌∷◌, ◌++◌, flat_map, map, if◌then◌else◌, slice_get}
 use Rattle.tm_plan.specs.declared.cases.Cases.{Cases}
 use Rattle.tm_plan.specs.declared.cases.Case.{Case}

@@ -48,8 +48,8 @@ fn work_in(cases: &Cases, h: u32, list: &[Case], dwords: u64) -> u64
     one + work_in(cases, h, more, dwords)
 }
 
-/// The steps that hart `h` may work in a whole run: 64 more than the sum over the cases of 64 more than, for each pass, the
-/// slots of its stream, 256, 32 a hart, and 32 a saved dword.
+/// The steps that hart `h` may work in a whole run: 64 more than the sum over the cases of 64 more than, for each pass,
+/// the slots of its stream, 256, 32 a hart, and 32 a saved dword.
 #[tactic(auto, unfolding(tm_plan::specs::Collected::work_of))]
 pub fn work(cases: &Cases, h: u32) -> u64
     requires shaped { AreShaped cases.now }
@@ -60,8 +60,8 @@ pub fn work(cases: &Cases, h: u32) -> u64
     64 + work_in(cases, h, cases.cases.as_slice(), owned(cases, h))
 }
 
-/// How many events are enough for a whole run in which no hart reads idly: for each hart the work of all harts, and 16 for
-/// each case and pass.
+/// How many events are enough for a whole run in which no hart reads idly: for each hart the work of all harts, and 16
+/// for each case and pass.
 #[tactic(auto, unfolding(tm_plan::specs::Collected::budget_of))]
 pub fn budget(cases: &Cases) -> u64
     requires { AreShaped cases.now }

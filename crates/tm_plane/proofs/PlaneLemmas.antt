@@ -140,7 +140,7 @@ module _ (plane : List ℕ) (addr width e bits : ℕ) (room : length plane ≡ 9
 
 -- ---- some byte of an access
 
-any-counted : (test : ℕ → Bool) (n a : ℕ) → (any test (count_from a n) ≡ true) ↔ ((b : ℕ) × IsTrue (within a n b) × (test b ≡ true))
+pub any-counted : (test : ℕ → Bool) (n a : ℕ) → (any test (count_from a n) ≡ true) ↔ ((b : ℕ) × IsTrue (within a n b) × (test b ≡ true))
 any-counted test zero a = ((λ e. absurd (false≢true e)), (λ p. let q = within-parts a 0 p.0 p.1 in absurd (omega arith)))
 any-counted test (suc n) a = (
   (λ e. elim (or_cases (test a) (any test (count_from (suc a) n)) e) [
@@ -266,3 +266,12 @@ spoiled-told out w x y z n0 nw nx ny nz made b = told out (in_plane w b || (in_p
             inr (second.1 ((in-at x b low).0 q.0, third.1 (elim (or_cases _ _ q.1) [ inl r ↦ inl ((in-at y b low).0 r) | inr r ↦ inr ((in-at z b low).0 r) ]))))
       ]))),
     ))
+
+-- no byte outside the windows is in a plane
+pub below-none : (plane : List ℕ) (b base : ℕ) → base ≡ windows_base → b < base → false ≡ in_plane plane b
+below-none plane b base same l = sym (false_from_ne_true (in_plane plane b) (λ t. let p = ((in-plane plane b).0 t).0 in omega arith))
+
+pub above-none : (plane : List ℕ) (b base : ℕ) → base ≡ windows_base → length plane ≡ 96 → 6144 ≤ b - base → false ≡ in_plane plane b
+above-none plane b base same room l =
+    let far : 6144 ≤ b - windows_base = subst (λ (a : ℕ). 6144 ≤ b - a) same l in
+    sym (false_from_ne_true (in_plane plane b) (none-in plane b room (omega arith)))

@@ -1,6 +1,6 @@
 // Planes: 96 words, one bit for each byte of the windows.
-ghost use Rattle.std.specs.Prelude.{◌≡◌, ◌<◌, ◌≤◌, ◌+◌, ℕ, ◌↔◌, ◌||◌, ◌&&◌, not, IsTrue};
-ghost use Rattle.tm_plan_map.specs.Map.{windows_base, windows_size, within};
+ghost use Rattle.std.specs.Prelude.{◌≡◌, ℕ, ◌↔◌, ◌||◌, ◌&&◌, not, IsTrue};
+ghost use Rattle.tm_plan_map.specs.Map.{within};
 ghost use Rattle.tm_base.specs.Lists.{any, count_from};
 ghost use Rattle.tm_plane.specs.Plane.{in_plane, IsNear, Spans, Overwritten};
 
@@ -10,14 +10,19 @@ use tm_plan_map::window_base;
 /// One bit for each byte of the windows.
 pub type Plane = [u64; 96];
 
-/// Whether the byte at `addr`, in the windows, is in the plane.
+/// Whether the byte at `addr` is in the plane. A byte outside the windows is in none.
 #[tactic(auto, unfolding(tm_plan_map::specs::Map::window_at, tm_plan_map::specs::Map::windows_size))]
 pub fn has(plane: &Plane, addr: u64) -> bool
-    requires low { windows_base ≤ addr }
-    requires high { addr < windows_base + windows_size }
     ensures { result ≡ in_plane plane.now addr }
 {
-    let q = addr - window_base(0);
+    let base = window_base(0);
+    if addr < base {
+        return false;
+    }
+    let q = addr - base;
+    if q >= 6144 {
+        return false;
+    }
     plane[(q / 64) as usize] >> (q % 64) & 1 == 1
 }
 

@@ -1,8 +1,16 @@
-use Rattle.std.proofs.Common.{arith}
-use Rattle.tm_plan_map.specs.Map.{window_at}
-use Rattle.tm_plane.proofs.PlaneLemmas.{has-told}
+use Rattle.std.proofs.Common.{◌≡◌, arith}
+use Rattle.tm_plan_map.specs.Map.{window_at, windows_base}
+use Rattle.tm_plane.proofs.PlaneLemmas.{has-told, below-none, above-none}
 use Rattle.tm_plane.proofs.planes.has.Goals as goal
+
+pub returns-then-addr-base : goal.returns-then-addr-base
+unfolding window_at
+returns-then-addr-base c = below-none c.args.plane.now c.args.addr c.window_base-base.result (omega arith) c.if-addr-base.true
+
+pub returns-then-q-ge6144 : goal.returns-then-q-ge6144
+unfolding window_at
+returns-then-q-ge6144 c = above-none c.args.plane.now c.args.addr c.window_base-base.result (omega arith) c.told-plane c.if-q-ge6144.true
 
 pub returns : goal.returns
 unfolding window_at
-returns c = has-told c.args.plane.now c.args.addr c.window_base.result (omega arith) c.requires.low
+returns c = has-told c.args.plane.now c.args.addr c.window_base-base.result (omega arith) (omega arith)
