@@ -1,5 +1,5 @@
 -- The first read of a shared byte in the phase after a run phase stands before any write of it in that phase.
-use Rattle.std.proofs.Common.{◌≡◌, ℕ, suc, ◌+◌, ◌-◌, ◌*◌, ◌/◌, ◌%◌, ◌<◌, ◌≤◌, List, [], ◌∷◌, Bool, true, false, nat_lt, ◌==◌, Option, None, Some, inl, inr, refl, sym, ap, ◌∙◌, subst, arith, eq-eqb, eqb-true}
+use Rattle.std.proofs.Common.{◌≡◌, ℕ, suc, ◌+◌, ◌-◌, ◌*◌, ◌/◌, ◌<◌, ◌≤◌, List, [], ◌∷◌, Bool, true, false, nat_lt, ◌==◌, Option, None, Some, inl, inr, refl, sym, ap, ◌∙◌, subst, arith, eq-eqb, eqb-true}
 use Rattle.std.specs.Prelude.{IsTrue, IsFalse, IfSome, All, if◌then◌else◌}
 use Rattle.std.proofs.lemmas.Bool.{cases_eq, and_from, or_from, lt-ltb, false≢true}
 use Rattle.tm_table.specs.declared.state.Access.{Access}
@@ -11,7 +11,6 @@ use Rattle.tm_base.specs.Lists.{any}
 use Rattle.tm_world.specs.Lists.{or_else}
 use Rattle.tm_world.specs.Place.{case_count, passes, exit_of, byte_of}
 use Rattle.tm_world.specs.Run.{Step, Always, first_state, access_of, phase, in_phase, written, got, earliest, Reads}
-use Rattle.tm_world.specs.Writers.{round_of_phase}
 use Rattle.tm_world.specs.Kinds.{plain_owed}
 use Rattle.tm_world.specs.Course.{KeepsCollecting, Collects, round_before, writes_in, reads_in, writes_shared}
 use Rattle.tm_runs.proofs.Places.{within-parts}

@@ -1,11 +1,10 @@
 -- With one hart all passes of a case agree, so each verdict is 0.
-use Rattle.std.proofs.Common.{◌≡◌, ℕ, zero, suc, ◌+◌, ◌-◌, ◌*◌, ◌<◌, List, [], ◌∷◌, length, Bool, true, false, ◌&&◌, nat_lt, ◌==◌, Option, None, Some, ◌⊎◌, inl, inr, refl, sym, ap, ◌∙◌, subst, arith}
-use Rattle.std.specs.Prelude.{IsTrue, All, slice_get, slice_index, filter, map, if◌then◌else◌}
+use Rattle.std.proofs.Common.{◌≡◌, ℕ, ◌+◌, ◌-◌, ◌*◌, ◌<◌, List, [], ◌∷◌, length, Bool, true, false, ◌&&◌, nat_lt, ◌==◌, Option, None, Some, refl, sym, ap, ◌∙◌, subst, arith}
+use Rattle.std.specs.Prelude.{IsTrue, All, slice_get, slice_index, map, if◌then◌else◌}
 use Rattle.std.specs.List.{AllByRecursion as Each}
 use Rattle.std.proofs.lemmas.Bool.{and_parts, ltb-false}
 use Rattle.std.proofs.lemmas.List.Elements.{All-from_recursion, All-get_or, recursion_from_All}
 use Rattle.tm_table.specs.declared.state.Access.TheVariants.{Write}
-use Rattle.tm_table.specs.State.{Hart}
 use Rattle.tm_plan.specs.declared.program.Program.{Program}
 use Rattle.tm_plan.specs.declared.cases.Cases.{Cases}
 use Rattle.tm_plan.specs.declared.masks.CaseMask.{CaseMask}
@@ -17,7 +16,7 @@ use Rattle.tm_world.specs.Place.{harts, case_count, passes}
 use Rattle.tm_world.specs.Run.{Step, own, first_state, hart_of, access_of}
 use Rattle.tm_world.specs.Kinds.{Legal}
 use Rattle.tm_world.specs.Course.{OnHalf, KeepsCollecting, KeepsVerdicts, writes_in}
-use Rattle.tm_world.specs.Verdict.{Part, Register, Byte, end_value, saved, parts, is_checked, Same, IsVerdict, agree, differ, WritesExactly}
+use Rattle.tm_world.specs.Verdict.{Part, Register, Byte, end_value, saved, parts, is_checked, Same, WritesExactly}
 use Rattle.tm_world.specs.Sound.{NotReported}
 use Rattle.tm_world.proofs.Prefix.{earlier, Legal-earlier}
 use Rattle.tm_runs.proofs.Places.{within-parts}

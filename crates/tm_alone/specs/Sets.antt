@@ -1,5 +1,5 @@
 -- What one hart's support code sets before each stay in a stream (this project's own).
-use Rattle.std.specs.Prelude.{◌≡◌, ℕ, ◌<◌, List, ◌∷◌, slice_get, Some, IsTrue}
+use Rattle.std.specs.Prelude.{◌≡◌, ℕ, List, ◌∷◌, slice_get, Some, IsTrue}
 use Rattle.tm_table.specs.State.{Hart}
 use Rattle.tm_plan.specs.declared.program.Program.{Program}
 use Rattle.tm_plan.specs.declared.cases.Case.{Case}

@@ -11,6 +11,7 @@ use Rattle.tm_plan.specs.declared.masks.Masks.{Masks}
 use Rattle.tm_plan.specs.declared.program.Program.{Program}
 use Rattle.tm_plan_map.specs.Map.{tables_base, private_at, private_size}
 use Rattle.tm_plan.specs.Shaped.{IsShapedMask}
+use Rattle.tm_plan.proofs.TableLemmas.{length-dword, length-dwords}
 use Rattle.tm_plan.specs.Tables.{dword_bytes, dwords_bytes, hart_tables, case_tables, table_bytes}
 use Rattle.tm_world.specs.Place.{image_byte, byte_of}
 use Rattle.tm_runs.specs.World.{image_dword}
@@ -34,14 +35,6 @@ byte-of-dword v (suc (suc (suc (suc (suc zero))))) l = refl
 byte-of-dword v (suc (suc (suc (suc (suc (suc zero)))))) l = refl
 byte-of-dword v (suc (suc (suc (suc (suc (suc (suc zero))))))) l = refl
 byte-of-dword v (suc (suc (suc (suc (suc (suc (suc (suc i)))))))) l = absurd (omega arith)
-
-length-dword : (v : ℕ) → length (dword_bytes v) ≡ 8
-unfolding dword_bytes
-length-dword v = refl
-
-length-dwords : (vs : List ℕ) → length (dwords_bytes vs) ≡ 8 * length vs
-length-dwords [] = refl
-length-dwords (v ∷ vs) = length-append (dword_bytes v) (dwords_bytes vs) ∙ omega (arith, length-dword v, length-dwords vs)
 
 -- what stands behind n bytes
 behind : (xs ys : List ℕ) (n k : ℕ) → length xs ≡ n → slice_index (xs ++ ys) (n + k) ≡ slice_index ys k

@@ -19,7 +19,7 @@ use Rattle.tm_stays.specs.Stays.{words_in}
 use Rattle.tm_stays.proofs.Stays.{ends-soon}
 use Rattle.tm_course.specs.OneHart.{IsOfOneHart}
 use Rattle.tm_course.proofs.Ground.{exit_at, start_at, end_at, halt_at}
-use Rattle.tm_course.proofs.Laying.{sizes, one-case, shaped, start-is, end-is, exit-is, halt-is, text-size, middle}
+use Rattle.tm_course.proofs.Laying.{one-case, shaped, start-is, end-is, exit-is, halt-is, text-size, middle}
 use Rattle.tm_course.proofs.Course.{order, fresh, goes, spares, few-outside, stream-is}
 use Rattle.tm_course.proofs.Grounded.{halt-word}
 use Rattle.tm_course.proofs.Way.{most_steps}

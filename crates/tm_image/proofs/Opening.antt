@@ -15,6 +15,7 @@ use Rattle.tm_tmpl_types.specs.declared.template.TmplFault.{TmplFault}
 use Rattle.tm_tmpl_read.specs.Grammar.{template_of}
 use Rattle.tm_plan_map.specs.declared.admitted.Admitted.{Admitted}
 use Rattle.tm_plan_map.specs.Map.{text_base}
+use Rattle.tm_plan.specs.Shaped.{IsTyped}
 use Rattle.tm_elf_write.specs.declared.parts.Parts.{Parts}
 use Rattle.tm_elf_write.specs.declared.parts.Plan.{Plan}
 use Rattle.tm_elf_write.specs.declared.parts.Symbol.{Symbol}
@@ -34,9 +35,8 @@ use Rattle.tm_faults.specs.declared.inputs.InputFault.{InputFault}
 use Rattle.tm_image_inputs.specs.Built.{AreBuilt}
 use Rattle.tm_image_inputs.specs.Inputs.{inputs, behind_topology, template_inputs, of_reading, unless_broken, unless_late, not_yet}
 use Rattle.tm_image_inputs.proofs.BuiltLemmas.{built_where}
-use Rattle.tm_runs.specs.World.{Sizes}
 use Rattle.tm_image_program.specs.Program.{Names, names_of, case_stream, program_for, program_of, marks_around}
-use Rattle.tm_image_program.proofs.SizeLemmas.{sizes}
+use Rattle.tm_image_program.proofs.SizeLemmas.{typed}
 use Rattle.tm_image_program.proofs.TestLemmas.{HasStream, has_test, has_stream, is_sound}
 use Rattle.tm_image_build.specs.Symbols.{symbols_at}
 use Rattle.tm_image_build.specs.Built.{parts_of, image_file, built, built_of}
@@ -108,9 +108,9 @@ low_symbols : (a : Admitted) → length (case_stream a.cases) ≤ 256 → All (�
 unfolding program_for
 low_symbols a few = symbols_low (names_of a) (case_stream a.cases) few
 
-its_sizes : (a : Admitted) → HasStream a → Sizes (program_for a)
+its_types : (a : Admitted) → HasStream a → IsTyped (program_for a)
 unfolding program_for
-its_sizes a h = sizes (names_of a) (case_stream a.cases) h.few h.each
+its_types a h = typed (names_of a) (case_stream a.cases) h.few h.each
 
 in_range_parts : (a : Admitted) (topo template : List ℕ) (seed : ℕ) → AreBuilt a → seed < 2 ^ 64 → InRange (parts_of (program_for a) topo template seed)
 unfolding parts_of
@@ -119,7 +119,7 @@ in_range_parts a topo template seed built small =
     let sound = is_sound a (program_for a) built refl in
     let one = of_one a (program_for a) built (has_test a (program_for a) built refl) sound.program in
     record {
-      text = λ k d l. subst (λ (w : ℕ). w < 2 ^ 32) (sym (or_zero (program_for a).text k d l)) ((its_sizes a stream).words k);
+      text = λ k d l. subst (λ (w : ℕ). w < 2 ^ 32) (sym (or_zero (program_for a).text k d l)) ((its_types a stream).text k);
       seed = small;
       symbols = rw (symbols_are (program_for a) one) (low_symbols a stream.few);
     }

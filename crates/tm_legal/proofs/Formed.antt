@@ -5,4 +5,4 @@ use Rattle.tm_runs.proofs.Worlds.{sizes-of}
 use Rattle.tm_legal.specs.Tame.{Formed}
 
 pub formed-sizes : {p : Program} → Formed p → Sizes p
-formed-sizes {p = p} formed = sizes-of p formed.program formed.typed.text formed.typed.tables
+formed-sizes {p = p} formed = sizes-of p formed.program formed.typed

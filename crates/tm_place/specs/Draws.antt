@@ -1,5 +1,5 @@
--- What a seed draws: words of streams of ChaCha with 8 rounds. They have no order of drawing. Key, stream and place are this
--- project's own.
+-- What a seed draws: words of streams of ChaCha with 8 rounds. They have no order of drawing. Key, stream and place
+-- are this project's own.
 use Rattle.std.specs.Prelude.{ℕ, ◌+◌, ◌*◌, List, ◌++◌, map, replicate, slice_index}
 use Rattle.std.specs.Int.{w64, to_le_bytes}
 use Rattle.rand_chacha.specs.ChaCha.{word_at, key_of}

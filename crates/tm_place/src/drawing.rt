@@ -59,8 +59,8 @@ impl Draws {
     }
 }
 
-/// Word `d`, below 16, that a seed draws for slot `i`, below 1024, of hart `h`, below 64, in case `c`, below 64. `Draws` has all
-/// 16 at once.
+/// Word `d`, below 16, that a seed draws for slot `i`, below 1024, of hart `h`, below 64, in case `c`, below 64.
+/// `Draws` has all 16 at once.
 #[tactic(auto, unfolding(crate::specs::Draws::draw))]
 pub fn draw(seed: u64, c: u32, h: u32, i: u32, d: u32) -> u32
     requires case { c < 64 }

@@ -1,3 +1,4 @@
 pub mod Shaped
 pub mod Collected
 pub mod Tables
+pub mod Layout

@@ -4,6 +4,7 @@
 mod bytes;
 mod cases;
 mod journal;
+pub mod laws;
 mod masks;
 mod program;
 

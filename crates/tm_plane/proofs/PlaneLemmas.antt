@@ -1,5 +1,5 @@
 -- Bytes of planes.
-use Rattle.std.proofs.Common.{◌≡◌, ◌<◌, ◌≤◌, ◌+◌, ◌-◌, ◌*◌, ◌/◌, ◌%◌, ◌^◌, ℕ, zero, suc, ◌↔◌, ◌⊎◌, inl, inr, IsTrue, Bool, true, false, ◌&&◌, ◌||◌, not, ◌==◌, nat_le, List, [], ◌∷◌, length, set, get_or, bit_and, bit_or, refl, sym, ap, subst, subst₂, ◌∙◌, arith, eqb-true, eq-eqb}
+use Rattle.std.proofs.Common.{◌≡◌, ◌<◌, ◌≤◌, ◌+◌, ◌-◌, ◌*◌, ◌/◌, ◌%◌, ◌^◌, ℕ, zero, suc, ◌↔◌, ◌⊎◌, inl, inr, IsTrue, Bool, true, false, ◌&&◌, ◌||◌, not, ◌==◌, nat_le, List, length, set, bit_and, bit_or, refl, sym, ap, subst, subst₂, ◌∙◌, arith, eqb-true, eq-eqb}
 use Rattle.std.specs.Prelude.{slice_index}
 use Rattle.std.specs.Int.{bit_at}
 use Rattle.std.proofs.lemmas.List.{get_or-set_same, get_or-set_other, get_or_past}
@@ -8,7 +8,7 @@ use Rattle.std.proofs.lemmas.Nat.Bits.{shr_and_one}
 use Rattle.tm_plan_map.specs.Map.{windows_base, windows_size, within}
 use Rattle.tm_base.specs.Lists.{any, count_from}
 use Rattle.tm_plan.proofs.Within.{within-parts, within-true}
-use Rattle.tm_plane.proofs.WordLemmas.{bit-none, bit-lt, bit-and, bit-or}
+use Rattle.tm_plane.proofs.WordLemmas.{bit-none, bit-and, bit-or}
 use Rattle.tm_plane.specs.Plane.{Bit, in_plane, IsNear, Spans, Overwritten}
 
 -- what it is for a byte to be in a plane

@@ -12,8 +12,8 @@ unfoldable pub in_plane : List ℕ → ℕ → Bool
 in_plane plane b =
     nat_le windows_base b && (bit_at (slice_index plane ((b - windows_base) / 64)) ((b - windows_base) % 64) == 1)
 
--- What is held after a write: what is written, where marks says that it then depends; and what was held, where it isn't written or
--- covered says that the write may be skipped.
+-- What is held after a write: what is written, where marks says that it then depends; and what was held, where it
+-- isn't written or covered says that the write may be skipped.
 abbrev pub Overwritten : (Written Held : Type 0) → (marks covered : Bool) → Type 0
 Overwritten Written Held marks covered = (Written × IsTrue marks) ⊎ (Held × ((Written → ⊥) ⊎ IsTrue covered))
 

@@ -54,12 +54,13 @@ pub fn put(plane: &mut Plane, addr: u64, width: u8)
     plane[e] = plane[e] | bits;
 }
 
-/// What the plane becomes where those bytes of an access are written that are in `own`: they come in where `marks` says so, and else
-/// they go, but where `covered` says that the write may be skipped.
+/// What the plane becomes where those bytes of an access are written that are in `own`: they come in where `marks`
+/// says so, and else they go, but where `covered` says that the write may be skipped.
 pub fn overwrite(plane: &mut Plane, own: &Plane, addr: u64, width: u8, marks: bool, covered: bool)
     requires { IsNear addr width }
     ensures { (b : ℕ) → IsTrue (in_plane plane.new b)
-        ↔ Overwritten (IsTrue (in_plane own.now b) × IsTrue (within addr width b)) (IsTrue (in_plane plane.old b)) marks covered }
+        ↔ Overwritten (IsTrue (in_plane own.now b) × IsTrue (within addr width b))
+        (IsTrue (in_plane plane.old b)) marks covered }
 {
     let (e, bits) = span(addr, width);
     plane[e] = overwritten(plane[e], own[e] & bits, marks, covered);

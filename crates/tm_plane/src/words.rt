@@ -22,8 +22,8 @@ pub fn run(low: u32, width: u8) -> u64
     word
 }
 
-/// What `held` becomes where `writes` are written: they come in where `marks` says so, and else they go, but where `covered` says
-/// that the write may be skipped.
+/// What `held` becomes where `writes` are written: they come in where `marks` says so, and else they go, but where
+/// `covered` says that the write may be skipped.
 pub fn overwritten(held: u64, writes: u64, marks: bool, covered: bool) -> u64
     ensures { (r : ℕ) → Bit result r ↔ Overwritten (Bit writes r) (Bit held r) marks covered }
 {

@@ -1,18 +1,15 @@
 -- A hart's first read of a shared byte that it collects, in the phase after a run phase, stands before any write of it by the hart in
 -- that phase.
-use Rattle.std.proofs.Common.{◌≡◌, ℕ, suc, ◌+◌, ◌-◌, ◌*◌, ◌/◌, ◌%◌, ◌<◌, ◌≤◌, List, [], ◌∷◌, Bool, true, false, nat_lt, ◌==◌, Option, None, Some, ◌⊎◌, inl, inr, refl, sym, ap, ◌∙◌, subst, arith, eq-eqb}
+use Rattle.std.proofs.Common.{◌≡◌, ℕ, suc, ◌+◌, ◌-◌, ◌*◌, ◌/◌, ◌<◌, ◌≤◌, List, [], ◌∷◌, Bool, true, false, nat_lt, ◌==◌, Option, None, Some, inl, inr, refl, sym, ap, ◌∙◌, subst, arith, eq-eqb}
 use Rattle.std.specs.Prelude.{IsTrue, IsFalse, IfSome, All, if◌then◌else◌}
 use Rattle.std.proofs.lemmas.Bool.{cases_eq, and_from, or_from, lt-ltb, false≢true}
-use Rattle.std.proofs.Math.Nat.{mul-div-mul_left, div-div-eq-div-mul}
 use Rattle.tm_table.specs.declared.state.Access.{Access}
 use Rattle.tm_table.specs.declared.state.Access.TheVariants.{Quiet, Read, Write}
 use Rattle.tm_table.specs.State.{Hart}
 use Rattle.tm_plan.specs.declared.program.Program.{Program}
-use Rattle.tm_plan.specs.declared.cases.Cases.{Cases}
 use Rattle.tm_plan_map.specs.Map.{window_at, windows_base, within}
 use Rattle.tm_plan.specs.Collected.{is_declared, collector, owned}
 use Rattle.tm_base.specs.Lists.{any}
-use Rattle.tm_plan.specs.Shaped.{AreShaped}
 use Rattle.tm_world.specs.Lists.{or_else}
 use Rattle.tm_world.specs.Place.{case_count, passes, exit_of, byte_of}
 use Rattle.tm_world.specs.Run.{Step, access_of, phase, in_phase, written, last_write, got, earliest, Reads}

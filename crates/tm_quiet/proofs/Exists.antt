@@ -1,8 +1,8 @@
 -- Where a hart has left the run phase of a pass and the phase after it, each part that it saves has an end value in the pass.
-use Rattle.std.proofs.Common.{◌≡◌, ℕ, suc, ◌+◌, ◌-◌, ◌*◌, ◌/◌, ◌<◌, ◌≤◌, List, [], ◌∷◌, Bool, true, false, ◌&&◌, not, nat_lt, ◌==◌, Option, None, Some, inl, inr, refl, sym, ap, ◌∙◌, arith, eqb-true, eq-eqb, mul_comm}
+use Rattle.std.proofs.Common.{◌≡◌, ℕ, suc, ◌+◌, ◌*◌, ◌/◌, ◌<◌, List, [], ◌∷◌, Bool, true, false, ◌&&◌, not, nat_lt, ◌==◌, Option, None, Some, inl, inr, refl, sym, ap, ◌∙◌, arith, eqb-true, eq-eqb, mul_comm}
 use Rattle.std.specs.Prelude.{IsTrue, All, slice_index, option_map, if◌then◌else◌}
 use Rattle.std.specs.List.{AllByRecursion as Each}
-use Rattle.std.proofs.lemmas.Bool.{cases_eq, cases_lt, cases_Bool, and_from, or_right, false≢true, false_from_ne_true, lt-ltb}
+use Rattle.std.proofs.lemmas.Bool.{cases_lt, cases_Bool, and_from, false≢true, false_from_ne_true, lt-ltb}
 use Rattle.std.proofs.lemmas.List.Elements.{All-from_recursion}
 use Rattle.std.proofs.lemmas.Nat.{div-mul-add, mul-add-lt}
 use Rattle.tm_table.specs.declared.state.Access.TheVariants.{Write}
@@ -19,14 +19,14 @@ use Rattle.tm_world.specs.Course.{KeepsOrder, KeepsCollecting, KeepsVerdicts, Ha
 use Rattle.tm_world.specs.Verdict.{Part, Register, Byte, end_value, left_with, saved, parts}
 use Rattle.tm_world.specs.Writers.{run_phase}
 use Rattle.tm_legal.specs.Tame.{Formed}
-use Rattle.tm_legal.proofs.Phases.{phase-exit, phase-other, in_phase-here, in_phase-there}
+use Rattle.tm_legal.proofs.Phases.{phase-exit, phase-other}
 use Rattle.tm_stays.proofs.Turns.{turned, order-before}
 use Rattle.tm_world.specs.Verdict.{HasEnds}
 use Rattle.tm_stays.proofs.Entries.{entered, entered-more, some-entry, at-exit, leaves-phase, started}
 use Rattle.tm_quiet.specs.Laws.{IsCompared, EndsThere}
 use Rattle.tm_quiet.proofs.Halves.{inside-off, in-stream, entered-most}
 use Rattle.tm_runs.proofs.Paths.{stands}
-use Rattle.tm_quiet.proofs.Collects.{reading, collects-at, dword, unread}
+use Rattle.tm_quiet.proofs.Collects.{reading, dword, unread}
 use Rattle.tm_quiet.proofs.Saved.{saved-compared}
 use Rattle.tm_stays.proofs.Dwords.{dword_of}
 

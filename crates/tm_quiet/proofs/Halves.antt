@@ -1,13 +1,12 @@
 -- Where a hart is on its way: inside a stream it is in a run phase of the stream's case, and has entered as many streams as there were.
-use Rattle.std.proofs.Common.{◌≡◌, ◌≢◌, ℕ, suc, ◌+◌, ◌*◌, ◌/◌, ◌%◌, ◌<◌, ◌≤◌, List, [], ◌∷◌, Bool, true, false, nat_lt, ◌==◌, Option, None, Some, sym, ap, ◌∙◌, arith, eq-eqb, ne_eqb}
+use Rattle.std.proofs.Common.{◌≡◌, ◌≢◌, ℕ, suc, ◌+◌, ◌*◌, ◌/◌, ◌%◌, ◌<◌, ◌≤◌, List, [], ◌∷◌, Bool, true, false, nat_lt, ◌==◌, None, Some, sym, ap, ◌∙◌, arith, eq-eqb, ne_eqb}
 use Rattle.std.specs.Prelude.{if◌then◌else◌}
 use Rattle.std.proofs.lemmas.Bool.{and_from, lt-ltb, false≢true}
-use Rattle.tm_table.specs.State.{Hart}
 use Rattle.tm_plan.specs.declared.program.Program.{Program}
 use Rattle.tm_world.specs.Place.{harts, case_count, passes, exit_of, inside}
-use Rattle.tm_world.specs.Run.{Step, now, first_state, pc_of, phase}
+use Rattle.tm_world.specs.Run.{Step, now, first_state, phase}
 use Rattle.tm_world.specs.Writers.{case_of_phase}
-use Rattle.tm_world.specs.Kinds.{HalfPath, HalfStep}
+use Rattle.tm_world.specs.Kinds.{HalfPath}
 use Rattle.tm_world.specs.Course.{KeepsOrder}
 use Rattle.tm_legal.specs.Tame.{Formed}
 use Rattle.tm_stays.proofs.Turns.{turned, exits-inside, exits-phase, at_exit, not-at-exit}

@@ -1,31 +1,23 @@
 -- Passes agree on all that is checked, so each true verdict is 0.
-use Rattle.std.proofs.Common.{◌≡◌, ℕ, zero, suc, ◌+◌, ◌-◌, ◌*◌, ◌/◌, ◌%◌, ◌<◌, List, [], ◌∷◌, Bool, true, false, ◌&&◌, nat_lt, ◌==◌, Option, None, Some, ◌⊎◌, inl, inr, refl, sym, ap, ◌∙◌, subst, arith, eqb-true}
-use Rattle.std.specs.Prelude.{IsTrue, All, slice_get, slice_index, filter, map, if◌then◌else◌}
+use Rattle.std.proofs.Common.{◌≡◌, ℕ, ◌<◌, List, [], ◌∷◌, Option, None, Some, refl, sym, ap, ◌∙◌, subst, arith}
+use Rattle.std.specs.Prelude.{IsTrue, All, slice_get}
 use Rattle.std.specs.List.{AllByRecursion as Each}
-use Rattle.std.proofs.lemmas.Bool.{and_parts, and_from, ltb-true, ltb-false, lt-ltb}
-use Rattle.std.proofs.lemmas.List.Elements.{All-from_recursion, All-get_or, recursion_from_All}
+use Rattle.std.proofs.lemmas.List.Elements.{All-from_recursion, recursion_from_All}
 use Rattle.tm_table.specs.declared.state.Access.TheVariants.{Write}
 use Rattle.tm_table.specs.State.{Hart}
 use Rattle.tm_plan.specs.declared.program.Program.{Program}
-use Rattle.tm_plan.specs.declared.cases.Cases.{Cases}
 use Rattle.tm_plan.specs.declared.masks.CaseMask.{CaseMask}
-use Rattle.tm_plan_map.specs.Map.{verdict_at, window_at, windows_base}
-use Rattle.tm_plan.specs.Collected.{is_declared, collector, window_dwords, owned}
-use Rattle.tm_base.specs.Lists.{count_from}
-use Rattle.tm_plan.specs.Shaped.{AreShaped}
+use Rattle.tm_plan_map.specs.Map.{verdict_at}
 use Rattle.tm_world.specs.Place.{harts, case_count, passes}
 use Rattle.tm_world.specs.Run.{Step, own, first_state, hart_of, access_of}
 use Rattle.tm_world.specs.Kinds.{Legal}
 use Rattle.tm_world.specs.Course.{OnHalf, KeepsVerdicts, writes_in}
-use Rattle.tm_world.specs.Verdict.{Part, Register, Byte, end_value, saved, parts, is_checked, Same, IsVerdict, agree, differ, WritesExactly}
+use Rattle.tm_world.specs.Verdict.{Part, end_value, saved, parts, is_checked, Same, IsVerdict, agree, differ, WritesExactly}
 use Rattle.tm_world.specs.Sound.{NotReported}
 use Rattle.tm_world.proofs.Prefix.{earlier, Legal-earlier}
-use Rattle.tm_runs.proofs.Places.{within-parts}
-use Rattle.tm_runs.proofs.Bytes.{within-true}
 use Rattle.tm_legal.proofs.Own.{own-here}
-use Rattle.tm_legal.proofs.Streams.{none-past, window-declared}
+use Rattle.tm_legal.proofs.Streams.{none-past}
 use Rattle.tm_world.specs.Verdict.{HasEnds}
-use Rattle.tm_stays.proofs.Dwords.{lies}
 use Rattle.tm_quiet.specs.Laws.{IsCompared, Tracked, Silent}
 use Rattle.tm_quiet.proofs.Legal.{holds-on}
 use Rattle.tm_quiet.proofs.Saved.{saved-compared}

@@ -1,10 +1,8 @@
 -- Inside its stream in a run phase a hart walks the stream, from its first registers and the case's first bytes.
 use Rattle.std.proofs.Common.{◌≡◌, ◌≢◌, ℕ, ◌+◌, ◌-◌, ◌*◌, ◌/◌, ◌<◌, ◌≤◌, List, [], ◌∷◌, length, Bool, true, false, nat_lt, ◌==◌, Option, None, Some, ◌⊎◌, inl, inr, refl, sym, ap, ap₂, ◌∙◌, subst, arith, ne_eqb}
-use Rattle.std.specs.Prelude.{IfSome, slice_get, slice_index, unwrap_or, if◌then◌else◌}
+use Rattle.std.specs.Prelude.{slice_get, slice_index, unwrap_or, if◌then◌else◌}
 use Rattle.std.proofs.lemmas.Bool.{cases_lt, cases_Bool, false≢true, lt-ltb, le-ltb}
 use Rattle.std.proofs.lemmas.Option.{slice_get_within}
-use Rattle.tm_table.specs.declared.state.Access.{Access}
-use Rattle.tm_table.specs.declared.state.Access.TheVariants.{Quiet, Read, Write}
 use Rattle.tm_table.specs.State.{Hart}
 use Rattle.tm_table.proofs.Decoding.{word-decoded}
 use Rattle.tm_plan.specs.declared.program.Program.{Program}
@@ -12,8 +10,8 @@ use Rattle.tm_plan.specs.declared.cases.Case.{Case}
 use Rattle.tm_plan.specs.declared.cases.Stream.{Stream}
 use Rattle.tm_plan_map.specs.Slots.{instr_of}
 use Rattle.tm_world.specs.Lists.{or_else}
-use Rattle.tm_world.specs.Place.{harts, case_count, start_of, end_of, exit_of, inside, byte_of}
-use Rattle.tm_world.specs.Run.{Step, now, first_state, pc_of, access_of, phase, in_phase, written, last_write, Reads}
+use Rattle.tm_world.specs.Place.{harts, case_count, start_of, end_of, exit_of, inside}
+use Rattle.tm_world.specs.Run.{Step, now, first_state, pc_of, access_of, phase, in_phase, written, last_write}
 use Rattle.tm_world.specs.Writers.{stream_in}
 use Rattle.tm_world.specs.Kinds.{IsOpening}
 use Rattle.tm_world.specs.Whole.{first_byte}

@@ -1,11 +1,10 @@
 -- Who may write a shared byte: in a run phase the harts with a store slot that covers it, in a phase after it its collector alone.
-use Rattle.std.proofs.Common.{◌≡◌, ◌≢◌, ℕ, zero, suc, ◌+◌, ◌%◌, ◌<◌, ◌≤◌, List, [], ◌∷◌, Bool, true, false, ◌&&◌, ◌||◌, not, ◌==◌, Option, Some, inr, refl, sym, ap, ap₂, ◌∙◌, arith, eq-eqb, ne_eqb, eqb-true}
+use Rattle.std.proofs.Common.{◌≡◌, ℕ, zero, suc, ◌+◌, ◌%◌, ◌<◌, ◌≤◌, List, [], ◌∷◌, Bool, true, false, ◌&&◌, ◌||◌, not, ◌==◌, Option, Some, inr, refl, sym, ap, ap₂, ◌∙◌, arith, eq-eqb, ne_eqb}
 use Rattle.std.specs.Prelude.{if◌then◌else◌}
-use Rattle.std.proofs.lemmas.Bool.{or_from, true≢false}
 use Rattle.tm_plan.specs.declared.program.Program.{Program}
 use Rattle.tm_plan_map.specs.Map.{flag_at, verdict_at, private_at, private_size, windows_base, windows_size, within}
 use Rattle.tm_plan.specs.Collected.{is_declared, collector}
-use Rattle.tm_base.specs.Lists.{any, count_from}
+use Rattle.tm_base.specs.Lists.{count_from}
 use Rattle.tm_world.specs.Lists.{those}
 use Rattle.tm_world.specs.Place.{harts, case_count, is_flag, is_verdict, is_private, is_window}
 use Rattle.tm_world.specs.Writers.{may_store, case_of_phase, may_write, may_write_running, may_write_window, writers}
@@ -19,7 +18,7 @@ use Rattle.tm_stays.proofs.Right.{run-odd}
 use Rattle.tm_stays.proofs.Dwords.{lies}
 use Rattle.tm_quiet.proofs.Lists.{any-those}
 use Rattle.tm_legal.proofs.Formed.{formed-sizes}
-use Rattle.tm_legal.proofs.Areas.{any-none, those-none, those-one}
+use Rattle.tm_legal.proofs.Areas.{any-none, those-one}
 
 -- two tests that are alike pass the same
 those-alike : (f g : ℕ → Bool) (n a : ℕ) → ((c : ℕ) → a ≤ c → c < a + n → f c ≡ g c) → those f (count_from a n) ≡ those g (count_from a n)

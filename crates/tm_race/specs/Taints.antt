@@ -8,12 +8,13 @@ use Rattle.tm_plane.specs.Plane.{Bit, in_plane}
 use Rattle.tm_race.specs.declared.walking.Taint.{Taint}
 use Rattle.tm_race.specs.Forward.{Stands, HeldAfter, Raised, Turns}
 
--- Resource r is held: it is below 64 and bit r of the registers is set, or it is the address of a byte that is in the plane.
+-- Resource r is held: it is below 64 and bit r of the registers is set, or it is the address of a byte that is in
+-- the plane.
 abbrev pub Holds : Taint → ℕ → Type 0
 Holds t r = ((r < 64) × Bit t.regs r) ⊎ IsTrue (in_plane t.bytes r)
 
--- It stands at slot i of hart h: what it holds are exactly the resources that are race-dependent after slot i - 1, `steered` is the
--- greatest target of a steered slot below i, and `covered` that of any branch or JAL below i, or 0.
+-- It stands at slot i of hart h: what it holds are exactly the resources that are race-dependent after slot i - 1,
+-- `steered` is the greatest target of a steered slot below i, and `covered` that of any branch or JAL below i, or 0.
 pub record StandsAt (case : Case) (h i : ℕ) (t : Taint) : Type 0 where
   pub stands : (cases : Cases) (c : ℕ) → AreShaped cases → slice_get cases.cases c ≡ Some case
       → Stands (slots_in cases c h) i (Holds t) t.steered t.covered

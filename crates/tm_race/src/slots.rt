@@ -75,7 +75,8 @@ pub fn raised(target: Option<u32>, counts: bool, old: u32) -> u32
     }
 }
 
-/// Whether what a slot writes depends: it races, it reads what depends, or it stands below the reach of steered slots.
+/// Whether what a slot writes depends: it races, it reads what depends, or it stands below the reach of steered
+/// slots.
 pub fn marks_of(races: bool, reads: bool, n: u32, reach: u32) -> bool
     ensures { IsTrue result ↔ (IsTrue races ⊎ (IsTrue reads ⊎ (n < reach))) }
 {

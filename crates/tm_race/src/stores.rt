@@ -55,8 +55,8 @@ pub fn stream_of(case: &Case, h: u32) -> &Stream
     &case.streams.as_slice()[h as usize]
 }
 
-/// The bytes to which hart `h` has a store slot, executed or not: one bit for each byte of the windows. `h` is below the number of
-/// streams, and the case is one of shaped cases.
+/// The bytes to which hart `h` has a store slot, executed or not: one bit for each byte of the windows. `h` is below
+/// the number of streams, and the case is one of shaped cases.
 pub fn store_plane(case: &Case, h: u32) -> [u64; 96]
     requires case { IsOfShaped case.now }
     requires hart { h < length case.now.streams }
@@ -65,8 +65,8 @@ pub fn store_plane(case: &Case, h: u32) -> [u64; 96]
     words_plane(stream_of(case, h).words.as_slice())
 }
 
-/// Whether hart `h` has a store slot that covers `addr`, executed or not. `h` is below the number of streams, and the case is one of
-/// shaped cases.
+/// Whether hart `h` has a store slot that covers `addr`, executed or not. `h` is below the number of streams, and
+/// the case is one of shaped cases.
 pub fn may_write(case: &Case, h: u32, addr: u64) -> bool
     requires case { IsOfShaped case.now }
     requires hart { h < length case.now.streams }

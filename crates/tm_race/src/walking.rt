@@ -15,9 +15,9 @@ use tm_plan::{Case, Stream};
 use tm_plane::{meets, overwritten};
 use tm_table::{Instr, decode};
 
-/// What depends on a race before a slot: register r where bit r of `regs` is set, and byte q of the windows, counted from 0x80E80000,
-/// where bit q mod 64 of element q / 64 of `bytes` is set. `steered` is the greatest target of a steered slot before it, or 0, and
-/// `covered` the greatest target of any branch or JAL before it, or 0.
+/// What depends on a race before a slot: register r where bit r of `regs` is set, and byte q of the windows, counted
+/// from 0x80E80000, where bit q mod 64 of element q / 64 of `bytes` is set. `steered` is the greatest target of a
+/// steered slot before it, or 0, and `covered` the greatest target of any branch or JAL before it, or 0.
 #[derive(Clone, Copy)]
 pub struct Taint {
     pub regs: u64,
@@ -40,8 +40,9 @@ impl Taint {
         }
     }
 
-    /// Goes over slot `i` of hart `h`. `h` is below the number of streams, `i` below the stream's length, and the case is one of
-    /// shaped cases. `others` are the bytes with another may-writer, and `own` those whose only may-writer is `h`.
+    /// Goes over slot `i` of hart `h`. `h` is below the number of streams, `i` below the stream's length, and the
+    /// case is one of shaped cases. `others` are the bytes with another may-writer, and `own` those whose only
+    /// may-writer is `h`.
     pub fn forward(&mut self, case: &Case, h: u32, i: u32, others: &[u64; 96], own: &[u64; 96])
         requires case { IsOfShaped case.now }
         requires hart { h < length case.now.streams }

@@ -1,5 +1,4 @@
 -- A program is sound by its parts.
-use Rattle.std.proofs.Common.{ℕ, ◌<◌}
 use Rattle.tm_plan.specs.declared.program.Program.{Program}
 use Rattle.tm_world.specs.Whole.{Course}
 use Rattle.tm_legal.specs.Tame.{Formed}

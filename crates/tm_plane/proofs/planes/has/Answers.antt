@@ -1,5 +1,5 @@
-use Rattle.std.proofs.Common.{◌≡◌, arith}
-use Rattle.tm_plan_map.specs.Map.{window_at, windows_base}
+use Rattle.std.proofs.Common.{arith}
+use Rattle.tm_plan_map.specs.Map.{window_at}
 use Rattle.tm_plane.proofs.PlaneLemmas.{has-told, below-none, above-none}
 use Rattle.tm_plane.proofs.planes.has.Goals as goal
 

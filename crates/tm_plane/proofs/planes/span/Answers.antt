@@ -1,4 +1,4 @@
-use Rattle.std.proofs.Common.{◌≡◌, ◌+◌, ◌-◌, ◌*◌, ◌/◌, ◌%◌, ◌≤◌, ℕ, ap, sym, subst, ◌∙◌, arith}
+use Rattle.std.proofs.Common.{◌≡◌, ◌+◌, ◌-◌, ◌/◌, ◌%◌, ◌≤◌, ℕ, ap, sym, subst, ◌∙◌, arith}
 use Rattle.tm_plan_map.specs.Map.{window_at, windows_base}
 use Rattle.tm_plane.proofs.PlaneLemmas.{low-near, spans}
 use Rattle.tm_plane.proofs.planes.span.Goals as goal

@@ -1,6 +1,5 @@
-use Rattle.std.proofs.Common.{◌≡◌, ◌<◌, ℕ, length, bit_and, bit_or, ◌↔◌}
+use Rattle.std.proofs.Common.{◌≡◌, ◌<◌, ℕ, length, bit_or}
 use Rattle.std.specs.Prelude.{slice_index}
-use Rattle.tm_plane.specs.Plane.{Bit}
 use Rattle.tm_plane.proofs.planes.union.Given as goal
 
 abbrev pub invariant-loop-e : goal.invariant-loop-e

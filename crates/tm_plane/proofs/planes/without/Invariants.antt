@@ -1,4 +1,4 @@
-use Rattle.std.proofs.Common.{◌≡◌, ◌<◌, ℕ, length, bit_and, bit_or, ◌↔◌}
+use Rattle.std.proofs.Common.{◌≡◌, ◌<◌, ℕ, length, ◌↔◌}
 use Rattle.std.specs.Prelude.{slice_index}
 use Rattle.tm_plane.specs.Plane.{Bit}
 use Rattle.tm_plane.proofs.planes.without.Given as goal
