@@ -1,4 +1,4 @@
--- Laws of runs in which harts meet (this project's own).
+-- Laws of runs of one memory (this project's own).
 use Rattle.std.specs.Prelude.{◌≢◌, ℕ, ◌^◌, ◌<◌}
 use Rattle.tm_plan.specs.declared.program.Program.{Program}
 use Rattle.tm_world.specs.Place.{harts, halt_of}

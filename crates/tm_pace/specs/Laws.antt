@@ -1,4 +1,4 @@
--- Laws of runs in which harts meet (this project's own).
+-- Laws of how much harts work (this project's own).
 use Rattle.std.specs.Prelude.{◌^◌, ℕ, suc, ◌+◌, ◌*◌, ◌<◌, ◌≤◌, length, IsFalse}
 use Rattle.tm_plan.specs.declared.program.Program.{Program}
 use Rattle.tm_plan.specs.Collected.{sum_of, work_of, budget_of}

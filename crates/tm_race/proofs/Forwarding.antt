@@ -1,11 +1,11 @@
 -- A walk that stands at a slot stands behind it once it went over it.
-use Rattle.std.proofs.Common.{◌≡◌, ◌≢◌, ℕ, ◌+◌, ◌<◌, ◌≤◌, true, Some, IsTrue, List, length, sym, subst, ◌∙◌, arith}
+use Rattle.std.proofs.Common.{◌≡◌, ◌≢◌, ℕ, ◌+◌, true, Some, List, length, sym, subst, ◌∙◌, arith}
 use Rattle.std.specs.Prelude.{slice_get}
 use Rattle.tm_table.specs.declared.instr.Instr.{Instr}
 use Rattle.tm_plan.specs.declared.cases.Case.{Case}
 use Rattle.tm_plan.specs.declared.cases.Stream.{Stream}
 use Rattle.tm_plan_map.specs.Map.{within}
-use Rattle.tm_plan_map.specs.Slots.{instr_of, load_width, store_width, slot_addr}
+use Rattle.tm_plan_map.specs.Slots.{instr_of, store_width, slot_addr}
 use Rattle.tm_plan.specs.Collected.{is_declared}
 use Rattle.tm_plan.specs.Shaped.{IsShapedSlot}
 use Rattle.tm_plan.proofs.Within.{within-parts}

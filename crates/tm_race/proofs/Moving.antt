@@ -1,8 +1,8 @@
 -- One slot, by planes.
-use Rattle.std.proofs.Common.{◌≡◌, ◌≢◌, ℕ, zero, suc, ◌+◌, ◌-◌, ◌/◌, ◌%◌, ◌<◌, ◌≤◌, ◌^◌, ◌||◌, ◌↔◌, ◌⊎◌, inl, inr, List, [], ◌∷◌, ◌++◌, length, Bool, true, false, IsTrue, nat_lt, not, ◌==◌, refl, sym, ap, subst, ◌∙◌, arith, eqb-true}
+use Rattle.std.proofs.Common.{◌≡◌, ◌≢◌, ℕ, zero, suc, ◌+◌, ◌-◌, ◌/◌, ◌%◌, ◌<◌, ◌≤◌, ◌||◌, ◌↔◌, ◌⊎◌, inl, inr, List, [], ◌∷◌, ◌++◌, length, Bool, true, false, IsTrue, nat_lt, not, ◌==◌, refl, sym, ap, subst, ◌∙◌, arith, eqb-true}
 use Rattle.std.specs.Prelude.{Contains, slice_index, replicate, take, if◌then◌else◌}
 use Rattle.std.proofs.lemmas.List.{take_more}
-use Rattle.std.proofs.lemmas.Bool.{cases_eq, cases_Bool, false≢true, true≢false, false_from_ne_true, ltb-true, lt-ltb}
+use Rattle.std.proofs.lemmas.Bool.{cases_eq, false≢true, false_from_ne_true, ltb-true, lt-ltb}
 use Rattle.std.proofs.lemmas.List.Elements.{Contains-append_left, Contains-append_right, Contains-append_cases}
 use Rattle.tm_plan_map.specs.Map.{windows_base, within}
 use Rattle.tm_base.specs.Lists.{any, count_from}
@@ -10,7 +10,7 @@ use Rattle.tm_plan.proofs.Within.{within-parts, within-true}
 use Rattle.tm_world.specs.Lists.{those}
 use Rattle.tm_world.specs.Slots.{named}
 use Rattle.tm_plane.specs.Plane.{Bit, in_plane, Overwritten}
-use Rattle.tm_plane.proofs.WordLemmas.{bit-lt, bit-none}
+use Rattle.tm_plane.proofs.WordLemmas.{bit-none}
 use Rattle.tm_plane.proofs.PlaneLemmas.{in-plane, any-counted}
 
 -- ---- lists

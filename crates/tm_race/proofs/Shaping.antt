@@ -1,8 +1,8 @@
 -- What shaped cases give to tracking.
-use Rattle.std.proofs.Common.{◌≡◌, ◌≢◌, ℕ, zero, suc, ◌+◌, ◌-◌, ◌*◌, ◌%◌, ◌<◌, ◌≤◌, ◌⊎◌, inl, inr, List, [], ◌∷◌, length, Bool, true, ◌||◌, nat_lt, Some, refl, sym, ap, subst, arith, get_or, ◌∙◌, false}
+use Rattle.std.proofs.Common.{◌≡◌, ◌≢◌, ℕ, zero, suc, ◌+◌, ◌-◌, ◌*◌, ◌%◌, ◌<◌, ◌≤◌, ◌⊎◌, inl, inr, List, [], ◌∷◌, length, Bool, true, Some, refl, ap, subst, arith, get_or, ◌∙◌, false}
 use Rattle.std.specs.Prelude.{All, Contains, slice_get}
-use Rattle.std.proofs.lemmas.Bool.{ltb-true, lt-ltb, or_left, or_right}
-use Rattle.std.proofs.lemmas.Option.{slice_get-get_or, slice_get_within}
+use Rattle.std.proofs.lemmas.Bool.{lt-ltb, or_left, or_right}
+use Rattle.std.proofs.lemmas.Option.{slice_get-get_or}
 use Rattle.std.proofs.lemmas.List.Elements.{All-contains}
 use Rattle.tm_table.specs.declared.instr.Op.{Op}
 use Rattle.tm_table.specs.declared.instr.Op.TheVariants.{Lb, Lh, Lw, Ld, Lbu, Lhu, Lwu, Sb, Sh, Sw, Sd}
@@ -10,8 +10,7 @@ use Rattle.tm_table.specs.declared.instr.Instr.{Instr}
 use Rattle.tm_plan.specs.declared.cases.Cases.{Cases}
 use Rattle.tm_plan.specs.declared.cases.Case.{Case}
 use Rattle.tm_plan.specs.declared.cases.Stream.{Stream}
-use Rattle.tm_plan_map.specs.declared.windows.Window.{Window}
-use Rattle.tm_plan_map.specs.Map.{window_at, windows_base, windows_size, within}
+use Rattle.tm_plan_map.specs.Map.{window_at, windows_size, within}
 use Rattle.tm_plan.specs.Collected.{declares, is_declared}
 use Rattle.tm_base.specs.Lists.{any}
 use Rattle.tm_plan_map.specs.Slots.{instr_of, load_width, store_width, is_access, slot_addr}
@@ -19,7 +18,7 @@ use Rattle.tm_plan.specs.Shaped.{IsPlaced, IsShapedSlot, IsShapedStream, IsShape
 use Rattle.tm_plan.proofs.Within.{within-parts, within-true}
 use Rattle.tm_legal.proofs.Streams.{all-at}
 use Rattle.tm_plane.specs.Plane.{IsNear}
-use Rattle.tm_race.specs.Slots.{IsBase, IsLoad, IsStore, IsStoreWord, IsNamed, IsTracked}
+use Rattle.tm_race.specs.Slots.{IsLoad, IsStore, IsStoreWord, IsTracked}
 
 -- ---- widths
 

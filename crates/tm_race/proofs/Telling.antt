@@ -1,20 +1,19 @@
 -- The slots that planes tell are those of the definition.
-use Rattle.std.proofs.Common.{◌≡◌, ℕ, zero, suc, ◌+◌, ◌<◌, ◌≤◌, List, [], ◌∷◌, ◌++◌, length, Bool, true, false, ◌&&◌, ◌||◌, not, ◌==◌, Option, None, Some, refl, sym, ap, ap₂, ◌∙◌, subst, arith}
+use Rattle.std.proofs.Common.{◌≡◌, ℕ, zero, suc, List, [], ◌∷◌, ◌++◌, Bool, true, ◌&&◌, ◌||◌, not, ◌==◌, Option, Some, refl, sym, ap, ap₂, ◌∙◌, arith}
 use Rattle.std.specs.Prelude.{slice_get, if◌then◌else◌}
-use Rattle.std.proofs.lemmas.Bool.{and_parts, false≢true}
 use Rattle.tm_table.specs.declared.instr.Instr.{Instr}
 use Rattle.tm_plan.specs.declared.cases.Cases.{Cases}
 use Rattle.tm_plan.specs.declared.cases.Case.{Case}
 use Rattle.tm_plan.specs.declared.cases.Stream.{Stream}
 use Rattle.tm_plan_map.specs.Map.{within}
-use Rattle.tm_plan_map.specs.Slots.{instr_of, load_width, store_width, slot_addr}
+use Rattle.tm_plan_map.specs.Slots.{instr_of, store_width, slot_addr}
 use Rattle.tm_plan.specs.Collected.{is_declared}
 use Rattle.tm_base.specs.Lists.{any, count_from}
-use Rattle.tm_plan.specs.Shaped.{AreShaped, IsPlaced, IsShapedSlot}
+use Rattle.tm_plan.specs.Shaped.{AreShaped}
 use Rattle.tm_plan.proofs.Within.{within-parts, within-true}
 use Rattle.tm_world.specs.Lists.{those}
-use Rattle.tm_world.specs.Writers.{some_store_to, stream_in, may_store}
-use Rattle.tm_world.specs.Slots.{Slot, another_may_store, is_own_byte, named, load_bytes, store_bytes, target_of, slot_of, word_slot, words_slots, slots_in}
+use Rattle.tm_world.specs.Writers.{some_store_to, may_store}
+use Rattle.tm_world.specs.Slots.{another_may_store, is_own_byte, named, load_bytes, target_of, slot_of, word_slot, words_slots, slots_in}
 use Rattle.tm_legal.proofs.Streams.{stream-case}
 use Rattle.tm_plane.specs.Plane.{in_plane}
 use Rattle.tm_race.specs.Slots.{plane_slot, reads_of}

@@ -1,6 +1,4 @@
-use Rattle.std.proofs.Common.{◌≢◌, ◌≡◌, ℕ, ◌↔◌, ◌⊎◌, [], ◌∷◌, inl, inr}
-use Rattle.std.specs.Prelude.{Contains}
-use Rattle.tm_world.specs.Slots.{named}
+use Rattle.std.proofs.Common.{inl, inr}
 use Rattle.tm_plane.proofs.WordLemmas.{bit-none}
 use Rattle.tm_race.proofs.Moving.{one-named, two-named}
 use Rattle.tm_race.proofs.slots.sources.Goals as goal

@@ -1,4 +1,4 @@
-use Rattle.std.proofs.Common.{◌⊎◌, inl, inr}
+use Rattle.std.proofs.Common.{inl, inr}
 use Rattle.tm_world.specs.Slots.{slots_in}
 use Rattle.tm_plane.proofs.WordLemmas.{bit-none}
 use Rattle.tm_race.proofs.OneSlot.{stands_as, stands_zero}

@@ -1,4 +1,4 @@
-use Rattle.std.proofs.Common.{◌≡◌, ◌<◌, ◌⊎◌, ℕ, [], ◌∷◌, inl, inr, sym, ◌∙◌, arith}
+use Rattle.std.proofs.Common.{◌<◌, ℕ, [], ◌∷◌, inl, inr, sym, ◌∙◌, arith}
 use Rattle.std.specs.Prelude.{Contains}
 use Rattle.tm_plan_map.specs.Slots.{slot_addr, load_width}
 use Rattle.tm_world.specs.Slots.{named}

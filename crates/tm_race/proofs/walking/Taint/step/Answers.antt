@@ -1,8 +1,5 @@
 use Rattle.std.proofs.Common.{◌≡◌, ◌<◌, ◌⊎◌, ◌↔◌, ℕ, Option, IsTrue, true, nat_lt, refl, subst}
 use Rattle.tm_plan_map.specs.Slots.{slot_addr, store_width, is_branch}
-use Rattle.tm_base.specs.Lists.{any}
-use Rattle.tm_world.specs.Slots.{load_bytes}
-use Rattle.tm_plane.specs.Plane.{in_plane}
 use Rattle.tm_race.specs.Forward.{ReadsHeld, Raised, Turns}
 use Rattle.tm_race.specs.Slots.{plane_slot}
 use Rattle.tm_race.specs.Taints.{Holds}
