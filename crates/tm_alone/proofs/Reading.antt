@@ -4,9 +4,9 @@ use Rattle.std.specs.Prelude.{IsTrue, IsFalse, IfSome, All, if◌then◌else◌}
 use Rattle.std.proofs.lemmas.Bool.{cases_eq, and_from, or_from, lt-ltb, false≢true}
 use Rattle.tm_table.specs.declared.state.Access.{Access}
 use Rattle.tm_table.specs.declared.state.Access.TheVariants.{Quiet, Read, Write}
-use Rattle.tm_plan.specs.declared.program.Program.{Program}
+use Rattle.tm_plan_cases.specs.declared.program.Program.{Program}
 use Rattle.tm_plan_map.specs.Map.{window_at, windows_base, within}
-use Rattle.tm_plan.specs.Collected.{is_declared, owned}
+use Rattle.tm_plan_cases.specs.Collected.{is_declared, owned}
 use Rattle.tm_base.specs.Lists.{any}
 use Rattle.tm_world.specs.Lists.{or_else}
 use Rattle.tm_world.specs.Place.{case_count, passes, exit_of, byte_of}

@@ -3,10 +3,10 @@ use Rattle.std.proofs.Common.{◌≡◌, ℕ, zero, suc, ◌+◌, ◌*◌, ◌<�
 use Rattle.std.specs.Prelude.{IsTrue, slice_get, unwrap_or}
 use Rattle.std.proofs.lemmas.Bool.{cases_eq, false≢true}
 use Rattle.std.proofs.lemmas.Option.{slice_get_within}
-use Rattle.tm_plan.specs.declared.program.Program.{Program}
-use Rattle.tm_plan.specs.declared.cases.Case.{Case}
+use Rattle.tm_plan_cases.specs.declared.program.Program.{Program}
+use Rattle.tm_plan_cases.specs.declared.cases.Case.{Case}
 use Rattle.tm_plan_map.specs.Map.{text_base}
-use Rattle.tm_plan.specs.Collected.{is_declared, collector}
+use Rattle.tm_plan_cases.specs.Collected.{is_declared, collector}
 use Rattle.tm_world.specs.Lists.{or_else}
 use Rattle.tm_world.specs.Place.{harts, case_count, exit_of, image_byte}
 use Rattle.tm_world.specs.Run.{Step, Run, own, now, first_state, hart_of, access_of, phase, in_phase, written, last_write}

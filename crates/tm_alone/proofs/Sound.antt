@@ -1,6 +1,6 @@
 -- A program with one hart is sound where its hart does on half runs what it should.
 use Rattle.std.proofs.Common.{◌≡◌, ℕ, ◌<◌, subst, arith}
-use Rattle.tm_plan.specs.declared.program.Program.{Program}
+use Rattle.tm_plan_cases.specs.declared.program.Program.{Program}
 use Rattle.tm_world.specs.Place.{harts}
 use Rattle.tm_world.specs.Course.{OnHalf, HartCourse}
 use Rattle.tm_world.specs.Whole.{Course}

@@ -3,8 +3,8 @@ use Rattle.std.proofs.Common.{◌≡◌, ℕ, ◌+◌, ◌*◌, ◌%◌, ◌<◌
 use Rattle.std.specs.Prelude.{IsTrue, IsFalse, unwrap_or}
 use Rattle.std.proofs.lemmas.Bool.{true≢false}
 use Rattle.tm_table.specs.State.{Hart}
-use Rattle.tm_plan.specs.declared.program.Program.{Program}
-use Rattle.tm_plan.specs.Collected.{is_declared}
+use Rattle.tm_plan_cases.specs.declared.program.Program.{Program}
+use Rattle.tm_plan_cases.specs.Collected.{is_declared}
 use Rattle.tm_world.specs.Place.{harts, exit_of, image_byte}
 use Rattle.tm_world.specs.Lists.{or_else}
 use Rattle.tm_world.specs.Run.{Step, Run, own, now, first_state, access_of, phase, written, last_write}

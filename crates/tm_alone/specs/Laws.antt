@@ -1,9 +1,9 @@
 -- Laws of the legal runs of a program with one hart (this project's own).
 use Rattle.std.specs.Prelude.{◌≡◌, ℕ, ◌+◌, ◌*◌, ◌<◌, ◌≤◌, length, Some, IsTrue}
-use Rattle.tm_plan.specs.declared.program.Program.{Program}
-use Rattle.tm_plan.specs.Collected.{is_declared, work_of}
-use Rattle.tm_plan.specs.Shaped.{IsProgram, IsTyped}
-use Rattle.tm_plan.specs.Tables.{table_bytes}
+use Rattle.tm_plan_cases.specs.declared.program.Program.{Program}
+use Rattle.tm_plan_cases.specs.Collected.{is_declared, work_of}
+use Rattle.tm_plan_cases.specs.Shaped.{IsProgram, IsTyped}
+use Rattle.tm_plan_cases.specs.Tables.{table_bytes}
 use Rattle.tm_world.specs.Place.{harts, case_count, passes}
 use Rattle.tm_world.specs.Run.{Run}
 use Rattle.tm_world.specs.Kinds.{Legal}

@@ -1,9 +1,9 @@
 -- What one hart's support code sets before each stay in a stream (this project's own).
 use Rattle.std.specs.Prelude.{◌≡◌, ℕ, List, ◌∷◌, slice_get, Some, IsTrue}
 use Rattle.tm_table.specs.State.{Hart}
-use Rattle.tm_plan.specs.declared.program.Program.{Program}
-use Rattle.tm_plan.specs.declared.cases.Case.{Case}
-use Rattle.tm_plan.specs.Collected.{is_declared, collector}
+use Rattle.tm_plan_cases.specs.declared.program.Program.{Program}
+use Rattle.tm_plan_cases.specs.declared.cases.Case.{Case}
+use Rattle.tm_plan_cases.specs.Collected.{is_declared, collector}
 use Rattle.tm_world.specs.Place.{case_of_round, first_dwords}
 use Rattle.tm_world.specs.Run.{Step, Always, now, last_write}
 use Rattle.tm_world.specs.Marks.{Enter, comes_to}

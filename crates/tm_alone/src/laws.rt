@@ -1,7 +1,7 @@
 // Laws over the definitions, each as the contract of a function that does nothing.
 ghost use Rattle.tm_alone.specs.Laws.{FirstBytesSettle, PassesAgree, Silent, SoundAlone};
 
-use tm_plan::Program;
+use tm_plan_cases::Program;
 
 /// With one hart, on legal runs shared memory has settled to a case's first bytes where a stream begins.
 ///

@@ -10,8 +10,8 @@ use Rattle.tm_runs.specs.Machine.{World, State, Entry, MayAccess}
 use Rattle.tm_runs.specs.Runs.{Now, Does}
 use Rattle.tm_runs.proofs.Compose.{keeps_after, keeps_map}
 use Rattle.tm_runs.proofs.Tables.{at_front, at_next}
-use Rattle.tm_blocks.specs.Laws.{accesses}
-use Rattle.tm_blocks.specs.Instrs.{fence, go_to}
+use Rattle.tm_blocks_base.specs.Laws.{accesses}
+use Rattle.tm_blocks_base.specs.Instrs.{fence, go_to}
 use Rattle.tm_barrier.specs.Words.{prepare, signal, wait, turn, waits, meet, barrier}
 use Rattle.tm_barrier.specs.Laws.{Meeting, Meets, Looks, signals_in, idles_in, Barred, HasMet, MeetRuns, FenceRuns, ReturnRuns}
 use Rattle.tm_runs.proofs.Steps.{step_fence, step_jalr}

@@ -18,10 +18,10 @@ use Rattle.tm_runs.proofs.Compose.{takes_then, takes_map}
 use Rattle.tm_runs.proofs.Split.{takes_since, takes_count}
 use Rattle.tm_runs.proofs.Steps.{step_ld, step_sd, step_addi, step_slli, written, branched}
 use Rattle.tm_runs.proofs.Tables.{get_put_other, at_front, at_next}
-use Rattle.tm_blocks.specs.Instrs.{addi, slli, ld, sd}
-use Rattle.tm_blocks.specs.Laws.{Uses, RegistersFit, accesses}
-use Rattle.tm_blocks.proofs.Dwords.{fit_put}
-use Rattle.tm_blocks.specs.Instrs.{fence}
+use Rattle.tm_blocks_base.specs.Instrs.{addi, slli, ld, sd}
+use Rattle.tm_blocks_base.specs.Laws.{Uses, RegistersFit, accesses}
+use Rattle.tm_blocks_base.proofs.Dwords.{fit_put}
+use Rattle.tm_blocks_base.specs.Instrs.{fence}
 use Rattle.tm_barrier.specs.Words.{prepare, signal}
 use Rattle.tm_barrier.specs.Laws.{Meeting, Meets, signals_in, is_fence_in, idles_in, Keeps-in-step, Barred}
 use Rattle.tm_runs.proofs.Steps.{step_fence}

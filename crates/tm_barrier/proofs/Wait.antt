@@ -14,10 +14,10 @@ use Rattle.tm_runs.specs.Runs.{Takes, Now, Keeps, At, Does}
 use Rattle.tm_runs.proofs.Compose.{keeps_then, keeps_map, keeps_now, keeps_spin, Turned}
 use Rattle.tm_runs.proofs.Steps.{step_ld, branched}
 use Rattle.tm_runs.proofs.Tables.{get_put_other}
-use Rattle.tm_blocks.specs.Instrs.{ld}
-use Rattle.tm_blocks.specs.Laws.{RegistersFit}
-use Rattle.tm_blocks.proofs.Dwords.{fit_put}
-use Rattle.tm_blocks.specs.Instrs.{bltu_back}
+use Rattle.tm_blocks_base.specs.Instrs.{ld}
+use Rattle.tm_blocks_base.specs.Laws.{RegistersFit}
+use Rattle.tm_blocks_base.proofs.Dwords.{fit_put}
+use Rattle.tm_blocks_base.specs.Instrs.{bltu_back}
 use Rattle.tm_barrier.specs.Words.{wait, waits}
 use Rattle.tm_barrier.specs.Laws.{Looks, idles_in}
 use Rattle.tm_runs.proofs.Steps.{step_bltu}

@@ -3,7 +3,7 @@ use Rattle.std.proofs.Common.{◌≡◌, ◌≢◌, ℕ, suc, ◌+◌, ◌*◌, 
 use Rattle.std.specs.Prelude.{if◌then◌else◌}
 use Rattle.tm_table.specs.declared.state.Access.TheVariants.{Quiet}
 use Rattle.tm_table.specs.Words.{word_of}
-use Rattle.tm_plan.specs.declared.program.Program.{Program}
+use Rattle.tm_plan_cases.specs.declared.program.Program.{Program}
 use Rattle.tm_plan_map.specs.Map.{flag_at}
 use Rattle.tm_world.specs.Place.{harts, exit_of}
 use Rattle.tm_world.specs.Marks.{Mark, Exit}
@@ -12,7 +12,7 @@ use Rattle.tm_runs.specs.Runs.{Keeps, At, Each, Does}
 use Rattle.tm_runs.specs.Course.{trail, Story, Sofar, Good}
 use Rattle.tm_runs.proofs.Compose.{keeps_after, keeps_then, keeps_map, keeps_now, takes_map}
 use Rattle.tm_runs.proofs.Tables.{get_put_zero, at_front, at_next}
-use Rattle.tm_blocks.specs.Instrs.{fence, go_to}
+use Rattle.tm_blocks_base.specs.Instrs.{fence, go_to}
 use Rattle.tm_barrier.specs.Words.{meet, barrier}
 use Rattle.tm_barrier.specs.Laws.{Meeting, Meets, Barred, HasMet, after_fence, after_return}
 use Rattle.tm_barrier.specs.Course.{Keeping, work_at, Comes, PassesBarrier}

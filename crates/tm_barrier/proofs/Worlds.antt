@@ -1,7 +1,7 @@
 -- The worlds of a program's harts have what a barrier takes.
 use Rattle.std.proofs.Common.{◌≡◌, ℕ, ◌+◌, ◌<◌, ◌≤◌, ◌||◌, ap, Bool, true, false, refl, arith}
 use Rattle.std.proofs.lemmas.Bool.Decides.{nat_tests}
-use Rattle.tm_plan.specs.declared.program.Program.{Program}
+use Rattle.tm_plan_cases.specs.declared.program.Program.{Program}
 use Rattle.tm_plan_map.specs.Map.{guest_base, guest_end, private_at, private_size, flag_at}
 use Rattle.tm_world.specs.Place.{harts}
 use Rattle.tm_runs.specs.World.{Sizes, is_fixed_dword, is_private_dword, is_guest_dword, world_of}

@@ -11,8 +11,8 @@ use Rattle.tm_world.specs.Work.{gets_less}
 use Rattle.tm_runs.specs.Machine.{Entry, State, World, put, get, moved}
 use Rattle.tm_runs.specs.Runs.{Takes, Keeps, At, Each, Does}
 use Rattle.tm_runs.specs.Course.{Story}
-use Rattle.tm_blocks.specs.Laws.{Uses, EachAccess, accesses, RegistersFit}
-use Rattle.tm_blocks.specs.Instrs.{fence, go_to}
+use Rattle.tm_blocks_base.specs.Laws.{Uses, EachAccess, accesses, RegistersFit}
+use Rattle.tm_blocks_base.specs.Instrs.{fence, go_to}
 use Rattle.tm_barrier.specs.Words.{meet}
 
 -- ---- accesses

@@ -3,8 +3,8 @@
 use Rattle.std.specs.Prelude.{ℕ, ◌*◌, ◌==◌, List, [], ◌∷◌, ◌++◌, flat_map, if◌then◌else◌}
 use Rattle.tm_table.specs.declared.instr.Instr.{Instr}
 use Rattle.tm_base.specs.Lists.{count_from}
-use Rattle.tm_blocks.specs.Instrs.{addi, slli, ld, sd}
-use Rattle.tm_blocks.specs.Instrs.{fence, bltu_back, go_to}
+use Rattle.tm_blocks_base.specs.Instrs.{addi, slli, ld, sd}
+use Rattle.tm_blocks_base.specs.Instrs.{fence, bltu_back, go_to}
 
 -- The count of exits, 256 bytes into the private area, goes up by one into x2, and x3 is the address of the first
 -- flag: 515 * 2 ^ 22.

@@ -1,6 +1,6 @@
 // A hart's barrier, appended as its words.
 ghost use Rattle.std.specs.Prelude.{◌≡◌, ◌+◌, ◌*◌, ◌<◌, ◌≤◌, [], ◌∷◌, length, OnOk, IfOk};
-ghost use Rattle.tm_blocks.specs.Instrs.{fence, go_to};
+ghost use Rattle.tm_blocks_base.specs.Instrs.{fence, go_to};
 ghost use Rattle.tm_base.specs.Lists.{count_from};
 ghost use Rattle.tm_asm.specs.Sheet.{puts};
 ghost use Rattle.tm_barrier.specs.Words.{prepare, signal, wait, turn, waits, meet, barrier};

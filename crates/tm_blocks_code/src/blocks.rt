@@ -1,8 +1,8 @@
 // Blocks appended to code. Without memory a part may have been appended.
 ghost use Rattle.std.specs.Prelude.{◌≡◌, ◌<◌, ◌≤◌, ◌*◌, ◌/◌, ◌%◌, ◌^◌, OnOk};
 ghost use Rattle.tm_asm.specs.Sheet.{puts};
-ghost use Rattle.tm_blocks.specs.Blocks.{constant, load_registers, save_registers};
-ghost use Rattle.tm_blocks.specs.Laws.{ConstantRuns, LoadAllButLastRuns, LastLoadRuns, LoadRegistersRuns, SaveRegistersRuns};
+ghost use Rattle.tm_blocks_base.specs.Blocks.{constant, load_registers, save_registers};
+ghost use Rattle.tm_blocks_base.specs.Laws.{ConstantRuns, LoadAllButLastRuns, LastLoadRuns, LoadRegistersRuns, SaveRegistersRuns};
 
 use crate::instrs::{addi, ld, sd, slli};
 use crate::put::put_all;

@@ -1,12 +1,12 @@
 // Instructions of support code (RV64I 2.1). Registers are below 32, and distances are in bytes.
 ghost use Rattle.std.specs.Prelude.{◌≡◌, ◌<◌, ◌≤◌, ◌%◌};
 ghost use Rattle.tm_table.specs.Words.{Fits};
-ghost use Rattle.tm_blocks.specs.Instrs.{add, addi, and, beq, bltu_back, bne, bne_back, fence, go_to, jump, ld, sd, slli, subi, xor};
+ghost use Rattle.tm_blocks_base.specs.Instrs.{add, addi, and, beq, bltu_back, bne, bne_back, fence, go_to, jump, ld, sd, slli, subi, xor};
 
 use tm_table::{Instr, Op};
 
 /// Register `rd` becomes register `rs1` plus `n`, below 2048.
-#[tactic(auto, using(tm_blocks::proofs::Fitting::addi_fits))]
+#[tactic(auto, using(tm_blocks_base::proofs::Fitting::addi_fits))]
 pub fn addi(rd: u8, rs1: u8, n: u16) -> Instr
     requires registers { (rd < 32) × (rs1 < 32) }
     requires number { n < 2048 }
@@ -40,7 +40,7 @@ pub fn subi(rd: u8, rs1: u8, n: u16) -> Instr
 }
 
 /// Register `rd` becomes register `rs1` shifted left by `n`, below 64.
-#[tactic(auto, using(tm_blocks::proofs::Fitting::slli_fits))]
+#[tactic(auto, using(tm_blocks_base::proofs::Fitting::slli_fits))]
 pub fn slli(rd: u8, rs1: u8, n: u8) -> Instr
     requires registers { (rd < 32) × (rs1 < 32) }
     requires number { n < 64 }
@@ -57,7 +57,7 @@ pub fn slli(rd: u8, rs1: u8, n: u8) -> Instr
 }
 
 /// Register `rd` becomes the sum of registers `rs1` and `rs2`.
-#[tactic(auto, using(tm_blocks::proofs::Fitting::add_fits))]
+#[tactic(auto, using(tm_blocks_base::proofs::Fitting::add_fits))]
 pub fn add(rd: u8, rs1: u8, rs2: u8) -> Instr
     requires { (rd < 32) × (rs1 < 32) × (rs2 < 32) }
     ensures is { result ≡ add rd rs1 rs2 }
@@ -73,7 +73,7 @@ pub fn add(rd: u8, rs1: u8, rs2: u8) -> Instr
 }
 
 /// Register `rd` becomes registers `rs1` and `rs2` by exclusive or.
-#[tactic(auto, using(tm_blocks::proofs::Fitting::xor_fits))]
+#[tactic(auto, using(tm_blocks_base::proofs::Fitting::xor_fits))]
 pub fn xor(rd: u8, rs1: u8, rs2: u8) -> Instr
     requires { (rd < 32) × (rs1 < 32) × (rs2 < 32) }
     ensures is { result ≡ xor rd rs1 rs2 }
@@ -89,7 +89,7 @@ pub fn xor(rd: u8, rs1: u8, rs2: u8) -> Instr
 }
 
 /// Register `rd` becomes registers `rs1` and `rs2` by and.
-#[tactic(auto, using(tm_blocks::proofs::Fitting::and_fits))]
+#[tactic(auto, using(tm_blocks_base::proofs::Fitting::and_fits))]
 pub fn and(rd: u8, rs1: u8, rs2: u8) -> Instr
     requires { (rd < 32) × (rs1 < 32) × (rs2 < 32) }
     ensures is { result ≡ and rd rs1 rs2 }
@@ -105,7 +105,7 @@ pub fn and(rd: u8, rs1: u8, rs2: u8) -> Instr
 }
 
 /// Register `rd` becomes the dword at register `base` plus `n`, below 2048.
-#[tactic(auto, using(tm_blocks::proofs::Fitting::ld_fits))]
+#[tactic(auto, using(tm_blocks_base::proofs::Fitting::ld_fits))]
 pub fn ld(rd: u8, n: u16, base: u8) -> Instr
     requires registers { (rd < 32) × (base < 32) }
     requires number { n < 2048 }
@@ -122,7 +122,7 @@ pub fn ld(rd: u8, n: u16, base: u8) -> Instr
 }
 
 /// The dword at register `base` plus `n`, below 2048, becomes register `source`.
-#[tactic(auto, using(tm_blocks::proofs::Fitting::sd_fits))]
+#[tactic(auto, using(tm_blocks_base::proofs::Fitting::sd_fits))]
 pub fn sd(source: u8, n: u16, base: u8) -> Instr
     requires registers { (source < 32) × (base < 32) }
     requires number { n < 2048 }
@@ -139,7 +139,7 @@ pub fn sd(source: u8, n: u16, base: u8) -> Instr
 }
 
 /// Goes `n` bytes on, an even number up to 4094, where registers `rs1` and `rs2` are equal.
-#[tactic(auto, using(tm_blocks::proofs::Fitting::beq_fits))]
+#[tactic(auto, using(tm_blocks_base::proofs::Fitting::beq_fits))]
 pub fn beq(rs1: u8, rs2: u8, n: u16) -> Instr
     requires registers { (rs1 < 32) × (rs2 < 32) }
     requires even { n % 2 ≡ 0 }
@@ -157,7 +157,7 @@ pub fn beq(rs1: u8, rs2: u8, n: u16) -> Instr
 }
 
 /// Goes `n` bytes on, an even number up to 4094, where registers `rs1` and `rs2` differ.
-#[tactic(auto, using(tm_blocks::proofs::Fitting::bne_fits))]
+#[tactic(auto, using(tm_blocks_base::proofs::Fitting::bne_fits))]
 pub fn bne(rs1: u8, rs2: u8, n: u16) -> Instr
     requires registers { (rs1 < 32) × (rs2 < 32) }
     requires even { n % 2 ≡ 0 }
@@ -211,7 +211,7 @@ pub fn bltu_back(rs1: u8, rs2: u8, n: u16) -> Instr
 }
 
 /// Goes `n` bytes on, an even number up to 1,048,574.
-#[tactic(auto, using(tm_blocks::proofs::Fitting::jump_fits))]
+#[tactic(auto, using(tm_blocks_base::proofs::Fitting::jump_fits))]
 pub fn jump(n: u32) -> Instr
     requires even { n % 2 ≡ 0 }
     requires near { n ≤ 1048574 }
@@ -228,7 +228,7 @@ pub fn jump(n: u32) -> Instr
 }
 
 /// Goes to the address in register `rs1`.
-#[tactic(auto, using(tm_blocks::proofs::Fitting::go_to_fits))]
+#[tactic(auto, using(tm_blocks_base::proofs::Fitting::go_to_fits))]
 pub fn go_to(rs1: u8) -> Instr
     requires { rs1 < 32 }
     ensures is { result ≡ go_to rs1 }
@@ -244,7 +244,7 @@ pub fn go_to(rs1: u8) -> Instr
 }
 
 /// All reads and writes before come before all behind it (RV64I 2.7).
-#[tactic(auto, using(tm_blocks::proofs::Fitting::fence_fits))]
+#[tactic(auto, using(tm_blocks_base::proofs::Fitting::fence_fits))]
 pub fn fence() -> Instr
     ensures is { result ≡ fence }
     ensures fits { Fits result }

@@ -2,18 +2,18 @@
 use Rattle.std.proofs.Common.{◌≡◌, ◌≢◌, ℕ, zero, suc, ◌+◌, ◌*◌, ◌/◌, ◌^◌, ◌<◌, ◌≤◌, ◌⊎◌, inl, inr, Bool, true, false, List, [], ◌∷◌, length, refl, sym, ap, ◌∙◌, arith, subst, eq-eqb, ne_eqb}
 use Rattle.std.specs.Prelude.{if◌then◌else◌}
 use Rattle.tm_table.specs.declared.instr.Instr.{Instr}
-use Rattle.tm_plan.specs.declared.cases.Cases.{Cases}
-use Rattle.tm_plan.specs.Shaped.{AreShaped}
+use Rattle.tm_plan_cases.specs.declared.cases.Cases.{Cases}
+use Rattle.tm_plan_cases.specs.Shaped.{AreShaped}
 use Rattle.tm_runs.specs.Machine.{World, State, Table, get, computes}
 use Rattle.tm_runs.specs.Runs.{Takes, Now, At, Within}
 use Rattle.tm_runs.proofs.Compose.{takes_then, takes_more, takes_map}
 use Rattle.tm_runs.proofs.Steps.{step_addi, step_bne_taken, step_bne_on, branched}
 use Rattle.tm_runs.proofs.Tables.{get_put_other, at_front, at_next}
-use Rattle.tm_blocks.specs.Instrs.{addi}
-use Rattle.tm_blocks.specs.Laws.{RegistersFit}
-use Rattle.tm_blocks.proofs.Dwords.{fit_put, on_quiet, on_branch}
+use Rattle.tm_blocks_base.specs.Instrs.{addi}
+use Rattle.tm_blocks_base.specs.Laws.{RegistersFit}
+use Rattle.tm_blocks_base.proofs.Dwords.{fit_put, on_quiet, on_branch}
 use Rattle.tm_plan_owned.specs.Lines.{line_count}
-use Rattle.tm_blocks.specs.Instrs.{bne_back}
+use Rattle.tm_blocks_base.specs.Instrs.{bne_back}
 use Rattle.tm_blocks_compare.specs.Words.{pass_tail, one_pass, all_passes}
 use Rattle.tm_blocks_compare.specs.Numbers.{either, first_register, first_dword, first_of_pass, verdict_from}
 use Rattle.tm_blocks_compare.proofs.Looks.{Found, Passed, either-some}

@@ -10,13 +10,13 @@ use Rattle.tm_runs.specs.Runs.{Takes, Now, At, Within, IsQuiet}
 use Rattle.tm_runs.proofs.Compose.{takes_then, takes_more, takes_map, within_map}
 use Rattle.tm_runs.proofs.Steps.{step_addi, step_and, step_xor, step_ld, step_bne, step_bne_taken, step_bne_on, branched}
 use Rattle.tm_runs.proofs.Tables.{get_put_other, at_front, at_next}
-use Rattle.tm_blocks.specs.Instrs.{addi, and, xor, ld}
-use Rattle.tm_blocks.specs.Blocks.{constant}
-use Rattle.tm_blocks.specs.Laws.{RegistersFit}
-use Rattle.tm_blocks.proofs.Lengths.{length-constant}
-use Rattle.tm_blocks.proofs.Dwords.{fit_put, fit_three, on_quiet, on_branch, on_read}
-use Rattle.tm_blocks.proofs.Constant.{constant_takes}
-use Rattle.tm_blocks.specs.Instrs.{subi, bne_back}
+use Rattle.tm_blocks_base.specs.Instrs.{addi, and, xor, ld}
+use Rattle.tm_blocks_base.specs.Blocks.{constant}
+use Rattle.tm_blocks_base.specs.Laws.{RegistersFit}
+use Rattle.tm_blocks_base.proofs.Lengths.{length-constant}
+use Rattle.tm_blocks_base.proofs.Dwords.{fit_put, fit_three, on_quiet, on_branch, on_read}
+use Rattle.tm_blocks_base.proofs.Constant.{constant_takes}
+use Rattle.tm_blocks_base.specs.Instrs.{subi, bne_back}
 use Rattle.tm_blocks_compare.specs.Words.{dword_turn, line_turn, window_check}
 use Rattle.tm_blocks_compare.specs.Numbers.{either, first_dword}
 use Rattle.tm_blocks_compare.proofs.Looks.{Found, Passed, Looked, looked_then, looked_as, looked_before, either-zero, first-append, first-at}

@@ -3,12 +3,12 @@ use Rattle.std.proofs.Common.{◌≡◌, ◌≢◌, ℕ, zero, suc, ◌+◌, ◌
 use Rattle.std.specs.Prelude.{if◌then◌else◌, bit_and, bit_xor, slice_index}
 use Rattle.std.proofs.lemmas.Bool.{cases_lt, lt-ltb, le-ltb}
 use Rattle.std.proofs.lemmas.List.{length-map}
-use Rattle.tm_plan.specs.declared.cases.Cases.{Cases}
+use Rattle.tm_plan_cases.specs.declared.cases.Cases.{Cases}
 use Rattle.tm_plan_map.specs.Map.{windows_base}
-use Rattle.tm_plan.specs.Collected.{owned}
+use Rattle.tm_plan_cases.specs.Collected.{owned}
 use Rattle.tm_runs.specs.Machine.{Table}
-use Rattle.tm_blocks.specs.Verdict.{differs, first_from, above, verdict_number, IsNumber, agree, differ, IsMask, Agrees}
-use Rattle.tm_blocks.proofs.Masks.{verdict_agrees}
+use Rattle.tm_blocks_base.specs.Verdict.{differs, first_from, above, verdict_number, IsNumber, agree, differ, IsMask, Agrees}
+use Rattle.tm_blocks_base.proofs.Masks.{verdict_agrees}
 use Rattle.tm_blocks_compare.specs.Numbers.{either, first_register, first_dword, first_of_pass, verdict_from, IsNumberOfAll}
 use Rattle.tm_blocks_compare.specs.Numbers as all
 use Rattle.tm_blocks_compare.specs.Runs.{mask_addresses, verdict_of_all, SameIn, NamesLeastOfAll}

@@ -2,12 +2,12 @@
 use Rattle.std.proofs.Common.{◌≡◌, ◌≢◌, ℕ, ◌+◌, ◌-◌, ◌*◌, ◌/◌, ◌≤◌, sym, ne_eqb, eq-eqb, List, [], ◌∷◌, ◌++◌, length, Bool, true, false, ◌==◌, refl, ap, ◌∙◌, arith, length-append, append_assoc}
 use Rattle.std.specs.Prelude.{if◌then◌else◌}
 use Rattle.tm_table.specs.declared.instr.Instr.{Instr}
-use Rattle.tm_plan.specs.declared.cases.Cases.{Cases}
+use Rattle.tm_plan_cases.specs.declared.cases.Cases.{Cases}
 use Rattle.tm_asm.specs.Sheet.{Sheet, puts}
 use Rattle.tm_asm.proofs.Append.{puts-none}
-use Rattle.tm_blocks.specs.Instrs.{addi, slli, add}
-use Rattle.tm_blocks.specs.Blocks.{constant}
-use Rattle.tm_blocks.proofs.Lengths.{length-constant}
+use Rattle.tm_blocks_base.specs.Instrs.{addi, slli, add}
+use Rattle.tm_blocks_base.specs.Blocks.{constant}
+use Rattle.tm_blocks_base.proofs.Lengths.{length-constant}
 use Rattle.tm_plan_owned.specs.Lines.{line_count, line_place}
 use Rattle.tm_blocks_compare.specs.Words.{register_loop, line_turn, window_check, own_check, last_check, next_check, first_check, pass_head, pass_body, one_pass}
 

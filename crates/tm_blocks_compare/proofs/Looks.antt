@@ -3,7 +3,7 @@ use Rattle.std.proofs.Common.{◌≡◌, ◌≢◌, ℕ, zero, suc, ◌+◌, ◌
 use Rattle.tm_runs.specs.Machine.{World, State, Table, get}
 use Rattle.tm_runs.specs.Runs.{Takes, Now}
 use Rattle.tm_runs.proofs.Compose.{takes_map}
-use Rattle.tm_blocks.specs.Laws.{RegistersFit}
+use Rattle.tm_blocks_base.specs.Laws.{RegistersFit}
 use Rattle.tm_blocks_compare.specs.Numbers.{either, first_dword}
 
 -- it was found at v

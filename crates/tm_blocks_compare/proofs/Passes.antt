@@ -4,19 +4,19 @@ use Rattle.std.specs.Prelude.{IsTrue}
 use Rattle.std.proofs.Math.Nat.{mul-le-mul_left}
 use Rattle.tm_table.specs.declared.instr.Instr.{Instr}
 use Rattle.tm_table.specs.declared.state.Access.{Access}
-use Rattle.tm_plan.specs.declared.cases.Cases.{Cases}
-use Rattle.tm_plan.specs.Shaped.{AreShaped}
+use Rattle.tm_plan_cases.specs.declared.cases.Cases.{Cases}
+use Rattle.tm_plan_cases.specs.Shaped.{AreShaped}
 use Rattle.tm_runs.specs.Machine.{World, State, Table, get, computes}
 use Rattle.tm_runs.specs.Runs.{Takes, Now, At, Within, IsQuiet}
 use Rattle.tm_runs.proofs.Compose.{takes_then, takes_map, within_map}
 use Rattle.tm_runs.proofs.Steps.{step_addi, step_add, step_slli}
 use Rattle.tm_runs.proofs.Tables.{get_put_other, at_front, at_next}
-use Rattle.tm_blocks.specs.Instrs.{addi, add, slli}
-use Rattle.tm_blocks.specs.Blocks.{constant}
-use Rattle.tm_blocks.specs.Laws.{Uses, Nowhere, RegistersFit}
-use Rattle.tm_blocks.proofs.Lengths.{length-constant}
-use Rattle.tm_blocks.proofs.Dwords.{fit_put, on_quiet}
-use Rattle.tm_blocks.proofs.Constant.{constant_takes}
+use Rattle.tm_blocks_base.specs.Instrs.{addi, add, slli}
+use Rattle.tm_blocks_base.specs.Blocks.{constant}
+use Rattle.tm_blocks_base.specs.Laws.{Uses, Nowhere, RegistersFit}
+use Rattle.tm_blocks_base.proofs.Lengths.{length-constant}
+use Rattle.tm_blocks_base.proofs.Dwords.{fit_put, on_quiet}
+use Rattle.tm_blocks_base.proofs.Constant.{constant_takes}
 use Rattle.tm_plan_owned.specs.Lines.{line_count, line_place}
 use Rattle.tm_plan_owned.proofs.Windows.{line-of}
 use Rattle.tm_plan_owned.proofs.Reach.{reach, harts_most}

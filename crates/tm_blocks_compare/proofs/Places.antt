@@ -3,9 +3,9 @@ use Rattle.std.proofs.Common.{◌≡◌, ℕ, zero, suc, ◌+◌, ◌-◌, ◌*�
 use Rattle.std.specs.Prelude.{slice_index}
 use Rattle.std.proofs.lemmas.Bool.Decides.{nat_tests}
 use Rattle.std.proofs.Math.Nat.{mul-le-mul_left}
-use Rattle.tm_plan.specs.declared.program.Program.{Program}
+use Rattle.tm_plan_cases.specs.declared.program.Program.{Program}
 use Rattle.tm_plan_map.specs.Map.{guest_base, guest_end, text_base, tables_base, windows_base, private_at, private_size, save_at, table_at}
-use Rattle.tm_plan.specs.Collected.{owned}
+use Rattle.tm_plan_cases.specs.Collected.{owned}
 use Rattle.tm_runs.specs.World.{world_of, holds, is_fixed_dword, is_private_dword}
 use Rattle.tm_runs.proofs.Places.{guest-true}
 use Rattle.tm_blocks_move.proofs.Places.{IsDword, Dwords, owned-dwords, owned-short}

@@ -11,11 +11,11 @@ use Rattle.tm_runs.specs.Runs.{Takes, Now, At, Within}
 use Rattle.tm_runs.proofs.Compose.{takes_then, takes_more, takes_map}
 use Rattle.tm_runs.proofs.Steps.{step_addi, step_add, step_and, step_ld, step_beq, step_bne, step_bne_taken, step_bne_on, branched}
 use Rattle.tm_runs.proofs.Tables.{get_put_other}
-use Rattle.tm_blocks.specs.Instrs.{addi, add, and, ld, beq}
-use Rattle.tm_blocks.specs.Laws.{RegistersFit}
-use Rattle.tm_blocks.proofs.Dwords.{fit_put, on_quiet, on_branch, on_read}
-use Rattle.tm_blocks.proofs.Verdicts.{bit_off, bit_on}
-use Rattle.tm_blocks.specs.Instrs.{subi, bne_back}
+use Rattle.tm_blocks_base.specs.Instrs.{addi, add, and, ld, beq}
+use Rattle.tm_blocks_base.specs.Laws.{RegistersFit}
+use Rattle.tm_blocks_base.proofs.Dwords.{fit_put, on_quiet, on_branch, on_read}
+use Rattle.tm_blocks_base.proofs.Verdicts.{bit_off, bit_on}
+use Rattle.tm_blocks_base.specs.Instrs.{subi, bne_back}
 use Rattle.tm_blocks_compare.specs.Words.{register_turn, register_loop}
 use Rattle.tm_blocks_compare.specs.Numbers.{first_register}
 use Rattle.tm_blocks_compare.proofs.Looks.{Looked, looked_then, looked_as, looked_before, either-zero}

@@ -4,21 +4,21 @@ use Rattle.std.specs.Prelude.{slice_index}
 use Rattle.std.proofs.lemmas.List.{length-map}
 use Rattle.std.proofs.Math.Nat.{mul-le-mul_left}
 use Rattle.tm_table.specs.declared.instr.Instr.{Instr}
-use Rattle.tm_plan.specs.declared.cases.Cases.{Cases}
+use Rattle.tm_plan_cases.specs.declared.cases.Cases.{Cases}
 use Rattle.tm_plan_map.specs.Map.{windows_base}
-use Rattle.tm_plan.specs.Shaped.{AreShaped}
-use Rattle.tm_plan.specs.Collected.{owned}
+use Rattle.tm_plan_cases.specs.Shaped.{AreShaped}
+use Rattle.tm_plan_cases.specs.Collected.{owned}
 use Rattle.tm_runs.specs.Machine.{World, State, Table, get, computes, loaded}
 use Rattle.tm_runs.specs.Runs.{Takes, Now, At, Within, IsQuiet}
 use Rattle.tm_runs.proofs.Compose.{takes_then, takes_more, takes_map, within_map}
 use Rattle.tm_runs.proofs.Steps.{step_addi, step_add, step_slli, step_ld, step_jal}
 use Rattle.tm_runs.proofs.Tables.{get_put_other, get_put_zero, at_front, at_next}
-use Rattle.tm_blocks.specs.Instrs.{addi, add, slli, ld, sd, jump}
-use Rattle.tm_blocks.specs.Blocks.{constant}
-use Rattle.tm_blocks.specs.Laws.{RegistersFit}
-use Rattle.tm_blocks.proofs.Lengths.{length-constant}
-use Rattle.tm_blocks.proofs.Dwords.{fit_put, on_quiet, on_read}
-use Rattle.tm_blocks.proofs.Constant.{constant_takes}
+use Rattle.tm_blocks_base.specs.Instrs.{addi, add, slli, ld, sd, jump}
+use Rattle.tm_blocks_base.specs.Blocks.{constant}
+use Rattle.tm_blocks_base.specs.Laws.{RegistersFit}
+use Rattle.tm_blocks_base.proofs.Lengths.{length-constant}
+use Rattle.tm_blocks_base.proofs.Dwords.{fit_put, on_quiet, on_read}
+use Rattle.tm_blocks_base.proofs.Constant.{constant_takes}
 use Rattle.tm_plan_owned.specs.Lines.{line_count}
 use Rattle.tm_plan_owned.proofs.Windows.{line-of}
 use Rattle.tm_plan_owned.proofs.Reach.{owned-length}

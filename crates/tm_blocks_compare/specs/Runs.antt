@@ -1,16 +1,16 @@
 -- What every run of the words does that compare all passes (this project's own).
 use Rattle.std.specs.Prelude.{◌≡◌, ℕ, ◌+◌, ◌-◌, ◌*◌, ◌^◌, ◌<◌, ◌≤◌, List, length, map, slice_index, IsTrue}
-use Rattle.tm_plan.specs.declared.cases.Cases.{Cases}
-use Rattle.tm_plan.specs.declared.program.Program.{Program}
+use Rattle.tm_plan_cases.specs.declared.cases.Cases.{Cases}
+use Rattle.tm_plan_cases.specs.declared.program.Program.{Program}
 use Rattle.tm_plan_map.specs.Map.{windows_base, save_at, verdict_at}
-use Rattle.tm_plan.specs.Shaped.{AreShaped}
-use Rattle.tm_plan.specs.Collected.{owned}
+use Rattle.tm_plan_cases.specs.Shaped.{AreShaped}
+use Rattle.tm_plan_cases.specs.Collected.{owned}
 use Rattle.tm_runs.specs.Machine.{World, State, Table, get, MayAccess}
 use Rattle.tm_runs.specs.Runs.{Takes, At, Within}
 use Rattle.tm_runs.specs.World.{Sizes, world_of}
-use Rattle.tm_blocks.specs.Laws.{Uses, Nowhere, RegistersFit}
+use Rattle.tm_blocks_base.specs.Laws.{Uses, Nowhere, RegistersFit}
 use Rattle.tm_blocks_compare.specs.Words.{compare_all_but_last, case_masks, case_bytes}
-use Rattle.tm_blocks.specs.Verdict.{Agrees, IsMask}
+use Rattle.tm_blocks_base.specs.Verdict.{Agrees, IsMask}
 use Rattle.tm_blocks_compare.specs.Numbers.{verdict_from, IsNumberOfAll}
 
 -- where the masks of the dwords stand that hart h collects

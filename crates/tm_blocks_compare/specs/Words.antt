@@ -3,11 +3,11 @@
 -- x4 and x10 count down, x6 and x7 hold values.
 use Rattle.std.specs.Prelude.{ℕ, ◌+◌, ◌-◌, ◌*◌, ◌/◌, ◌==◌, List, [], ◌∷◌, ◌++◌, length, if◌then◌else◌}
 use Rattle.tm_table.specs.declared.instr.Instr.{Instr}
-use Rattle.tm_plan.specs.declared.cases.Cases.{Cases}
+use Rattle.tm_plan_cases.specs.declared.cases.Cases.{Cases}
 use Rattle.tm_plan_map.specs.Map.{table_at, save_at, verdict_at}
-use Rattle.tm_blocks.specs.Instrs.{addi, slli, add, xor, and, ld, sd, beq, bne, jump}
-use Rattle.tm_blocks.specs.Blocks.{constant}
-use Rattle.tm_blocks.specs.Instrs.{subi, bne_back}
+use Rattle.tm_blocks_base.specs.Instrs.{addi, slli, add, xor, and, ld, sd, beq, bne, jump}
+use Rattle.tm_blocks_base.specs.Blocks.{constant}
+use Rattle.tm_blocks_base.specs.Instrs.{subi, bne_back}
 use Rattle.tm_plan_owned.specs.Lines.{line_count, line_place}
 
 -- The 30 registers, of which x10 has the bit in the mask. A difference leads `far` instructions on from the last of

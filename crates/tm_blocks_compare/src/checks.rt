@@ -1,14 +1,14 @@
 // The checks of one pass, appended as words. Distances are in instructions, from the last of a part on.
 ghost use Rattle.std.specs.Prelude.{◌≡◌, ◌+◌, ◌*◌, ◌/◌, ◌^◌, ◌<◌, ◌≤◌, [], ◌∷◌, ℕ, length, OnOk};
-ghost use Rattle.tm_plan.specs.Shaped.{AreShaped};
+ghost use Rattle.tm_plan_cases.specs.Shaped.{AreShaped};
 ghost use Rattle.tm_asm.specs.Sheet.{puts};
-ghost use Rattle.tm_blocks.specs.Instrs.{addi};
+ghost use Rattle.tm_blocks_base.specs.Instrs.{addi};
 ghost use Rattle.tm_blocks_compare.specs.Words.{register_loop, line_turn, window_check, own_check};
 
 use tm_asm::Code;
 use tm_base::NoMemory;
 use tm_blocks_code::{add, addi, and, beq, bne, bne_back, ld, put_all, put_constant, subi, xor};
-use tm_plan::Cases;
+use tm_plan_cases::Cases;
 use tm_plan_owned::{bytes_of, dwords_of, line_count, line_place, stride_of};
 
 /// The 30 registers.

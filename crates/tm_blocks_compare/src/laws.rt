@@ -2,7 +2,7 @@
 ghost use Rattle.std.specs.Prelude.{ℕ};
 ghost use Rattle.tm_blocks_compare.specs.Runs.{CompareAllRuns, NamesLeastOfAll, ComparingIn};
 
-use tm_plan::{Cases, Program};
+use tm_plan_cases::{Cases, Program};
 
 /// The words compare all passes, and their verdict names the least pass and the least dword that differs.
 pub fn compare(cases: &Cases)

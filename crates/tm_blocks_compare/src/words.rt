@@ -1,10 +1,10 @@
 // The comparison of all passes, appended as words.
 ghost use Rattle.std.specs.Prelude.{◌≡◌, ◌+◌, ◌*◌, ◌^◌, ◌<◌, ◌≤◌, [], ◌∷◌, length, OnOk};
-ghost use Rattle.tm_plan.specs.Shaped.{AreShaped};
+ghost use Rattle.tm_plan_cases.specs.Shaped.{AreShaped};
 ghost use Rattle.tm_plan_map.specs.Map.{verdict_at};
 ghost use Rattle.tm_asm.specs.Sheet.{puts};
-ghost use Rattle.tm_blocks.specs.Instrs.{add, addi, ld, sd, slli};
-ghost use Rattle.tm_blocks.specs.Laws.{LastStoreRuns};
+ghost use Rattle.tm_blocks_base.specs.Instrs.{add, addi, ld, sd, slli};
+ghost use Rattle.tm_blocks_base.specs.Laws.{LastStoreRuns};
 ghost use Rattle.tm_blocks_compare.specs.Words.{pass_head, pass_body, pass_tail, all_passes, closing, compare_case, case_masks, case_bytes};
 ghost use Rattle.tm_blocks_compare.specs.Runs.{CaseRuns, CaseNamesLeast};
 
@@ -12,7 +12,7 @@ use crate::checks::{check_length, put_own_check, put_register_loop};
 use tm_asm::Code;
 use tm_base::NoMemory;
 use tm_blocks_code::{add, addi, bne_back, jump, ld, put_all, put_constant, sd, slli};
-use tm_plan::Cases;
+use tm_plan_cases::Cases;
 use tm_plan_map::{save_addr, table_addr, verdict_addr};
 
 /// Compares the saved dwords of all passes of case `c`, below 64, with those of pass 0, under the masks of the case's

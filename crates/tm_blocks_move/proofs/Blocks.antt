@@ -4,17 +4,17 @@ use Rattle.std.proofs.lemmas.List.{map-append}
 use Rattle.std.proofs.Math.Nat.{mul-le-mul_left}
 use Rattle.tm_table.specs.declared.instr.Instr.{Instr}
 use Rattle.tm_table.specs.declared.state.Access.{Access}
-use Rattle.tm_plan.specs.declared.cases.Cases.{Cases}
+use Rattle.tm_plan_cases.specs.declared.cases.Cases.{Cases}
 use Rattle.tm_plan_map.specs.Map.{windows_base}
-use Rattle.tm_plan.specs.Shaped.{AreShaped}
-use Rattle.tm_plan.specs.Collected.{owned}
+use Rattle.tm_plan_cases.specs.Shaped.{AreShaped}
+use Rattle.tm_plan_cases.specs.Collected.{owned}
 use Rattle.tm_runs.specs.Machine.{World, State, Table, get}
 use Rattle.tm_runs.specs.Runs.{Takes, At, Within, IsQuiet}
 use Rattle.tm_runs.proofs.Compose.{takes_then, takes_more, takes_map, within_map}
 use Rattle.tm_runs.proofs.Tables.{get_put_other, at_front, at_next}
-use Rattle.tm_blocks.specs.Blocks.{constant}
-use Rattle.tm_blocks.proofs.Lengths.{length-constant}
-use Rattle.tm_blocks.proofs.Constant.{constant_takes}
+use Rattle.tm_blocks_base.specs.Blocks.{constant}
+use Rattle.tm_blocks_base.proofs.Lengths.{length-constant}
+use Rattle.tm_blocks_base.proofs.Constant.{constant_takes}
 use Rattle.tm_blocks_move.specs.Words.{move_lines}
 use Rattle.tm_blocks_move.specs.Laws.{Move, Movable, EachMove, HasMoved, lines_moves}
 use Rattle.tm_plan_owned.specs.Lines.{line_count, line_place, own_dwords, three}

@@ -2,18 +2,18 @@
 use Rattle.std.proofs.Common.{◌≡◌, ℕ, zero, suc, ◌+◌, ◌*◌, ◌/◌, ◌^◌, ◌<◌, ◌≤◌, List, [], ◌∷◌, ◌++◌, length, flat_map, refl, sym, ap, ap₂, ◌∙◌, subst, arith, length-append}
 use Rattle.tm_table.specs.declared.instr.Instr.{Instr}
 use Rattle.tm_table.specs.declared.state.Access.{Access}
-use Rattle.tm_plan.specs.declared.cases.Cases.{Cases}
+use Rattle.tm_plan_cases.specs.declared.cases.Cases.{Cases}
 use Rattle.tm_plan_map.specs.Map.{windows_base}
-use Rattle.tm_plan.specs.Shaped.{AreShaped}
-use Rattle.tm_plan.specs.Collected.{owned}
+use Rattle.tm_plan_cases.specs.Shaped.{AreShaped}
+use Rattle.tm_plan_cases.specs.Collected.{owned}
 use Rattle.tm_runs.specs.Machine.{World, get, computes}
 use Rattle.tm_runs.proofs.Compose.{takes_then, takes_more, takes_map}
 use Rattle.tm_runs.proofs.Steps.{step_addi}
 use Rattle.tm_runs.proofs.Tables.{get_put_other, at_front, at_next}
-use Rattle.tm_blocks.specs.Instrs.{addi}
-use Rattle.tm_blocks.specs.Blocks.{copy_dwords}
-use Rattle.tm_blocks.proofs.Lengths.{length-copy_dwords}
-use Rattle.tm_blocks.proofs.Dwords.{fit_put, on_quiet}
+use Rattle.tm_blocks_base.specs.Instrs.{addi}
+use Rattle.tm_blocks_base.specs.Blocks.{copy_dwords}
+use Rattle.tm_blocks_base.proofs.Lengths.{length-copy_dwords}
+use Rattle.tm_blocks_base.proofs.Dwords.{fit_put, on_quiet}
 use Rattle.tm_blocks_move.specs.Laws.{Move, EachMove, HasMoved, line_moves, lines_moves}
 use Rattle.tm_plan_owned.specs.Lines.{line_count, line_place, own_dwords, three}
 use Rattle.tm_blocks_move.specs.Lines.{half_stride, collect_window, collect_windows, collect_all, collect_moves}

@@ -2,9 +2,9 @@
 use Rattle.std.proofs.Common.{◌≡◌, ℕ, ◌+◌, ◌*◌, ◌≤◌, List, [], ◌∷◌, ◌++◌, length, Bool, true, false, ◌==◌, refl, ap, ◌∙◌, arith, length-append}
 use Rattle.std.specs.Prelude.{if◌then◌else◌}
 use Rattle.tm_table.specs.declared.instr.Instr.{Instr}
-use Rattle.tm_blocks.specs.Instrs.{addi}
-use Rattle.tm_blocks.specs.Blocks.{constant, copy_dwords}
-use Rattle.tm_blocks.proofs.Lengths.{length-constant, length-copy_dwords}
+use Rattle.tm_blocks_base.specs.Instrs.{addi}
+use Rattle.tm_blocks_base.specs.Blocks.{constant, copy_dwords}
+use Rattle.tm_blocks_base.proofs.Lengths.{length-constant, length-copy_dwords}
 use Rattle.tm_blocks_move.specs.Words.{line_turn, lines_loop, move_lines}
 
 module _ (n a b : ℕ) where

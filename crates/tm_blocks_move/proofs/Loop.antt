@@ -9,13 +9,13 @@ use Rattle.tm_runs.specs.Runs.{Takes, Now, At, Within, IsQuiet}
 use Rattle.tm_runs.proofs.Compose.{takes_then, takes_more, takes_map, within_map}
 use Rattle.tm_runs.proofs.Steps.{step_ld, step_sd, step_addi, step_bne_taken, step_bne_on, written, branched}
 use Rattle.tm_runs.proofs.Tables.{get_put_other, at_front, at_next}
-use Rattle.tm_blocks.specs.Instrs.{addi, ld, sd}
-use Rattle.tm_blocks.specs.Blocks.{constant, copy_dword, copy_dwords}
-use Rattle.tm_blocks.specs.Laws.{accesses}
-use Rattle.tm_blocks.proofs.Lengths.{length-constant, length-copy_dwords}
-use Rattle.tm_blocks.proofs.Dwords.{fit_put, on_quiet, on_branch, on_read}
-use Rattle.tm_blocks.proofs.Constant.{constant_takes}
-use Rattle.tm_blocks.specs.Instrs.{subi, bne_back}
+use Rattle.tm_blocks_base.specs.Instrs.{addi, ld, sd}
+use Rattle.tm_blocks_base.specs.Blocks.{constant, copy_dword, copy_dwords}
+use Rattle.tm_blocks_base.specs.Laws.{accesses}
+use Rattle.tm_blocks_base.proofs.Lengths.{length-constant, length-copy_dwords}
+use Rattle.tm_blocks_base.proofs.Dwords.{fit_put, on_quiet, on_branch, on_read}
+use Rattle.tm_blocks_base.proofs.Constant.{constant_takes}
+use Rattle.tm_blocks_base.specs.Instrs.{subi, bne_back}
 use Rattle.tm_blocks_move.specs.Words.{line_turn, lines_loop, move_lines}
 use Rattle.tm_blocks_move.specs.Laws.{Move, Movable, EachMove, moved_accesses, HasMoved, line_moves, lines_moves}
 use Rattle.tm_blocks_move.proofs.Lengths.{whole, length-whole, piece-is}

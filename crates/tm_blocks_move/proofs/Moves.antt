@@ -3,7 +3,7 @@ use Rattle.std.proofs.Common.{◌≡◌, ◌≢◌, ℕ, ◌^◌, ◌<◌, List,
 use Rattle.tm_table.specs.declared.state.Access.{Access}
 use Rattle.tm_table.specs.declared.state.Access.TheVariants.{Read, Write}
 use Rattle.tm_runs.specs.Machine.{Table, State, World, put, get}
-use Rattle.tm_blocks.specs.Laws.{accesses}
+use Rattle.tm_blocks_base.specs.Laws.{accesses}
 use Rattle.tm_blocks_move.specs.Laws.{Move, Moves, EachMove, moved_memory, moved_accesses, HasMoved}
 
 pub each-left : (P : Move → Type 0) (ms ns : List Move) → EachMove P (ms ++ ns) → EachMove P ms

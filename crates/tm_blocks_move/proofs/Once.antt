@@ -5,15 +5,15 @@ use Rattle.std.proofs.Common.{◌==◌, ◌≡◌, ℕ, zero, suc, ◌+◌, ◌*
 use Rattle.std.proofs.lemmas.Bool.{and_parts, ltb-true, lt-ltb, le-ltb}
 use Rattle.tm_table.specs.declared.state.Access.{Access}
 use Rattle.tm_table.specs.declared.state.Access.TheVariants.{Quiet, Read, Write}
-use Rattle.tm_plan.specs.declared.cases.Cases.{Cases}
+use Rattle.tm_plan_cases.specs.declared.cases.Cases.{Cases}
 use Rattle.tm_plan_map.specs.Map.{windows_base}
-use Rattle.tm_plan.specs.Collected.{is_declared, collector, window_dwords, owned}
+use Rattle.tm_plan_cases.specs.Collected.{is_declared, collector, window_dwords, owned}
 use Rattle.tm_base.specs.Lists.{any, count_from}
 use Rattle.tm_world.specs.Course.{reads_in}
 use Rattle.tm_runs.specs.Machine.{World, State, Entry, Table}
 use Rattle.tm_runs.proofs.Ahead.{takes_told}
 use Rattle.tm_runs.proofs.Compose.{takes_map}
-use Rattle.tm_blocks.specs.Laws.{with_access, accesses}
+use Rattle.tm_blocks_base.specs.Laws.{with_access, accesses}
 use Rattle.tm_blocks_move.specs.Laws.{Among, Move, Moves, moved_accesses}
 use Rattle.tm_blocks_move.specs.Lines.{collect_moves}
 use Rattle.tm_blocks_move.specs.Runs.{all_collected}

@@ -1,9 +1,9 @@
 -- The moves may be made in the world of each hart.
 use Rattle.std.proofs.Common.{◌≡◌, ℕ, zero, suc, ◌+◌, ◌-◌, ◌*◌, ◌%◌, ◌&&◌, ◌==◌, ◌≤◌, List, [], ◌∷◌, ◌++◌, length, map, Bool, true, false, refl, arith}
 use Rattle.std.specs.Prelude.{filter, cond}
-use Rattle.tm_plan.specs.declared.program.Program.{Program}
+use Rattle.tm_plan_cases.specs.declared.program.Program.{Program}
 use Rattle.tm_plan_map.specs.Map.{guest_base, guest_end, windows_base, windows_size, private_at, save_at}
-use Rattle.tm_plan.specs.Collected.{is_declared, collector, window_dwords, owned}
+use Rattle.tm_plan_cases.specs.Collected.{is_declared, collector, window_dwords, owned}
 use Rattle.tm_base.specs.Lists.{count_from}
 use Rattle.tm_runs.specs.World.{Sizes, world_of, is_fixed_dword}
 use Rattle.tm_runs.proofs.Places.{fixed-place, guest-true}

@@ -1,14 +1,14 @@
 -- How many words set and collect a hart's dwords, and what no words append.
 use Rattle.std.proofs.Common.{◌≡◌, ℕ, ◌+◌, ◌*◌, ◌/◌, ◌≤◌, List, [], ◌∷◌, ◌++◌, length, flat_map, sym, ap, ◌∙◌, arith, append-nil, length-append}
 use Rattle.tm_table.specs.declared.instr.Instr.{Instr}
-use Rattle.tm_plan.specs.declared.cases.Cases.{Cases}
+use Rattle.tm_plan_cases.specs.declared.cases.Cases.{Cases}
 use Rattle.tm_plan_map.specs.Map.{windows_base}
-use Rattle.tm_plan.specs.Shaped.{AreShaped}
+use Rattle.tm_plan_cases.specs.Shaped.{AreShaped}
 use Rattle.tm_asm.specs.Sheet.{Sheet, puts}
 use Rattle.tm_asm.proofs.Append.{puts-none}
-use Rattle.tm_blocks.specs.Instrs.{addi}
-use Rattle.tm_blocks.specs.Blocks.{constant, copy_dwords}
-use Rattle.tm_blocks.proofs.Lengths.{length-constant, length-copy_dwords}
+use Rattle.tm_blocks_base.specs.Instrs.{addi}
+use Rattle.tm_blocks_base.specs.Blocks.{constant, copy_dwords}
+use Rattle.tm_blocks_base.proofs.Lengths.{length-constant, length-copy_dwords}
 use Rattle.tm_plan_owned.specs.Lines.{line_count, line_place, three}
 use Rattle.tm_plan_owned.proofs.Reach.{line_most}
 use Rattle.tm_blocks_move.specs.Words.{move_lines}

@@ -5,7 +5,7 @@ use Rattle.tm_table.specs.declared.state.Access.{Access}
 use Rattle.tm_table.specs.declared.state.Access.TheVariants.{Read, Write}
 use Rattle.tm_base.specs.Lists.{count_from}
 use Rattle.tm_runs.specs.Machine.{Table, State, World, put, get, MayAccess}
-use Rattle.tm_blocks.specs.Laws.{RegistersFit, accesses}
+use Rattle.tm_blocks_base.specs.Laws.{RegistersFit, accesses}
 
 abbrev pub Move : Type 0
 Move = ℕ × ℕ

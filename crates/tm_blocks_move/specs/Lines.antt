@@ -1,10 +1,10 @@
 -- The words that set and collect the dwords that a hart collects, and the moves that they make (this project's own).
 use Rattle.std.specs.Prelude.{ℕ, ◌+◌, ◌-◌, ◌*◌, ◌/◌, List, [], ◌∷◌, ◌++◌, flat_map, map}
 use Rattle.tm_table.specs.declared.instr.Instr.{Instr}
-use Rattle.tm_plan.specs.declared.cases.Cases.{Cases}
+use Rattle.tm_plan_cases.specs.declared.cases.Cases.{Cases}
 use Rattle.tm_plan_map.specs.Map.{windows_base}
-use Rattle.tm_blocks.specs.Instrs.{addi}
-use Rattle.tm_blocks.specs.Blocks.{constant, copy_dwords}
+use Rattle.tm_blocks_base.specs.Instrs.{addi}
+use Rattle.tm_blocks_base.specs.Blocks.{constant, copy_dwords}
 use Rattle.tm_plan_owned.specs.Lines.{line_count, line_place, three}
 use Rattle.tm_blocks_move.specs.Words.{move_lines}
 use Rattle.tm_blocks_move.specs.Laws.{Move}

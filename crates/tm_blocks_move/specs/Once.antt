@@ -3,15 +3,15 @@ use Rattle.std.specs.Prelude.{◌≡◌, ℕ, ◌+◌, ◌*◌, ◌%◌, ◌^◌
 use Rattle.tm_table.specs.declared.instr.Instr.{Instr}
 use Rattle.tm_table.specs.declared.state.Access.{Access}
 use Rattle.tm_table.specs.declared.state.Access.TheVariants.{Read}
-use Rattle.tm_plan.specs.declared.cases.Cases.{Cases}
+use Rattle.tm_plan_cases.specs.declared.cases.Cases.{Cases}
 use Rattle.tm_plan_map.specs.Map.{windows_base}
-use Rattle.tm_plan.specs.Shaped.{AreShaped}
-use Rattle.tm_plan.specs.Collected.{owned}
+use Rattle.tm_plan_cases.specs.Shaped.{AreShaped}
+use Rattle.tm_plan_cases.specs.Collected.{owned}
 use Rattle.tm_base.specs.Lists.{any}
 use Rattle.tm_world.specs.Course.{reads_in}
 use Rattle.tm_runs.specs.Machine.{World, State, Entry, get}
 use Rattle.tm_runs.specs.Runs.{Takes, At}
-use Rattle.tm_blocks.specs.Laws.{accesses}
+use Rattle.tm_blocks_base.specs.Laws.{accesses}
 use Rattle.tm_blocks_move.specs.Laws.{Movable, EachMove, Among}
 use Rattle.tm_blocks_move.specs.Lines.{collect_all}
 use Rattle.tm_blocks_move.specs.Runs.{HasDone, all_collected}

@@ -3,15 +3,15 @@
 use Rattle.std.specs.Prelude.{◌≡◌, ℕ, ◌+◌, ◌*◌, ◌%◌, ◌^◌, ◌<◌, ◌≤◌, ◌⊎◌, List, [], ◌∷◌, ◌++◌, length}
 use Rattle.tm_table.specs.declared.instr.Instr.{Instr}
 use Rattle.tm_table.specs.declared.state.Access.{Access}
-use Rattle.tm_plan.specs.declared.cases.Cases.{Cases}
-use Rattle.tm_plan.specs.declared.program.Program.{Program}
+use Rattle.tm_plan_cases.specs.declared.cases.Cases.{Cases}
+use Rattle.tm_plan_cases.specs.declared.program.Program.{Program}
 use Rattle.tm_plan_map.specs.Map.{guest_base, guest_end, windows_size, private_at, save_at}
-use Rattle.tm_plan.specs.Shaped.{AreShaped}
-use Rattle.tm_plan.specs.Collected.{owned}
+use Rattle.tm_plan_cases.specs.Shaped.{AreShaped}
+use Rattle.tm_plan_cases.specs.Collected.{owned}
 use Rattle.tm_runs.specs.Machine.{World, State, get}
 use Rattle.tm_runs.specs.Runs.{Takes, At, Within}
 use Rattle.tm_runs.specs.World.{Sizes, world_of}
-use Rattle.tm_blocks.specs.Laws.{Uses}
+use Rattle.tm_blocks_base.specs.Laws.{Uses}
 use Rattle.tm_blocks_move.specs.Laws.{Move, Movable, EachMove, HasMoved, line_moves}
 use Rattle.tm_blocks_move.specs.Lines.{first_bytes, collect_all, set_moves, collect_moves}
 

@@ -2,8 +2,8 @@
 -- counts lines down, and x3 carries a dword.
 use Rattle.std.specs.Prelude.{ℕ, ◌+◌, ◌*◌, ◌==◌, List, [], ◌∷◌, ◌++◌, if◌then◌else◌}
 use Rattle.tm_table.specs.declared.instr.Instr.{Instr}
-use Rattle.tm_blocks.specs.Instrs.{addi, subi, bne_back}
-use Rattle.tm_blocks.specs.Blocks.{constant, copy_dwords}
+use Rattle.tm_blocks_base.specs.Instrs.{addi, subi, bne_back}
+use Rattle.tm_blocks_base.specs.Blocks.{constant, copy_dwords}
 
 -- x1 and x2 go on by 2 * a and 2 * b bytes, and back to the line's first word where lines are left; a distance of
 -- 2048 bytes is more than one addition reaches

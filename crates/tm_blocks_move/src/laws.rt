@@ -3,7 +3,7 @@ ghost use Rattle.std.specs.Prelude.{ℕ};
 ghost use Rattle.tm_blocks_move.specs.Runs.{FirstBytesRuns, CollectAllRuns, FitsIn};
 ghost use Rattle.tm_blocks_move.specs.Once.{CollectsOnce};
 
-use tm_plan::{Cases, Program};
+use tm_plan_cases::{Cases, Program};
 
 /// The words set and collect exactly the dwords that a hart collects, and read each of them once.
 pub fn moves(cases: &Cases)

@@ -1,9 +1,9 @@
 // Shared memory set and collected, line by line, appended as words.
 ghost use Rattle.std.specs.Prelude.{◌≡◌, ◌+◌, ◌*◌, ◌/◌, ◌^◌, ◌<◌, ◌≤◌, [], ◌∷◌, length, OnOk};
-ghost use Rattle.tm_plan.specs.Shaped.{AreShaped};
+ghost use Rattle.tm_plan_cases.specs.Shaped.{AreShaped};
 ghost use Rattle.tm_asm.specs.Sheet.{puts};
-ghost use Rattle.tm_blocks.specs.Instrs.{addi};
-ghost use Rattle.tm_blocks.specs.Blocks.{copy_dword, copy_dwords};
+ghost use Rattle.tm_blocks_base.specs.Instrs.{addi};
+ghost use Rattle.tm_blocks_base.specs.Blocks.{copy_dword, copy_dwords};
 ghost use Rattle.tm_blocks_move.specs.Words.{line_turn, lines_loop, move_lines};
 ghost use Rattle.tm_blocks_move.specs.Lines.{half_stride, first_window, first_bytes, collect_window, collect_windows, collect_all};
 ghost use Rattle.tm_blocks_move.specs.Runs.{FirstBytesRuns, CollectAllRuns};
@@ -12,7 +12,7 @@ ghost use Rattle.tm_blocks_move.specs.Once.{CollectsOnce};
 use tm_asm::Code;
 use tm_base::NoMemory;
 use tm_blocks_code::{addi, bne_back, ld, put_all, put_constant, sd, subi};
-use tm_plan::Cases;
+use tm_plan_cases::Cases;
 use tm_plan_owned::{bytes_of, dwords_of, line_addr, line_count, line_place, stride_of};
 
 /// Each declared dword that hart `h` collects becomes the one that stands as far from the address `from` as it from the

@@ -13,13 +13,13 @@ use Rattle.tm_runs.proofs.Compose.{takes_then, takes_map}
 use Rattle.tm_runs.proofs.Tables.{get_put_fits, at_front, at_next, put_same, put_other, get_put, get_put_other}
 use Rattle.tm_runs.proofs.Steps.{written, branched, step_ld, step_sd, step_addi, step_beq_taken, step_beq_on}
 use Rattle.tm_runs.proofs.Story.{count-grows, calmly, good, sofar-one}
-use Rattle.tm_blocks.specs.Instrs.{addi, ld, sd, beq}
-use Rattle.tm_blocks.specs.Blocks.{constant, copy, load_registers_but_last}
-use Rattle.tm_blocks.specs.Laws.{Uses, Among, Nowhere, EachAccess, copies, after_last_load}
-use Rattle.tm_blocks.proofs.Lengths.{length-constant, length-load_registers_but_last}
-use Rattle.tm_blocks.proofs.Constant.{constant_runs}
-use Rattle.tm_blocks.proofs.Collect.{copy_runs}
-use Rattle.tm_blocks.proofs.Registers.{load_all_but_last_runs, last_load_runs}
+use Rattle.tm_blocks_base.specs.Instrs.{addi, ld, sd, beq}
+use Rattle.tm_blocks_base.specs.Blocks.{constant, copy, load_registers_but_last}
+use Rattle.tm_blocks_base.specs.Laws.{Uses, Among, Nowhere, EachAccess, copies, after_last_load}
+use Rattle.tm_blocks_base.proofs.Lengths.{length-constant, length-load_registers_but_last}
+use Rattle.tm_blocks_base.proofs.Constant.{constant_runs}
+use Rattle.tm_blocks_base.proofs.Collect.{copy_runs}
+use Rattle.tm_blocks_base.proofs.Registers.{load_all_but_last_runs, last_load_runs}
 use Rattle.tm_course.proofs.Ground.{Ground, Fact, Hold, is_out, steps_out, fresh_in, entry_at, arrive_at, exit_at, run_at, start_at, end_at, between_at, last_at, halt_at, registers_at, first_at, tables_end, private, count_at, shared, arrive_part, choose_part}
 use Rattle.tm_course.proofs.Calm.{IsMild, mild-uses, mild-quiet, plain, calm, calm-does}
 use Rattle.tm_course.proofs.Notes.{Same, Blank, IsZero, same-then, same-part, same-low, same-one, same-exit, blank-same, low-quiet, low-uses, reads-uses, among-low, zero-copies, accesses-of}

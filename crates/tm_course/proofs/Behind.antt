@@ -18,19 +18,19 @@ use Rattle.tm_runs.proofs.Compose.{takes_then, takes_map, keeps_map}
 use Rattle.tm_runs.proofs.Tables.{get_put_fits, at_front, at_next, get_put_zero}
 use Rattle.tm_runs.proofs.Steps.{jumped, step_jal}
 use Rattle.tm_runs.proofs.Story.{count-stays, count-grows, calmly, good, sofar-one, stream-story}
-use Rattle.tm_blocks.specs.Instrs.{sd, jump_back}
-use Rattle.tm_blocks.specs.Blocks.{save_registers, copy, collect}
-use Rattle.tm_blocks.specs.Compare.{compare_but_last}
-use Rattle.tm_blocks.specs.Laws.{accesses, with_access, copies, EachAccess, HasCollected, Uses, Among, Nowhere, Collects, Compares, First, Other, Mask, Bytes, dwords, first_registers, verdict_in, after_verdict}
-use Rattle.tm_blocks.proofs.Lengths.{length-save_registers, length-copy, length-collect, length-compare_but_last}
-use Rattle.tm_blocks.proofs.Collect.{copy_runs, collect_runs}
-use Rattle.tm_blocks.proofs.Registers.{save_registers_runs}
-use Rattle.tm_blocks.proofs.Whole.{compare_but_last_runs, last_store_runs}
+use Rattle.tm_blocks_base.specs.Instrs.{sd, jump_back}
+use Rattle.tm_blocks_base.specs.Blocks.{save_registers, copy, collect}
+use Rattle.tm_blocks_base.specs.Compare.{compare_but_last}
+use Rattle.tm_blocks_base.specs.Laws.{accesses, with_access, copies, EachAccess, HasCollected, Uses, Among, Nowhere, Collects, Compares, First, Other, Mask, Bytes, dwords, first_registers, verdict_in, after_verdict}
+use Rattle.tm_blocks_base.proofs.Lengths.{length-save_registers, length-copy, length-collect, length-compare_but_last}
+use Rattle.tm_blocks_base.proofs.Collect.{copy_runs, collect_runs}
+use Rattle.tm_blocks_base.proofs.Registers.{save_registers_runs}
+use Rattle.tm_blocks_base.proofs.Whole.{compare_but_last_runs, last_store_runs}
 use Rattle.tm_course.proofs.Ground.{Ground, Fact, Hold, is_out, steps_out, is_halt, reports, arrive_at, exit_at, start_at, end_at, between_at, last_at, halt_at, registers_at, mask_at, first_at, bytes_at, tables_end, cell, private, count_at, save_0, save_1, shared}
 use Rattle.tm_course.proofs.Calm.{mild-uses, mild-quiet, calm, calm-does, calm-one, silent}
 use Rattle.tm_course.proofs.Notes.{is_in, phase_at, left, first_read, first_got, outs, IsZero, Same, SameFrom, Stayed, Left, SavedRegisters, SavedState, Clear, HasRegisters, PassTold, Judged, clear-same, clear-save, pass-told, told-same, told-save, same-then, same-from, same-part, same-low, same-one, low-uses, reads-uses, among-low, zero-copies, low-copies, accesses-of, each-append, outs-more, phase-same, left-same, read-other, read-here, or-none}
 use Rattle.tm_course.proofs.FirstReads.{got-append, copies-none, copies-some}
-use Rattle.tm_blocks.proofs.Pointwise.{saved_register, saved_other, collected_register, collected_shared, collected_other}
+use Rattle.tm_blocks_base.proofs.Pointwise.{saved_register, saved_other, collected_register, collected_shared, collected_other}
 use Rattle.tm_course.proofs.Memory.{stored-below, stored-count, stored-tables, usable-table, back-table, usable-own, back-own, free-own, usable-shared, free-shared, usable-cell, free-cell, among-behind}
 use Rattle.tm_course.proofs.Begin.{moved_to}
 

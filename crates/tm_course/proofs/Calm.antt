@@ -11,7 +11,7 @@ use Rattle.tm_runs.specs.Runs.{Does}
 use Rattle.tm_base.specs.Lists.{any}
 use Rattle.tm_runs.specs.Course.{Sofar, Story, Calm, trail}
 use Rattle.tm_runs.proofs.Story.{count-grows, sofar-one}
-use Rattle.tm_blocks.specs.Laws.{Uses}
+use Rattle.tm_blocks_base.specs.Laws.{Uses}
 use Rattle.tm_course.proofs.Ground.{Ground, Fact, is_out, steps_out, is_halt, reports, exit_at, start_at, end_at, halt_at, cell}
 
 -- an access that writes behind the verdict cell, if it writes

@@ -6,12 +6,12 @@ use Rattle.std.proofs.lemmas.Bool.Decides.{nat_tests}
 use Rattle.std.proofs.lemmas.List.Elements.{All-head}
 use Rattle.tm_table.specs.declared.state.Access.TheVariants.{Write}
 use Rattle.tm_table.specs.State.{Hart}
-use Rattle.tm_plan.specs.declared.cases.Case.{Case}
-use Rattle.tm_plan.specs.declared.cases.Stream.{Stream}
-use Rattle.tm_plan.specs.declared.masks.CaseMask.{CaseMask}
-use Rattle.tm_plan.specs.declared.program.Program.{Program}
+use Rattle.tm_plan_cases.specs.declared.cases.Case.{Case}
+use Rattle.tm_plan_cases.specs.declared.cases.Stream.{Stream}
+use Rattle.tm_plan_cases.specs.declared.masks.CaseMask.{CaseMask}
+use Rattle.tm_plan_cases.specs.declared.program.Program.{Program}
 use Rattle.tm_plan_map.specs.Map.{verdict_at, windows_base}
-use Rattle.tm_plan.specs.Collected.{owned}
+use Rattle.tm_plan_cases.specs.Collected.{owned}
 use Rattle.tm_base.specs.Lists.{count_from}
 use Rattle.tm_world.specs.Lists.{count, or_else}
 use Rattle.tm_world.specs.Place.{passes, exit_of, inside, image_byte, byte_of}
@@ -26,8 +26,8 @@ use Rattle.tm_runs.specs.Shadow.{entry_of, entries_of}
 use Rattle.tm_runs.proofs.Bytes.{joined-byte}
 use Rattle.tm_runs.proofs.Places.{image-lt}
 use Rattle.tm_runs.proofs.Paths.{on-half, phase-entries}
-use Rattle.tm_blocks.specs.Verdict.{verdict_number, Agrees, IsMask, IsNumber, agree as same_all, differ as first_other}
-use Rattle.tm_blocks.proofs.Masks.{verdict_agrees}
+use Rattle.tm_blocks_base.specs.Verdict.{verdict_number, Agrees, IsMask, IsNumber, agree as same_all, differ as first_other}
+use Rattle.tm_blocks_base.proofs.Masks.{verdict_agrees}
 use Rattle.tm_course.specs.OneHart.{IsOfOneHart}
 use Rattle.tm_course.proofs.Addresses.{mask_at, bytes_at, save_0, save_1, shared, cell}
 use Rattle.tm_course.proofs.Logs.{is_in, phase_at, left, first_read, PassTold, Judged}

@@ -7,7 +7,7 @@ use Rattle.tm_world.specs.Lists.{or_else}
 use Rattle.tm_world.specs.Place.{byte_of}
 use Rattle.tm_world.specs.Run.{got}
 use Rattle.tm_runs.proofs.Bytes.{within-true, within-false}
-use Rattle.tm_blocks.specs.Laws.{copies}
+use Rattle.tm_blocks_base.specs.Laws.{copies}
 use Rattle.tm_course.proofs.Notes.{first_got, or-none, or-more}
 
 pub got-append : (b : ℕ) (xs ys : List Access) → first_got b (xs ++ ys) ≡ or_else (first_got b ys) (first_got b xs)

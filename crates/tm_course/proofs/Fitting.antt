@@ -4,13 +4,13 @@ use Rattle.tm_table.specs.declared.instr.Instr.{Instr}
 use Rattle.tm_table.specs.Words.{Fits}
 use Rattle.tm_base.specs.Lists.{count_from}
 use Rattle.tm_plan_map.specs.Map.{tables_base, private_at, save_at, verdict_at, table_at, windows_base}
-use Rattle.tm_blocks.specs.Instrs.{ld, sd}
-use Rattle.tm_blocks.specs.Blocks.{shift_in, constant, load_registers, save_registers, copy_dword, copy_dwords, copy, collect}
-use Rattle.tm_blocks.specs.Compare.{register_check, dword_check, register_checks, dword_checks, checks, verdict, compare}
-use Rattle.tm_blocks.proofs.Fitting.{addi_fits, slli_fits, add_fits, xor_fits, and_fits, ld_fits, sd_fits, beq_fits, bne_fits, jump_fits, jump_back_fits}
+use Rattle.tm_blocks_base.specs.Instrs.{ld, sd}
+use Rattle.tm_blocks_base.specs.Blocks.{shift_in, constant, load_registers, save_registers, copy_dword, copy_dwords, copy, collect}
+use Rattle.tm_blocks_base.specs.Compare.{register_check, dword_check, register_checks, dword_checks, checks, verdict, compare}
+use Rattle.tm_blocks_base.proofs.Fitting.{addi_fits, slli_fits, add_fits, xor_fits, and_fits, ld_fits, sd_fits, beq_fits, bne_fits, jump_fits, jump_back_fits}
 use Rattle.tm_pass.specs.Hart.{registers_table, masks_table, first_table, bytes_table, first_bytes, entry, arrive, choose, run, leave, between, last, before_stream, behind_stream}
 use Rattle.tm_pass.proofs.Numbers.{length-first_bytes, length-arrive, length-run, length-leave, length-between}
-use Rattle.tm_blocks.proofs.Lengths.{length-save_registers, length-collect}
+use Rattle.tm_blocks_base.proofs.Lengths.{length-save_registers, length-collect}
 
 -- each instruction fits
 pub data AllFit : List Instr → Type 0 where

@@ -12,9 +12,9 @@ use Rattle.tm_runs.specs.Runs.{At}
 use Rattle.tm_runs.specs.Course.{Sofar}
 pub use Rattle.tm_course.proofs.Addresses.{entry_at, arrive_at, exit_at, run_at, start_at, end_at, between_at, last_at, halt_at, registers_at, mask_at, first_at, bytes_at, tables_end, cell, private, count_at, save_0, save_1, shared, is_out, steps_out, reports, fresh_in}
 use Rattle.tm_course.proofs.Logs.{Judged}
-use Rattle.tm_blocks.specs.Instrs.{addi, ld, sd, beq, jump_back}
-use Rattle.tm_blocks.specs.Blocks.{constant, load_registers_but_last, save_registers, copy, collect}
-use Rattle.tm_blocks.specs.Compare.{compare_but_last}
+use Rattle.tm_blocks_base.specs.Instrs.{addi, ld, sd, beq, jump_back}
+use Rattle.tm_blocks_base.specs.Blocks.{constant, load_registers_but_last, save_registers, copy, collect}
+use Rattle.tm_blocks_base.specs.Compare.{compare_but_last}
 
 -- ---- parts
 

@@ -3,10 +3,10 @@ use Rattle.std.proofs.Common.{◌≡◌, ◌≢◌, ◌⊎◌, inl, inr, ℕ, ze
 use Rattle.std.specs.Prelude.{IsTrue, flat_map, slice_get}
 use Rattle.tm_table.specs.Words.{word_of}
 use Rattle.tm_table.specs.declared.instr.Instr.{Instr}
-use Rattle.tm_plan.specs.declared.cases.Case.{Case}
-use Rattle.tm_plan.specs.declared.cases.Stream.{Stream}
-use Rattle.tm_plan.specs.declared.masks.CaseMask.{CaseMask}
-use Rattle.tm_plan.specs.declared.program.Program.{Program}
+use Rattle.tm_plan_cases.specs.declared.cases.Case.{Case}
+use Rattle.tm_plan_cases.specs.declared.cases.Stream.{Stream}
+use Rattle.tm_plan_cases.specs.declared.masks.CaseMask.{CaseMask}
+use Rattle.tm_plan_cases.specs.declared.program.Program.{Program}
 use Rattle.tm_plan_map.specs.Map.{guest_base, guest_end, tables_base, table_at, private_at, private_size, save_at, verdict_at, windows_base, windows_size}
 use Rattle.tm_world.specs.Place.{case_count, start_of, end_of, inside}
 use Rattle.tm_world.specs.Marks.{Exit, Enter, End, Halt, arrivals}
@@ -16,10 +16,10 @@ use Rattle.tm_runs.proofs.Tables.{at_front, at_next}
 use Rattle.tm_runs.proofs.Arrivals.{Quiet, arrivals-none, arrivals-exit, arrivals-halt, arrivals-enter, arrivals-end, inside-true, inside-false, quiet-off, quiet-in, enters, ends}
 use Rattle.tm_runs.proofs.Worlds.{held, private-dword, table-dword, own-private, own-fixed, not-fixed}
 use Rattle.tm_runs.proofs.Places.{guest-true, within-parts}
-use Rattle.tm_blocks.specs.Instrs.{ld, sd, jump, jump_back, words_of}
-use Rattle.tm_blocks.specs.Blocks.{constant, load_registers, load_registers_but_last, save_registers, copy, collect}
-use Rattle.tm_blocks.specs.Compare.{compare, compare_but_last}
-use Rattle.tm_blocks.proofs.Lengths.{length-words_of, length-constant, length-save_registers, length-copy, length-collect}
+use Rattle.tm_blocks_base.specs.Instrs.{ld, sd, jump, jump_back, words_of}
+use Rattle.tm_blocks_base.specs.Blocks.{constant, load_registers, load_registers_but_last, save_registers, copy, collect}
+use Rattle.tm_blocks_base.specs.Compare.{compare, compare_but_last}
+use Rattle.tm_blocks_base.proofs.Lengths.{length-words_of, length-constant, length-save_registers, length-copy, length-collect}
 use Rattle.tm_pass.specs.Hart.{registers_table, masks_table, first_table, bytes_table, first_bytes, entry, arrive, choose, run, leave, between, last, before_stream, behind_stream}
 use Rattle.tm_pass.proofs.Numbers.{length-first_bytes, length-arrive, length-run, length-leave, length-between, length-behind_stream}
 use Rattle.tm_course.specs.OneHart.{IsOfOneHart}

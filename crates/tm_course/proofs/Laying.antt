@@ -4,20 +4,20 @@ use Rattle.std.specs.Prelude.{slice_get, slice_index, All}
 use Rattle.std.proofs.lemmas.List.Elements.{All-head}
 use Rattle.tm_table.specs.declared.instr.Instr.{Instr}
 use Rattle.tm_table.specs.Words.{word_of}
-use Rattle.tm_plan.specs.declared.cases.Case.{Case}
-use Rattle.tm_plan.specs.declared.cases.Stream.{Stream}
-use Rattle.tm_plan.specs.declared.masks.CaseMask.{CaseMask}
-use Rattle.tm_plan.specs.declared.program.Program.{Program}
+use Rattle.tm_plan_cases.specs.declared.cases.Case.{Case}
+use Rattle.tm_plan_cases.specs.declared.cases.Stream.{Stream}
+use Rattle.tm_plan_cases.specs.declared.masks.CaseMask.{CaseMask}
+use Rattle.tm_plan_cases.specs.declared.program.Program.{Program}
 use Rattle.tm_plan_map.specs.Map.{text_base}
-use Rattle.tm_plan.specs.Shaped.{IsShapedCase, IsShapedStream}
+use Rattle.tm_plan_cases.specs.Shaped.{IsShapedCase, IsShapedStream}
 use Rattle.tm_world.specs.Place.{case_count, start_of, end_of, exit_of, halt_of, inside, word_at}
 use Rattle.tm_world.specs.Kinds.{stream_at}
 use Rattle.tm_runs.specs.World.{Sizes, support_at}
 use Rattle.tm_runs.specs.Runs.{At}
 use Rattle.tm_runs.proofs.Arrivals.{stream-some, stream-none, inside-true, inside-false}
 use Rattle.tm_runs.proofs.Worlds.{sizes-of, fetched, instr-word, text-at}
-use Rattle.tm_blocks.specs.Instrs.{words_of}
-use Rattle.tm_blocks.proofs.Lengths.{length-words_of}
+use Rattle.tm_blocks_base.specs.Instrs.{words_of}
+use Rattle.tm_blocks_base.proofs.Lengths.{length-words_of}
 use Rattle.tm_pass.specs.Hart.{hart_words, before_stream, behind_stream}
 use Rattle.tm_pass.proofs.Numbers.{length-entry, length-arrive, length-run, length-before_stream, length-behind_stream}
 use Rattle.tm_course.specs.OneHart.{IsOfOneHart}

@@ -7,7 +7,7 @@ use Rattle.tm_world.specs.Lists.{count, or_else}
 use Rattle.tm_world.specs.Place.{byte_of}
 use Rattle.tm_world.specs.Run.{got}
 use Rattle.tm_runs.specs.Machine.{Table, Entry}
-use Rattle.tm_blocks.specs.Laws.{with_access, EachAccess, verdict_in}
+use Rattle.tm_blocks_base.specs.Laws.{with_access, EachAccess, verdict_in}
 use Rattle.tm_course.proofs.Addresses.{is_out, exit_at, start_at, end_at, mask_at, bytes_at, save_0, save_1, shared}
 
 -- ---- logs

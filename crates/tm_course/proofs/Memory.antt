@@ -4,7 +4,7 @@ use Rattle.std.specs.Prelude.{IsTrue}
 use Rattle.tm_world.specs.Marks.{Mark}
 use Rattle.tm_runs.specs.Machine.{World, Table, put}
 use Rattle.tm_runs.proofs.Tables.{put_other}
-use Rattle.tm_blocks.specs.Laws.{Usable, ReadsBack, Changeable, Among, stored_all}
+use Rattle.tm_blocks_base.specs.Laws.{Usable, ReadsBack, Changeable, Among, stored_all}
 use Rattle.tm_course.proofs.Ground.{Ground, registers_at, tables_end, count_at, private, shared, cell}
 
 -- ---- stores

@@ -10,7 +10,7 @@ use Rattle.tm_world.specs.Place.{byte_of}
 use Rattle.tm_world.specs.Run.{got}
 use Rattle.tm_runs.specs.Machine.{State, Table, Entry, get}
 use Rattle.tm_runs.specs.Runs.{Does, Each, Since}
-use Rattle.tm_blocks.specs.Laws.{accesses, with_access, copies, EachAccess, Among, Uses}
+use Rattle.tm_blocks_base.specs.Laws.{accesses, with_access, copies, EachAccess, Among, Uses}
 use Rattle.tm_runs.proofs.Bytes.{within-false}
 pub use Rattle.tm_course.proofs.Logs.{is_in, phase_at, left, first_read, first_got, outs, IsZero, PassTold, Judged}
 use Rattle.tm_course.proofs.Addresses.{exit_at, start_at, end_at, private, count_at, save_0, save_1, shared}

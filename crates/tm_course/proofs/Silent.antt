@@ -6,10 +6,10 @@ use Rattle.tm_table.specs.declared.state.Access.TheVariants.{Quiet, Read, Write}
 use Rattle.tm_table.specs.State.{Hart}
 use Rattle.tm_table.specs.Words.{low}
 use Rattle.tm_table.specs.Row.{Effect, Gives, Loads, Stores, Branches, Jumps, after}
-use Rattle.tm_plan.specs.declared.cases.Case.{Case}
-use Rattle.tm_plan.specs.declared.cases.Stream.{Stream}
-use Rattle.tm_plan.specs.declared.masks.CaseMask.{CaseMask}
-use Rattle.tm_plan.specs.declared.program.Program.{Program}
+use Rattle.tm_plan_cases.specs.declared.cases.Case.{Case}
+use Rattle.tm_plan_cases.specs.declared.cases.Stream.{Stream}
+use Rattle.tm_plan_cases.specs.declared.masks.CaseMask.{CaseMask}
+use Rattle.tm_plan_cases.specs.declared.program.Program.{Program}
 use Rattle.tm_plan_map.specs.Map.{verdict_at, text_base, tables_base}
 use Rattle.tm_plan_map.specs.Slots.{load_width, store_width, is_access}
 use Rattle.tm_base.specs.Lists.{count_from}
@@ -33,8 +33,8 @@ use Rattle.tm_legal.proofs.Streams.{slot-at}
 use Rattle.tm_legal.proofs.Inside.{rowed}
 use Rattle.tm_legal.proofs.Half.{legal-steps, path-machine}
 use Rattle.tm_stays.proofs.Alike.{passes-alike}
-use Rattle.tm_blocks.specs.Laws.{EachAccess, with_access}
-use Rattle.tm_blocks.specs.Verdict.{Agrees}
+use Rattle.tm_blocks_base.specs.Laws.{EachAccess, with_access}
+use Rattle.tm_blocks_base.specs.Verdict.{Agrees}
 use Rattle.tm_course.specs.OneHart.{IsOfOneHart}
 use Rattle.tm_course.proofs.Addresses.{mask_at, bytes_at, save_0, save_1, shared}
 use Rattle.tm_course.proofs.Logs.{is_in, outs, IsZero, Judged}

@@ -3,16 +3,16 @@ use Rattle.std.proofs.Common.{◌≡◌, ℕ, zero, suc, ◌+◌, ◌*◌, ◌^�
 use Rattle.std.specs.Prelude.{slice_get, slice_index, All}
 use Rattle.std.proofs.lemmas.List.{get_or_append_left, get_or-append-add}
 use Rattle.std.proofs.lemmas.List.Elements.{All-head}
-use Rattle.tm_plan.specs.declared.cases.Case.{Case}
-use Rattle.tm_plan.specs.declared.cases.Cases.{Cases}
-use Rattle.tm_plan.specs.declared.cases.Stream.{Stream}
-use Rattle.tm_plan.specs.declared.masks.CaseMask.{CaseMask}
-use Rattle.tm_plan.specs.declared.masks.Masks.{Masks}
-use Rattle.tm_plan.specs.declared.program.Program.{Program}
+use Rattle.tm_plan_cases.specs.declared.cases.Case.{Case}
+use Rattle.tm_plan_cases.specs.declared.cases.Cases.{Cases}
+use Rattle.tm_plan_cases.specs.declared.cases.Stream.{Stream}
+use Rattle.tm_plan_cases.specs.declared.masks.CaseMask.{CaseMask}
+use Rattle.tm_plan_cases.specs.declared.masks.Masks.{Masks}
+use Rattle.tm_plan_cases.specs.declared.program.Program.{Program}
 use Rattle.tm_plan_map.specs.Map.{tables_base, private_at, private_size}
-use Rattle.tm_plan.specs.Shaped.{IsShapedMask}
-use Rattle.tm_plan.proofs.TableLemmas.{length-dword, length-dwords}
-use Rattle.tm_plan.specs.Tables.{dword_bytes, dwords_bytes, hart_tables, case_tables, table_bytes}
+use Rattle.tm_plan_cases.specs.Shaped.{IsShapedMask}
+use Rattle.tm_plan_cases.proofs.TableLemmas.{length-dword, length-dwords}
+use Rattle.tm_plan_cases.specs.Tables.{dword_bytes, dwords_bytes, hart_tables, case_tables, table_bytes}
 use Rattle.tm_world.specs.Place.{image_byte, byte_of}
 use Rattle.tm_runs.specs.World.{image_dword}
 use Rattle.tm_runs.proofs.Bytes.{joined-lt}

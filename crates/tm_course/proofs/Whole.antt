@@ -1,12 +1,12 @@
 -- The text of a program of one hart, and the bound on its steps.
 use Rattle.std.proofs.Common.{◌≡◌, ◌≢◌, ◌⊎◌, inl, ℕ, zero, suc, ◌+◌, ◌*◌, ◌<◌, ◌≤◌, false, List, [], ◌∷◌, ◌++◌, length, Some, sym, ap, ap₂, ◌∙◌, subst, arith}
 use Rattle.std.specs.Prelude.{slice_get, slice_index_or, All, AllPairs, flat_map, map}
-use Rattle.tm_plan.specs.declared.cases.Case.{Case}
-use Rattle.tm_plan.specs.declared.cases.Stream.{Stream}
-use Rattle.tm_plan.specs.declared.masks.CaseMask.{CaseMask}
-use Rattle.tm_plan.specs.declared.program.Program.{Program}
+use Rattle.tm_plan_cases.specs.declared.cases.Case.{Case}
+use Rattle.tm_plan_cases.specs.declared.cases.Stream.{Stream}
+use Rattle.tm_plan_cases.specs.declared.masks.CaseMask.{CaseMask}
+use Rattle.tm_plan_cases.specs.declared.program.Program.{Program}
 use Rattle.tm_plan_map.specs.Map.{text_base}
-use Rattle.tm_plan.specs.Collected.{work_of, pass_work, slots_of, work_in}
+use Rattle.tm_plan_cases.specs.Collected.{work_of, pass_work, slots_of, work_in}
 use Rattle.tm_base.specs.Lists.{count_from}
 use Rattle.tm_world.specs.Place.{harts, case_count, passes, start_of, end_of, exit_of, halt_of, inside, word_at}
 use Rattle.tm_world.specs.Writers.{stream_in}

@@ -1,15 +1,15 @@
 -- Programs of one hart with one case and two passes (this project's own).
 use Rattle.std.specs.Prelude.{◌≡◌, ℕ, ◌+◌, ◌-◌, ◌*◌, [], ◌∷◌, length, slice_get, slice_index, Some}
 use Rattle.tm_table.specs.declared.instr.Instr.{Instr}
-use Rattle.tm_plan.specs.declared.cases.Case.{Case}
-use Rattle.tm_plan.specs.declared.cases.Stream.{Stream}
+use Rattle.tm_plan_cases.specs.declared.cases.Case.{Case}
+use Rattle.tm_plan_cases.specs.declared.cases.Stream.{Stream}
 use Rattle.tm_plan_map.specs.declared.windows.Kind2.TheVariants.{True}
-use Rattle.tm_plan.specs.declared.masks.CaseMask.{CaseMask}
-use Rattle.tm_plan.specs.declared.program.Program.{Program}
+use Rattle.tm_plan_cases.specs.declared.masks.CaseMask.{CaseMask}
+use Rattle.tm_plan_cases.specs.declared.program.Program.{Program}
 use Rattle.tm_plan_map.specs.Map.{text_base}
-use Rattle.tm_plan.specs.Shaped.{IsProgram, IsTyped}
+use Rattle.tm_plan_cases.specs.Shaped.{IsProgram, IsTyped}
 use Rattle.tm_plan_map.specs.Slots.{instr_of, load_width, store_width}
-use Rattle.tm_plan.specs.Tables.{table_bytes}
+use Rattle.tm_plan_cases.specs.Tables.{table_bytes}
 use Rattle.tm_world.specs.Checked.{AreChecked}
 use Rattle.tm_pass.specs.Hart.{hart_words, exit_place, start_place, halt_place}
 

@@ -15,7 +15,7 @@ use Rattle.tm_tmpl_types.specs.declared.template.TmplFault.{TmplFault}
 use Rattle.tm_tmpl_read.specs.Grammar.{template_of}
 use Rattle.tm_plan_map.specs.declared.admitted.Admitted.{Admitted}
 use Rattle.tm_plan_map.specs.Map.{text_base}
-use Rattle.tm_plan.specs.Shaped.{IsTyped}
+use Rattle.tm_plan_cases.specs.Shaped.{IsTyped}
 use Rattle.tm_elf_write.specs.declared.parts.Parts.{Parts}
 use Rattle.tm_elf_write.specs.declared.parts.Plan.{Plan}
 use Rattle.tm_elf_write.specs.declared.parts.Symbol.{Symbol}

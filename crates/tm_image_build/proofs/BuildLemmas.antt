@@ -3,8 +3,8 @@ use Rattle.std.proofs.Common.{◌≡◌, ◌≤◌, ℕ, ◌*◌, List, [], ◌�
 use Rattle.std.proofs.lemmas.List.Elements.{All-from_recursion}
 use Rattle.tm_plan_map.specs.declared.admitted.AdmittedCase.{AdmittedCase}
 use Rattle.tm_plan_map.specs.declared.admitted.Admitted.{Admitted}
-use Rattle.tm_plan.specs.declared.program.Program.{Program}
-use Rattle.tm_plan.specs.Shaped.{IsProgram}
+use Rattle.tm_plan_cases.specs.declared.program.Program.{Program}
+use Rattle.tm_plan_cases.specs.Shaped.{IsProgram}
 use Rattle.tm_elf_write.specs.declared.parts.Parts.{Parts}
 use Rattle.tm_elf_write.specs.declared.parts.Symbol.{Symbol}
 use Rattle.tm_elf_write.specs.Elf.{elf_file, IsWritable}

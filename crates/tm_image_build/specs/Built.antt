@@ -3,7 +3,7 @@ use Rattle.std.specs.Prelude.{◌≡◌, ℕ, ◌≤◌, List, length, Result, O
 use Rattle.tm_elf_write.specs.declared.parts.Parts.{Parts}
 use Rattle.tm_elf_write.specs.Elf.{elf_file}
 use Rattle.tm_plan_map.specs.declared.admitted.Admitted.{Admitted}
-use Rattle.tm_plan.specs.declared.program.Program.{Program}
+use Rattle.tm_plan_cases.specs.declared.program.Program.{Program}
 use Rattle.tm_faults.specs.declared.inputs.InputFault.{InputFault}
 use Rattle.tm_image_inputs.specs.Inputs.{inputs}
 use Rattle.tm_image_program.specs.Program.{program_for}

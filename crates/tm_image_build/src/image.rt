@@ -13,7 +13,7 @@ use tm_elf_write::{Parts, Plan, Symbol, write_elf};
 use tm_faults::BuildFault;
 use tm_image_inputs::read_inputs;
 use tm_image_program::program_of;
-use tm_plan::{Marks, Program};
+use tm_plan_cases::{Marks, Program};
 
 /// A program with the seed that it was built with, and its file. Each image is sound in the parts that
 /// are claimed so far, and is what is built of some two texts within the limits.

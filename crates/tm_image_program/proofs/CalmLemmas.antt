@@ -2,8 +2,8 @@
 use Rattle.std.proofs.Common.{◌≡◌, ℕ, Bool, false, ◌||◌, List, [], ◌∷◌, Option, Some, None, refl, sym, ap, ◌∙◌, arith, true≢false}
 use Rattle.std.specs.Prelude.{slice_get, Contains}
 use Rattle.tm_table.specs.declared.instr.Instr.{Instr}
-use Rattle.tm_plan.specs.declared.cases.Cases.{Cases}
-use Rattle.tm_plan.specs.declared.cases.Stream.{Stream}
+use Rattle.tm_plan_cases.specs.declared.cases.Cases.{Cases}
+use Rattle.tm_plan_cases.specs.declared.cases.Stream.{Stream}
 use Rattle.tm_base.specs.Lists.{any}
 use Rattle.tm_plan_map.specs.Slots.{instr_of}
 use Rattle.tm_world.specs.Writers.{stream_in}

@@ -4,10 +4,10 @@ use Rattle.std.specs.Prelude.{slice_get, slice_index, All, IsFalse}
 use Rattle.std.proofs.lemmas.Bool.{and_parts, eqb-true, cases_lt}
 use Rattle.std.proofs.lemmas.List.{length-replicate, get_or-replicate, get_or_append_left, get_or-append-add}
 use Rattle.std.proofs.lemmas.List.Elements.{All-append, All-replicate}
-use Rattle.tm_plan.specs.declared.cases.Stream.{Stream}
-use Rattle.tm_plan.specs.declared.masks.CaseMask.{CaseMask}
+use Rattle.tm_plan_cases.specs.declared.cases.Stream.{Stream}
+use Rattle.tm_plan_cases.specs.declared.masks.CaseMask.{CaseMask}
 use Rattle.tm_plan_map.specs.Map.{windows_base, windows_size, window_at, within}
-use Rattle.tm_plan.specs.Collected.{is_declared}
+use Rattle.tm_plan_cases.specs.Collected.{is_declared}
 use Rattle.tm_world.specs.Writers.{stream_in}
 use Rattle.tm_world.specs.Slots.{slots_in, another_may_store}
 use Rattle.tm_world.specs.Trails.{RaceDependent}

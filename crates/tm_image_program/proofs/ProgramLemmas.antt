@@ -2,11 +2,11 @@
 use Rattle.std.proofs.Common.{◌≡◌, ℕ, ◌+◌, ◌-◌, ◌*◌, List, [], ◌∷◌, ◌++◌, length, map, replicate, refl, ap, ◌∙◌}
 use Rattle.tm_table.specs.declared.instr.Instr.{Instr}
 use Rattle.tm_table.specs.Words.{word_of}
-use Rattle.tm_plan.specs.declared.cases.Cases.{Cases}
-use Rattle.tm_plan.specs.declared.masks.Masks.{Masks}
-use Rattle.tm_plan.specs.declared.program.Program.{Program}
+use Rattle.tm_plan_cases.specs.declared.cases.Cases.{Cases}
+use Rattle.tm_plan_cases.specs.declared.masks.Masks.{Masks}
+use Rattle.tm_plan_cases.specs.declared.program.Program.{Program}
 use Rattle.tm_plan_map.specs.Map.{text_base}
-use Rattle.tm_plan.specs.Tables.{table_bytes}
+use Rattle.tm_plan_cases.specs.Tables.{table_bytes}
 use Rattle.tm_pass.specs.Hart.{hart_words, exit_place, start_place, halt_place}
 use Rattle.tm_image_program.specs.Program.{Names, cases_of, declared_bytes, all_checked, marks_around, program_of}
 

@@ -9,11 +9,11 @@ use Rattle.tm_table.specs.declared.instr.Op.{Op}
 use Rattle.tm_table.specs.declared.instr.Op.TheVariants.{Addi, Add, Xor}
 use Rattle.tm_table.specs.Words.{word_of}
 use Rattle.tm_table.proofs.Decoding.{decoded-word}
-use Rattle.tm_plan.specs.declared.cases.Cases.{Cases}
-use Rattle.tm_plan.specs.declared.cases.Stream.{Stream}
+use Rattle.tm_plan_cases.specs.declared.cases.Cases.{Cases}
+use Rattle.tm_plan_cases.specs.declared.cases.Stream.{Stream}
 use Rattle.tm_plan_map.specs.Map.{window_at, private_at}
 use Rattle.tm_plan_map.specs.Slots.{instr_of, load_width, store_width, is_access, is_barred, is_jump}
-use Rattle.tm_plan.specs.Shaped.{IsShapedSlot, IsShapedStream, IsShapedCase, IsShapedWindow, AreShaped}
+use Rattle.tm_plan_cases.specs.Shaped.{IsShapedSlot, IsShapedStream, IsShapedCase, IsShapedWindow, AreShaped}
 use Rattle.tm_image_inputs.specs.Built.{IsEmitted, is_built}
 use Rattle.tm_image_program.specs.Program.{Names, first_registers, zero_dwords, case_of, cases_of, declared_bytes}
 use Rattle.tm_image_program.proofs.MaskLemmas.{the-one}

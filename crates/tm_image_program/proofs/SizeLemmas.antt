@@ -6,11 +6,11 @@ use Rattle.tm_table.specs.declared.instr.Instr.{Instr}
 use Rattle.tm_table.specs.Words.{word_of}
 use Rattle.tm_table.proofs.Decoding.{word-lt}
 use Rattle.tm_plan_map.specs.Map.{window_at, windows_base, private_at}
-use Rattle.tm_plan.specs.Tables.{dword_bytes, dwords_bytes, table_bytes}
-use Rattle.tm_plan.specs.declared.cases.Case.{Case}
-use Rattle.tm_plan.specs.declared.cases.Stream.{Stream}
-use Rattle.tm_plan.specs.declared.masks.CaseMask.{CaseMask}
-use Rattle.tm_plan.specs.Shaped.{IsTyped}
+use Rattle.tm_plan_cases.specs.Tables.{dword_bytes, dwords_bytes, table_bytes}
+use Rattle.tm_plan_cases.specs.declared.cases.Case.{Case}
+use Rattle.tm_plan_cases.specs.declared.cases.Stream.{Stream}
+use Rattle.tm_plan_cases.specs.declared.masks.CaseMask.{CaseMask}
+use Rattle.tm_plan_cases.specs.Shaped.{IsTyped}
 use Rattle.tm_pass.specs.Hart.{hart_words, before_stream, behind_stream}
 use Rattle.tm_pass.proofs.Numbers.{length-before_stream, length-behind_stream}
 use Rattle.tm_course.proofs.Fitting.{AllFit, Fit, fit-before, fit-behind}

@@ -5,9 +5,9 @@ use Rattle.std.proofs.lemmas.List.{length-map}
 use Rattle.std.proofs.lemmas.List.Elements.{All-cons, All-nil}
 use Rattle.tm_table.specs.declared.instr.Instr.{Instr}
 use Rattle.tm_table.specs.Words.{word_of}
-use Rattle.tm_plan.specs.declared.program.Program.{Program}
+use Rattle.tm_plan_cases.specs.declared.program.Program.{Program}
 use Rattle.tm_plan_map.specs.Slots.{load_width, store_width}
-use Rattle.tm_plan.specs.Shaped.{IsShapedMask, MasksFit, IsProgram}
+use Rattle.tm_plan_cases.specs.Shaped.{IsShapedMask, MasksFit, IsProgram}
 use Rattle.tm_course.specs.OneHart.{HasNoAccess, IsOfOneHart}
 use Rattle.tm_world.specs.Sound.{SoundSoFar}
 use Rattle.tm_course.proofs.Together.{one-hart}

@@ -1,7 +1,7 @@
 -- How long the tables of the program are.
 use Rattle.std.proofs.Common.{◌≡◌, ◌≤◌, ℕ, ◌+◌, ◌*◌, List, [], ◌∷◌, ◌++◌, length, drop, refl, arith, length-append}
 use Rattle.std.proofs.lemmas.List.{length-replicate}
-use Rattle.tm_plan.specs.Tables.{dword_bytes, dwords_bytes, table_bytes}
+use Rattle.tm_plan_cases.specs.Tables.{dword_bytes, dwords_bytes, table_bytes}
 use Rattle.tm_image_program.specs.Program.{Names, first_registers, zero_dwords, case_of, cases_of, declared_bytes, all_checked}
 
 dword_length : (n : ℕ) → length (dword_bytes n) ≡ 8

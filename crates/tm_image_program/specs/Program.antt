@@ -6,15 +6,15 @@ use Rattle.tm_plan_map.specs.declared.admitted.Slot.{Slot}
 use Rattle.tm_plan_map.specs.declared.admitted.Slot.TheVariants.{Emit, Mix}
 use Rattle.tm_plan_map.specs.declared.admitted.AdmittedCase.{AdmittedCase}
 use Rattle.tm_plan_map.specs.declared.admitted.Admitted.{Admitted}
-use Rattle.tm_plan.specs.declared.cases.Cases.{Cases}
-use Rattle.tm_plan.specs.declared.cases.Stream.{Stream}
-use Rattle.tm_plan.specs.declared.cases.Case.{Case}
+use Rattle.tm_plan_cases.specs.declared.cases.Cases.{Cases}
+use Rattle.tm_plan_cases.specs.declared.cases.Stream.{Stream}
+use Rattle.tm_plan_cases.specs.declared.cases.Case.{Case}
 use Rattle.tm_plan_map.specs.declared.windows.Kind2.TheVariants.{True}
-use Rattle.tm_plan.specs.declared.masks.Masks.{Masks}
-use Rattle.tm_plan.specs.declared.program.Marks.{Marks}
-use Rattle.tm_plan.specs.declared.program.Program.{Program}
+use Rattle.tm_plan_cases.specs.declared.masks.Masks.{Masks}
+use Rattle.tm_plan_cases.specs.declared.program.Marks.{Marks}
+use Rattle.tm_plan_cases.specs.declared.program.Program.{Program}
 use Rattle.tm_plan_map.specs.Map.{text_base, window_at, private_at}
-use Rattle.tm_plan.specs.Tables.{table_bytes}
+use Rattle.tm_plan_cases.specs.Tables.{table_bytes}
 use Rattle.tm_pass.specs.Hart.{hart_words, exit_place, start_place, halt_place}
 
 -- x0 to x27 begin at 0, x28 to x30 with the bases of the windows, x31 with that of the private area

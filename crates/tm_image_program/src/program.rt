@@ -8,7 +8,7 @@ ghost use Rattle.tm_image_program.specs.Program.{first_registers as registers_of
 use std::alloc::Global;
 use tm_base::{Bytes, List, NoMemory, Words};
 use tm_pass::{HartCode, hart_code};
-use tm_plan::{Case, CaseMask, Cases, Marks, Masks, Program, Stream, tables};
+use tm_plan_cases::{Case, CaseMask, Cases, Marks, Masks, Program, Stream, tables};
 use tm_plan_map::{
     Admitted, AdmittedCase, Kind2, Slot, SlotList, Window, private_base, window_base,
 };

@@ -10,12 +10,12 @@ use Rattle.tm_table.specs.Words.{low}
 use Rattle.tm_table.proofs.Signs.{low-lt}
 use Rattle.tm_table.specs.Row.{Effect, Gives, Loads, Stores, Branches, Jumps, effect, word64, row, after}
 use Rattle.tm_table.proofs.Signs.{low-lt}
-use Rattle.tm_plan.specs.declared.program.Program.{Program}
-use Rattle.tm_plan.specs.declared.cases.Stream.{Stream}
+use Rattle.tm_plan_cases.specs.declared.program.Program.{Program}
+use Rattle.tm_plan_cases.specs.declared.cases.Stream.{Stream}
 use Rattle.tm_plan_map.specs.Map.{window_at, within}
 use Rattle.tm_plan_map.specs.Slots.{instr_of, load_width, store_width, is_access, is_jump, slot_addr, slot_target, stores_to}
-use Rattle.tm_plan.specs.Collected.{is_declared}
-use Rattle.tm_plan.specs.Shaped.{IsShapedWindow}
+use Rattle.tm_plan_cases.specs.Collected.{is_declared}
+use Rattle.tm_plan_cases.specs.Shaped.{IsShapedWindow}
 use Rattle.tm_world.specs.Place.{harts, start_of, end_of, inside, is_window}
 use Rattle.tm_world.specs.Run.{Step, access_of, HasShape, Writes, read_value}
 use Rattle.tm_world.specs.Writers.{stream_in}

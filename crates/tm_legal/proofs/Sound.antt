@@ -1,5 +1,5 @@
 -- Each legal run of a sound program is a half run.
-use Rattle.tm_plan.specs.declared.program.Program.{Program}
+use Rattle.tm_plan_cases.specs.declared.program.Program.{Program}
 use Rattle.tm_legal.specs.Tame.{Formed}
 use Rattle.tm_legal.specs.Laws.{CourseRunsAreHalf, SoundRunsAreHalf, ClaimedRunsAreHalf}
 use Rattle.tm_legal.proofs.Half.{legal-runs}

@@ -6,16 +6,16 @@ use Rattle.std.proofs.lemmas.Option.{slice_get_cases, slice_get_within, get_or_f
 use Rattle.tm_table.specs.declared.instr.Instr.{Instr}
 use Rattle.tm_table.specs.State.{Hart}
 use Rattle.tm_table.specs.Row.{word64}
-use Rattle.tm_plan.specs.declared.program.Program.{Program}
-use Rattle.tm_plan.specs.declared.cases.Cases.{Cases}
-use Rattle.tm_plan.specs.declared.cases.Case.{Case}
-use Rattle.tm_plan.specs.declared.cases.Stream.{Stream}
+use Rattle.tm_plan_cases.specs.declared.program.Program.{Program}
+use Rattle.tm_plan_cases.specs.declared.cases.Cases.{Cases}
+use Rattle.tm_plan_cases.specs.declared.cases.Case.{Case}
+use Rattle.tm_plan_cases.specs.declared.cases.Stream.{Stream}
 use Rattle.tm_plan_map.specs.declared.windows.Window.{Window}
 use Rattle.tm_plan_map.specs.Map.{text_base, window_at, windows_base, windows_size}
 use Rattle.tm_plan_map.specs.Slots.{instr_of}
-use Rattle.tm_plan.specs.Collected.{is_declared, declares}
+use Rattle.tm_plan_cases.specs.Collected.{is_declared, declares}
 use Rattle.tm_base.specs.Lists.{any}
-use Rattle.tm_plan.specs.Shaped.{IsShapedSlot, IsShapedStream, IsShapedCase, IsShapedWindow, AreShaped}
+use Rattle.tm_plan_cases.specs.Shaped.{IsShapedSlot, IsShapedStream, IsShapedCase, IsShapedWindow, AreShaped}
 use Rattle.tm_world.specs.Place.{harts, start_of, end_of, inside, is_text, is_window, word_at}
 use Rattle.tm_world.specs.Writers.{stream_in}
 use Rattle.tm_runs.proofs.Places.{within-parts, word-place}

@@ -2,8 +2,8 @@
 use Rattle.std.proofs.Common.{◌≡◌, ℕ, ◌%◌, List, [], ◌∷◌, ◌||◌, Option, None, Some}
 use Rattle.std.specs.Prelude.{IsTrue, IsFalse}
 use Rattle.tm_table.specs.State.{Hart}
-use Rattle.tm_plan.specs.declared.program.Program.{Program}
-use Rattle.tm_plan.specs.Collected.{is_declared}
+use Rattle.tm_plan_cases.specs.declared.program.Program.{Program}
+use Rattle.tm_plan_cases.specs.Collected.{is_declared}
 use Rattle.tm_world.specs.Writers.{may_write}
 use Rattle.tm_world.specs.Place.{exit_of, is_text, is_table}
 use Rattle.tm_world.specs.Run.{Step, now, access_of, phase}

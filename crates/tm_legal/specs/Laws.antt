@@ -1,8 +1,8 @@
 -- Laws of legal runs: they are half runs, and with one hart plain runs (this project's own).
 use Rattle.std.specs.Prelude.{◌≡◌, ℕ, ◌<◌, List}
 use Rattle.tm_table.specs.State.{Hart}
-use Rattle.tm_plan.specs.declared.program.Program.{Program}
-use Rattle.tm_plan.specs.Shaped.{IsProgram, IsTyped}
+use Rattle.tm_plan_cases.specs.declared.program.Program.{Program}
+use Rattle.tm_plan_cases.specs.Shaped.{IsProgram, IsTyped}
 use Rattle.tm_world.specs.Place.{harts}
 use Rattle.tm_world.specs.Run.{Step, Run, own}
 use Rattle.tm_world.specs.Kinds.{Legal, Half, Plain, HalfPath, first_of_hart}

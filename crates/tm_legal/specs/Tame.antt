@@ -2,8 +2,8 @@
 -- project's own).
 use Rattle.std.specs.Prelude.{ℕ, ◌||◌, List, Option, None, Some, IsFalse}
 use Rattle.tm_table.specs.State.{Hart}
-use Rattle.tm_plan.specs.declared.program.Program.{Program}
-use Rattle.tm_plan.specs.Shaped.{IsProgram, IsTyped}
+use Rattle.tm_plan_cases.specs.declared.program.Program.{Program}
+use Rattle.tm_plan_cases.specs.Shaped.{IsProgram, IsTyped}
 use Rattle.tm_world.specs.Place.{is_text, is_table}
 use Rattle.tm_world.specs.Run.{Step, Always, now, access_of, Writes}
 use Rattle.tm_world.specs.Kinds.{stream_at}

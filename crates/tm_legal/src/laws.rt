@@ -2,7 +2,7 @@
 ghost use Rattle.tm_legal.specs.Laws.{CourseIsTame, LegalRunsAreHalf, LegalStepsAreHalf, CourseRunsAreHalf};
 ghost use Rattle.tm_legal.specs.Laws.{SoundRunsAreHalf, ClaimedRunsAreHalf, LegalIsPlain, PlainIsLegal};
 
-use tm_plan::Program;
+use tm_plan_cases::Program;
 
 /// A hart that keeps the course is tame: it comes to its marks in order, enters its streams with its first
 /// registers, and outside them writes no byte of text and tables.

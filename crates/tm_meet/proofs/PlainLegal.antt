@@ -1,7 +1,7 @@
 -- Each plain run of harts that meet is legal, step by step: it is a half run, so its harts keep the barrier; where it has been legal so far,
 -- writes are right, so bytes have settled to what was written last.
 use Rattle.std.proofs.Common.{ℕ, List, [], ◌∷◌, refl, subst}
-use Rattle.tm_plan.specs.declared.program.Program.{Program}
+use Rattle.tm_plan_cases.specs.declared.program.Program.{Program}
 use Rattle.tm_world.specs.Run.{Step, own, hart_of, access_of}
 use Rattle.tm_world.specs.Kinds.{Legal, Plain}
 use Rattle.tm_world.proofs.Prefix.{earlier, Plain-earlier}

@@ -1,6 +1,6 @@
 -- What is so in each state of a run of one memory, and of a plain run.
 use Rattle.std.proofs.Common.{◌≤◌, Bool, true, false, arith}
-use Rattle.tm_plan.specs.declared.program.Program.{Program}
+use Rattle.tm_plan_cases.specs.declared.program.Program.{Program}
 use Rattle.tm_world.specs.Run.{own}
 use Rattle.tm_meet.specs.Laws.{FlagsCount, NoneAhead, SettledIsLast}
 use Rattle.tm_meet.proofs.Counts.{one, signalled, counted}

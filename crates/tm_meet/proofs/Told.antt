@@ -3,7 +3,7 @@ use Rattle.std.proofs.Common.{ℕ, ◌<◌, List, [], ◌∷◌, Option, None, S
 use Rattle.std.specs.Prelude.{IsTrue}
 use Rattle.std.proofs.lemmas.Bool.{cases_eq}
 use Rattle.tm_table.specs.State.{Hart}
-use Rattle.tm_plan.specs.declared.program.Program.{Program}
+use Rattle.tm_plan_cases.specs.declared.program.Program.{Program}
 use Rattle.tm_world.specs.Place.{harts, is_window}
 use Rattle.tm_world.specs.Run.{Step, Run, Always, own, hart_of, access_of, now, HasShape, Reads}
 use Rattle.tm_world.specs.Kinds.{Legal, first_of_hart, plain_owed, stream_at}

@@ -1,10 +1,10 @@
 -- What each hart sets before it signals, so that streams begin with their first bytes (this project's own).
 use Rattle.std.specs.Prelude.{◌≡◌, ◌≢◌, ℕ, suc, ◌+◌, ◌-◌, ◌/◌, ◌<◌, List, slice_get, slice_index, Some, IsTrue, All}
 use Rattle.tm_table.specs.State.{Hart}
-use Rattle.tm_plan.specs.declared.program.Program.{Program}
-use Rattle.tm_plan.specs.declared.cases.Case.{Case}
+use Rattle.tm_plan_cases.specs.declared.program.Program.{Program}
+use Rattle.tm_plan_cases.specs.declared.cases.Case.{Case}
 use Rattle.tm_plan_map.specs.Map.{windows_base}
-use Rattle.tm_plan.specs.Collected.{is_declared, collector, owned}
+use Rattle.tm_plan_cases.specs.Collected.{is_declared, collector, owned}
 use Rattle.tm_world.specs.Place.{case_count, case_of_round, first_dwords, exit_of, byte_of}
 use Rattle.tm_world.specs.Run.{Step, Always, now, pc_of, phase, last_write}
 use Rattle.tm_world.specs.Writers.{round_of_phase}

@@ -1,6 +1,6 @@
 -- Laws of runs in which harts meet (this project's own).
 use Rattle.std.specs.Prelude.{◌≡◌, ◌≢◌, ℕ, suc, ◌+◌, ◌<◌, ◌≤◌, Some, IsTrue, unwrap_or, if◌then◌else◌}
-use Rattle.tm_plan.specs.declared.program.Program.{Program}
+use Rattle.tm_plan_cases.specs.declared.program.Program.{Program}
 use Rattle.tm_plan_map.specs.Map.{flag_at}
 use Rattle.tm_base.specs.Lists.{any}
 use Rattle.tm_world.specs.Place.{harts, image_byte, byte_of}

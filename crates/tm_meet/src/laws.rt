@@ -2,7 +2,7 @@
 ghost use Rattle.tm_meet.specs.Laws.{FlagsCount, NoneAhead, IdleWaits, SomeGoesOn, PlainIsLegal, SettledIsLast};
 ghost use Rattle.tm_meet.specs.Laws.{FirstBytesSettle, DwordsSet, CourseKept, HaltIsLast};
 
-use tm_plan::Program;
+use tm_plan_cases::Program;
 
 /// What is so in each state of a run of one memory, and so of a plain run and of one with faults in its streams,
 /// whatever the interleaving. Each flag holds how often its hart has written it; no hart leaves a barrier before

@@ -11,8 +11,8 @@ use Rattle.tm_table.specs.declared.state.Access.TheVariants.{Quiet, Read, Write}
 use Rattle.tm_table.specs.State.{Hart}
 use Rattle.tm_table.specs.Words.{low}
 use Rattle.tm_table.specs.Row.{put, word64}
-use Rattle.tm_plan.specs.declared.program.Program.{Program}
-use Rattle.tm_plan.specs.declared.cases.Stream.{Stream}
+use Rattle.tm_plan_cases.specs.declared.program.Program.{Program}
+use Rattle.tm_plan_cases.specs.declared.cases.Stream.{Stream}
 use Rattle.tm_plan_map.specs.Slots.{is_branch, is_jump, slot_target}
 use Rattle.tm_world.specs.Place.{harts, exit_of, start_of, end_of, is_window}
 use Rattle.tm_world.specs.Run.{Step, own, hart_of, access_of, now, first_state, phase, Writes}

@@ -1,6 +1,6 @@
 -- Harts that meet.
 use Rattle.std.proofs.Common.{ℕ, ◌<◌}
-use Rattle.tm_plan.specs.declared.program.Program.{Program}
+use Rattle.tm_plan_cases.specs.declared.program.Program.{Program}
 use Rattle.tm_world.specs.Place.{harts}
 use Rattle.tm_legal.specs.Tame.{Tame}
 use Rattle.tm_legal.proofs.Tame.{writes-spare}

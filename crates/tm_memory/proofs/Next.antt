@@ -8,11 +8,11 @@ use Rattle.tm_table.specs.State.{Hart}
 use Rattle.tm_table.specs.Words.{low}
 use Rattle.tm_table.specs.Row.{Effect, Gives, Loads, Stores, Branches, Jumps, effect_at, row, after}
 use Rattle.tm_table.proofs.Signs.{low-lt}
-use Rattle.tm_plan.specs.declared.program.Program.{Program}
-use Rattle.tm_plan.specs.declared.cases.Stream.{Stream}
+use Rattle.tm_plan_cases.specs.declared.program.Program.{Program}
+use Rattle.tm_plan_cases.specs.declared.cases.Stream.{Stream}
 use Rattle.tm_plan_map.specs.Map.{guest_base, guest_end, text_base, windows_base, windows_size}
 use Rattle.tm_plan_map.specs.Slots.{load_width, store_width, is_access, slot_addr}
-use Rattle.tm_plan.specs.Shaped.{IsShapedWindow}
+use Rattle.tm_plan_cases.specs.Shaped.{IsShapedWindow}
 use Rattle.tm_world.specs.Place.{harts, case_count, start_of, halt_of, inside, is_window, word_at}
 use Rattle.tm_world.specs.Run.{Step, own, now, first_state}
 use Rattle.tm_world.specs.Kinds.{IsOpening, IsReachable, IsPossible, HalfPath, HalfStep, stream_at}

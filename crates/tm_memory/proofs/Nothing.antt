@@ -9,7 +9,7 @@ use Rattle.tm_table.specs.declared.state.Access.{Access}
 use Rattle.tm_table.specs.declared.state.Access.TheVariants.{Quiet, Read, Write}
 use Rattle.tm_table.specs.State.{Hart}
 use Rattle.tm_table.specs.Row.{put, row_word}
-use Rattle.tm_plan.specs.declared.program.Program.{Program}
+use Rattle.tm_plan_cases.specs.declared.program.Program.{Program}
 use Rattle.tm_world.specs.Place.{word_at}
 use Rattle.tm_world.specs.Run.{Step, Always, own, hart_of, access_of, now, first_state, read_value, Reads}
 use Rattle.tm_world.specs.Kinds.{Path, Follows, IsPossible, Plain, plain_owed, stream_at}

@@ -4,12 +4,12 @@ use Rattle.std.specs.Prelude.{IsTrue, if◌then◌else◌, slice_index}
 use Rattle.std.specs.List.{AllByRecursion as Each}
 use Rattle.std.proofs.lemmas.Bool.{cond-true, cond-false, cases_Bool, cases_eq, cases_lt, true≢false, false≢true, or_from, or_left, or_cases}
 use Rattle.std.proofs.lemmas.List.Elements.{recursion_from_All}
-use Rattle.tm_plan.specs.declared.program.Program.{Program}
+use Rattle.tm_plan_cases.specs.declared.program.Program.{Program}
 use Rattle.tm_plan_map.specs.declared.windows.Window.{Window}
 use Rattle.tm_plan_map.specs.Map.{text_base, tables_base, flag_at, verdict_at, private_at, private_size, windows_base, windows_size, within}
-use Rattle.tm_plan.specs.Collected.{is_declared, declares, collector}
+use Rattle.tm_plan_cases.specs.Collected.{is_declared, declares, collector}
 use Rattle.tm_base.specs.Lists.{any, count_from}
-use Rattle.tm_plan.specs.Shaped.{IsShapedWindow}
+use Rattle.tm_plan_cases.specs.Shaped.{IsShapedWindow}
 use Rattle.tm_world.specs.Lists.{those}
 use Rattle.tm_world.specs.Place.{harts, case_count, is_flag, is_verdict, is_private, is_window, is_text, is_table, image_byte, byte_of}
 use Rattle.tm_world.specs.Writers.{may_write, may_write_window, may_write_running, case_of_phase, writers}

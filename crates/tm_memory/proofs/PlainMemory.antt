@@ -5,8 +5,8 @@ use Rattle.tm_table.specs.declared.state.Access.{Access}
 use Rattle.tm_table.specs.State.{Hart}
 use Rattle.tm_table.specs.Words.{low}
 use Rattle.tm_table.specs.Row.{Effect, Gives, Loads, Stores, Branches, Jumps, after}
-use Rattle.tm_plan.specs.declared.program.Program.{Program}
-use Rattle.tm_plan.specs.declared.cases.Stream.{Stream}
+use Rattle.tm_plan_cases.specs.declared.program.Program.{Program}
+use Rattle.tm_plan_cases.specs.declared.cases.Stream.{Stream}
 use Rattle.tm_world.specs.Place.{harts, is_window}
 use Rattle.tm_world.specs.Run.{Step, own, hart_of, access_of, now, first_state, read_value}
 use Rattle.tm_world.specs.Kinds.{Path, Follows, Half, Plain, stream_at}

@@ -1,6 +1,6 @@
 -- Laws of runs of one memory (this project's own).
 use Rattle.std.specs.Prelude.{◌≢◌, ℕ, ◌^◌, ◌<◌}
-use Rattle.tm_plan.specs.declared.program.Program.{Program}
+use Rattle.tm_plan_cases.specs.declared.program.Program.{Program}
 use Rattle.tm_world.specs.Place.{harts, halt_of}
 use Rattle.tm_world.specs.Run.{Run, own, now}
 use Rattle.tm_world.specs.Kinds.{Legal, Half, Plain, first_of_hart}

@@ -1,6 +1,6 @@
 -- What each hart keeps on half runs, so that the harts of a program meet at their barrier (this project's own).
 use Rattle.std.specs.Prelude.{ℕ, ◌<◌}
-use Rattle.tm_plan.specs.declared.program.Program.{Program}
+use Rattle.tm_plan_cases.specs.declared.program.Program.{Program}
 use Rattle.tm_world.specs.Place.{harts}
 use Rattle.tm_world.specs.Course.{OnHalf, KeepsOrder, EntersFresh, KeepsWrites, KeepsBarrier}
 use Rattle.tm_legal.specs.Tame.{Formed}

@@ -2,7 +2,7 @@
 ghost use Rattle.tm_memory.specs.Laws.{CourseMeets, MemoryIsHalf, PlainIsMemory, PlainIsHalf, FaultedIsMemory};
 ghost use Rattle.tm_memory.specs.Laws.{FaultedIsHalf, NothingIsPlain, LegalWritesRight, NoneStuck, AllUnstuck};
 
-use tm_plan::Program;
+use tm_plan_cases::Program;
 
 /// Harts that keep the course meet: on half runs each comes to its marks in order, enters its streams with its
 /// first registers, writes outside streams only what it may, and keeps the barrier.

@@ -1,7 +1,7 @@
 -- Laws of how much harts work (this project's own).
 use Rattle.std.specs.Prelude.{◌^◌, ℕ, suc, ◌+◌, ◌*◌, ◌<◌, ◌≤◌, length, IsFalse}
-use Rattle.tm_plan.specs.declared.program.Program.{Program}
-use Rattle.tm_plan.specs.Collected.{sum_of, work_of, budget_of}
+use Rattle.tm_plan_cases.specs.declared.program.Program.{Program}
+use Rattle.tm_plan_cases.specs.Collected.{sum_of, work_of, budget_of}
 use Rattle.tm_base.specs.Lists.{count_from}
 use Rattle.tm_world.specs.Place.{harts, passes, exit_of}
 use Rattle.tm_world.specs.Run.{Run, Always, hart_of, own, phase}

@@ -1,8 +1,8 @@
 -- How much a hart works outside its streams, phase by phase (this project's own).
 use Rattle.std.specs.Prelude.{◌≡◌, ℕ, ◌+◌, ◌*◌, ◌<◌, ◌≤◌, ◌==◌, List, [], ◌∷◌, length, if◌then◌else◌}
 use Rattle.tm_table.specs.State.{Hart}
-use Rattle.tm_plan.specs.declared.program.Program.{Program}
-use Rattle.tm_plan.specs.Collected.{owned}
+use Rattle.tm_plan_cases.specs.declared.program.Program.{Program}
+use Rattle.tm_plan_cases.specs.Collected.{owned}
 use Rattle.tm_world.specs.Place.{harts, round_count, passes, exit_of}
 use Rattle.tm_world.specs.Run.{Step, now, phase}
 use Rattle.tm_world.specs.Kinds.{stream_at}

@@ -1,7 +1,7 @@
 // Laws over the definitions, each as the contract of a function that does nothing.
 ghost use Rattle.tm_pace.specs.Laws.{PhasesEnd, PhasesAddUp, PaceBounds, PaceHolds, FaultedPaceHolds, QuietRunsEnd};
 
-use tm_plan::Program;
+use tm_plan_cases::Program;
 
 /// A hart never leaves the last phase; its work in each phase adds up, with the words of its streams, to all its
 /// work on legal runs; so a hart that keeps a pace which fits keeps its bound, on runs of one memory too, and so

@@ -1,6 +1,6 @@
 -- How many instructions the parts have.
 use Rattle.std.proofs.Common.{◌≡◌, ℕ, length, refl, length-append}
-use Rattle.tm_blocks.proofs.Lengths.{length-constant, length-load_registers, length-save_registers, length-copy, length-collect, length-compare}
+use Rattle.tm_blocks_base.proofs.Lengths.{length-constant, length-load_registers, length-save_registers, length-copy, length-collect, length-compare}
 use Rattle.tm_pass.specs.Hart.{first_bytes, entry, arrive, choose, run, leave, between, last, before_stream, behind_stream}
 
 pub length-first_bytes : length first_bytes ≡ 38

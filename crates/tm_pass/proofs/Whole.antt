@@ -3,9 +3,9 @@ use Rattle.std.proofs.Common.{◌≡◌, ℕ, ◌+◌, List, [], ◌∷◌, ◌+
 use Rattle.tm_table.specs.declared.instr.Instr.{Instr}
 use Rattle.tm_table.specs.Words.{word_of}
 use Rattle.tm_plan_map.specs.Map.{save_at, windows_base}
-use Rattle.tm_blocks.specs.Instrs.{jump, words_of}
-use Rattle.tm_blocks.proofs.Lists.{and_then}
-use Rattle.tm_blocks.proofs.Lengths.{length-words_of, length-save_registers, length-collect}
+use Rattle.tm_blocks_base.specs.Instrs.{jump, words_of}
+use Rattle.tm_blocks_base.proofs.Lists.{and_then}
+use Rattle.tm_blocks_base.proofs.Lengths.{length-words_of, length-save_registers, length-collect}
 use Rattle.tm_pass.specs.Hart.{entry, arrive, choose, run, leave, between, last, before_stream, behind_stream, hart_words}
 use Rattle.tm_pass.proofs.Numbers.{length-first_bytes, length-entry, length-arrive, length-choose, length-run, length-leave, length-between, length-last}
 

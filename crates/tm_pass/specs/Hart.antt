@@ -14,9 +14,9 @@
 use Rattle.std.specs.Prelude.{◌≡◌, ℕ, ◌+◌, ◌*◌, List, [], ◌∷◌, ◌++◌, length}
 use Rattle.tm_table.specs.declared.instr.Instr.{Instr}
 use Rattle.tm_plan_map.specs.Map.{private_at, save_at, verdict_at, table_at, windows_base}
-use Rattle.tm_blocks.specs.Instrs.{addi, ld, sd, beq, jump, jump_back, words_of}
-use Rattle.tm_blocks.specs.Blocks.{constant, load_registers, save_registers, copy, collect}
-use Rattle.tm_blocks.specs.Compare.{compare}
+use Rattle.tm_blocks_base.specs.Instrs.{addi, ld, sd, beq, jump, jump_back, words_of}
+use Rattle.tm_blocks_base.specs.Blocks.{constant, load_registers, save_registers, copy, collect}
+use Rattle.tm_blocks_base.specs.Compare.{compare}
 
 -- the dwords of the one declared line
 abbrev pub declared_dwords : ℕ

@@ -5,7 +5,7 @@ ghost use Rattle.tm_pass.specs.Hart.{exit_place, start_place, halt_place, hart_w
 use crate::parts::{put_arrive, put_between, put_choose, put_entry, put_last, put_leave, put_run};
 use std::alloc::Global;
 use tm_base::{List, NoMemory, Words};
-use tm_blocks::jump;
+use tm_blocks_base::jump;
 
 // How many instructions the parts have between which the program jumps.
 const ARRIVE: u16 = 3;

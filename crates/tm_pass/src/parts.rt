@@ -1,11 +1,11 @@
 // The parts of a hart's program, appended as their words. Distances are in instructions.
 ghost use Rattle.std.specs.Prelude.{◌≡◌, ◌++◌, ◌<◌, ◌≤◌, OnOk};
 ghost use Rattle.tm_plan_map.specs.Map.{windows_base};
-ghost use Rattle.tm_blocks.specs.Instrs.{words_of};
+ghost use Rattle.tm_blocks_base.specs.Instrs.{words_of};
 ghost use Rattle.tm_pass.specs.Hart.{registers_table, masks_table, first_table, bytes_table, first_bytes, entry, arrive, choose, run, leave, between, last};
 
 use tm_base::{NoMemory, Words};
-use tm_blocks::{
+use tm_blocks_base::{
     Comparison, addi, beq, jump_back, ld, put_collect, put_compare, put_constant, put_copy,
     put_load_registers, put_save_registers, sd,
 };

@@ -7,7 +7,7 @@ use Rattle.tm_place.specs.Numbers.{choice}
 use Rattle.std.proofs.lemmas.List.{take_more_set, take_all, map-append}
 use Rattle.rand_chacha.specs.ChaCha.{ChaCha, of_seed, next_word}
 use Rattle.tm_base.specs.Lists.{count_from}
-use Rattle.tm_plan.proofs.Counted.{counted-more}
+use Rattle.tm_plan_cases.proofs.Counted.{counted-more}
 use Rattle.tm_place.specs.Draws.{key, draw, slot_draws}
 
 -- a generator before word d of slot i of hart h in case c

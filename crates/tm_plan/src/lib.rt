@@ -1,22 +1,10 @@
-//! The plain types of cases, masks, programs and events, and the map of the guest's memory.
+//! The plain types of cases, masks, programs and events, the map of the guest's memory, and what each hart collects
+//! and how much it may work.
 #![tactic(auto)]
 
-mod bytes;
-mod cases;
-mod journal;
-pub mod laws;
-mod masks;
-mod program;
-
-pub use bytes::tables;
-pub use cases::{Case, Cases, Stream};
-pub use journal::{Event, Journal};
-pub use masks::{CaseMask, Masks};
-pub use program::{Marks, Program};
-pub use tm_plan_map::{
-    Admitted, AdmittedCase, Kind2, Slot, SlotList, Window, flag_addr, private_base, save_addr,
-    table_addr, verdict_addr, window_base,
+pub use tm_plan_cases::{
+    Admitted, AdmittedCase, Case, CaseMask, Cases, Event, Journal, Kind2, Marks, Masks, Program,
+    Slot, SlotList, Stream, Window, flag_addr, private_base, save_addr, table_addr, tables,
+    verdict_addr, window_base,
 };
-
-#[cfg(test)]
-mod tests;
+pub use tm_plan_owned::{budget, owned, owned_addr, work};

@@ -3,12 +3,12 @@ use Rattle.std.proofs.Common.{◌≡◌, ℕ, zero, suc, ◌+◌, ◌-◌, ◌*�
 use Rattle.std.specs.Prelude.{slice_index, slice_get, All}
 use Rattle.std.proofs.lemmas.Bool.{cases_lt}
 use Rattle.std.proofs.Math.Nat.{add-div_right, add-mod_right, div-eq_of_lt, mod-eq_of_lt}
-use Rattle.tm_plan.specs.declared.cases.Cases.{Cases}
-use Rattle.tm_plan.specs.declared.cases.Case.{Case}
-use Rattle.tm_plan.specs.declared.cases.Stream.{Stream}
+use Rattle.tm_plan_cases.specs.declared.cases.Cases.{Cases}
+use Rattle.tm_plan_cases.specs.declared.cases.Case.{Case}
+use Rattle.tm_plan_cases.specs.declared.cases.Stream.{Stream}
 use Rattle.tm_plan_map.specs.Map.{windows_base}
-use Rattle.tm_plan.specs.Shaped.{AreShaped, IsShapedCase}
-use Rattle.tm_plan.specs.Collected.{owned, slots_of}
+use Rattle.tm_plan_cases.specs.Shaped.{AreShaped, IsShapedCase}
+use Rattle.tm_plan_cases.specs.Collected.{owned, slots_of}
 use Rattle.tm_base.specs.Lists.{count_from}
 use Rattle.tm_plan_owned.specs.Lines.{line_count, line_place, line_dwords, lines_dwords, own_dwords, FewSlots}
 use Rattle.tm_plan_owned.proofs.Windows.{line-of, lines_are_owned}

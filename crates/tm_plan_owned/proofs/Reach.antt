@@ -1,10 +1,10 @@
 -- How far the lines of a hart reach, and how many dwords they have.
 use Rattle.std.proofs.Common.{◌≡◌, ℕ, zero, suc, ◌+◌, ◌-◌, ◌*◌, ◌/◌, ◌%◌, ◌<◌, ◌≤◌, [], ◌++◌, length, map, refl, sym, ap, ◌∙◌, arith, append-nil, length-append}
 use Rattle.std.proofs.Math.Nat.{mul-le-mul_left, mod-add-div}
-use Rattle.tm_plan.specs.declared.cases.Cases.{Cases}
+use Rattle.tm_plan_cases.specs.declared.cases.Cases.{Cases}
 use Rattle.tm_plan_map.specs.Map.{windows_base}
-use Rattle.tm_plan.specs.Shaped.{AreShaped, IsShapedWindow}
-use Rattle.tm_plan.specs.Collected.{owned}
+use Rattle.tm_plan_cases.specs.Shaped.{AreShaped, IsShapedWindow}
+use Rattle.tm_plan_cases.specs.Collected.{owned}
 use Rattle.tm_base.specs.Lists.{count_from}
 use Rattle.tm_plan_owned.specs.Lines.{lines_of, first_line, line_count, line_place, line_dwords, lines_dwords, own_dwords}
 use Rattle.tm_plan_owned.proofs.Strides.{each-window}

@@ -6,8 +6,8 @@ use Rattle.std.proofs.lemmas.List.Elements.{filter-append}
 use Rattle.std.proofs.Math.Nat.{mul-le-mul_left, div-eq_of_lt, add-div_right}
 use Rattle.tm_plan_map.specs.declared.windows.Window.{Window}
 use Rattle.tm_plan_map.specs.Map.{windows_base, window_at}
-use Rattle.tm_plan.specs.Shaped.{IsShapedWindow}
-use Rattle.tm_plan.specs.Collected.{declares}
+use Rattle.tm_plan_cases.specs.Shaped.{IsShapedWindow}
+use Rattle.tm_plan_cases.specs.Collected.{declares}
 use Rattle.tm_base.specs.Lists.{count_from, any}
 use Rattle.tm_runs.proofs.Bytes.{within-true, within-false}
 use Rattle.tm_plan_owned.specs.Lines.{lines_of, line_dwords, lines_dwords}

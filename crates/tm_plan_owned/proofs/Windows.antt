@@ -4,11 +4,11 @@ use Rattle.std.specs.Prelude.{filter, if◌then◌else◌}
 use Rattle.std.proofs.lemmas.List.{map-append}
 use Rattle.std.proofs.lemmas.List.Elements.{filter-append}
 use Rattle.std.proofs.Math.Nat.{add-mul-mod_self_left, mod-eq_of_lt, mod-add-div}
-use Rattle.tm_plan.specs.declared.cases.Cases.{Cases}
+use Rattle.tm_plan_cases.specs.declared.cases.Cases.{Cases}
 use Rattle.tm_plan_map.specs.declared.windows.Window.{Window}
 use Rattle.tm_plan_map.specs.Map.{windows_base}
-use Rattle.tm_plan.specs.Shaped.{IsShapedWindow}
-use Rattle.tm_plan.specs.Collected.{is_declared, collector, window_dwords, owned}
+use Rattle.tm_plan_cases.specs.Shaped.{IsShapedWindow}
+use Rattle.tm_plan_cases.specs.Collected.{is_declared, collector, window_dwords, owned}
 use Rattle.tm_base.specs.Lists.{count_from}
 use Rattle.tm_plan_owned.specs.Lines.{lines_of, first_line, line_count, line_place, line_dwords, lines_dwords, own_dwords, three, LinesAreOwned}
 use Rattle.tm_plan_owned.proofs.Strides.{how_many, Mine, Tells, strided, EachWindow, Differ, each-window, differ, declared-yes, declared-no}

@@ -1,11 +1,11 @@
 // The declared dwords that a hart collects.
 ghost use Rattle.std.specs.Prelude.{◌≡◌, ◌+◌, ◌*◌, ◌/◌, ◌<◌, ◌≤◌, length, slice_index};
-ghost use Rattle.tm_plan.specs.Shaped.{AreShaped};
-ghost use Rattle.tm_plan.specs.Collected.{owned};
+ghost use Rattle.tm_plan_cases.specs.Shaped.{AreShaped};
+ghost use Rattle.tm_plan_cases.specs.Collected.{owned};
 ghost use Rattle.tm_plan_owned.specs.Lines.{line_count, own_dwords};
 
 use crate::lines::{dwords_of, line_addr, line_count, stride_of};
-use tm_plan::Cases;
+use tm_plan_cases::Cases;
 
 // How many of them are in window `v`.
 fn owned_in(cases: &Cases, h: u32, v: u32) -> u64

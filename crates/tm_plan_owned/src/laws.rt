@@ -2,7 +2,7 @@
 ghost use Rattle.std.specs.Prelude.{ℕ};
 ghost use Rattle.tm_plan_owned.specs.Lines.{LinesAreOwned};
 
-use tm_plan::Cases;
+use tm_plan_cases::Cases;
 
 /// The lines of a hart hold exactly the dwords that it collects, in address order.
 pub fn lines(cases: &Cases)

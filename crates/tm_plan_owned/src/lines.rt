@@ -1,10 +1,10 @@
 // The lines that a hart collects.
 ghost use Rattle.std.specs.Prelude.{◌≡◌, ◌+◌, ◌<◌, ◌≤◌, ◌*◌, ◌/◌, ◌^◌};
 ghost use Rattle.tm_plan_map.specs.Map.{windows_base};
-ghost use Rattle.tm_plan.specs.Shaped.{AreShaped};
+ghost use Rattle.tm_plan_cases.specs.Shaped.{AreShaped};
 ghost use Rattle.tm_plan_owned.specs.Lines.{lines_of, first_line, line_count, line_place};
 
-use tm_plan::Cases;
+use tm_plan_cases::Cases;
 use tm_plan_map::Window;
 
 // How many lines window `v` declares.

@@ -1,12 +1,12 @@
 // How many steps a hart and a whole run may work.
 ghost use Rattle.std.specs.Prelude.{◌≡◌, ◌+◌, ◌-◌, ◌*◌, ◌^◌, ◌<◌, ◌≤◌, length, slice_get};
-ghost use Rattle.tm_plan.specs.Shaped.{AreShaped};
-ghost use Rattle.tm_plan.specs.Collected.{owned, slots_of, pass_work, work_in, work_of, budget_of, sum_of};
+ghost use Rattle.tm_plan_cases.specs.Shaped.{AreShaped};
+ghost use Rattle.tm_plan_cases.specs.Collected.{owned, slots_of, pass_work, work_in, work_of, budget_of, sum_of};
 ghost use Rattle.tm_base.specs.Lists.{count_from};
 ghost use Rattle.tm_plan_owned.specs.Lines.{FewSlots};
 
 use crate::dwords::owned;
-use tm_plan::{Case, Cases};
+use tm_plan_cases::{Case, Cases};
 
 // The slots of hart `h` in a case.
 fn slots_of(case: &Case, h: u32) -> u64
@@ -50,7 +50,7 @@ fn work_in(cases: &Cases, h: u32, list: &[Case], dwords: u64) -> u64
 
 /// The steps that hart `h` may work in a whole run: 64 more than the sum over the cases of 64 more than, for each pass,
 /// the slots of its stream, 256, 32 a hart, and 32 a saved dword.
-#[tactic(auto, unfolding(tm_plan::specs::Collected::work_of))]
+#[tactic(auto, unfolding(tm_plan_cases::specs::Collected::work_of))]
 pub fn work(cases: &Cases, h: u32) -> u64
     requires shaped { AreShaped cases.now }
     requires mine { h < cases.now.harts }
@@ -62,7 +62,7 @@ pub fn work(cases: &Cases, h: u32) -> u64
 
 /// How many events are enough for a whole run in which no hart reads idly: for each hart the work of all harts, and 16
 /// for each case and pass.
-#[tactic(auto, unfolding(tm_plan::specs::Collected::budget_of))]
+#[tactic(auto, unfolding(tm_plan_cases::specs::Collected::budget_of))]
 pub fn budget(cases: &Cases) -> u64
     requires { AreShaped cases.now }
     ensures { result ≡ budget_of cases.now }

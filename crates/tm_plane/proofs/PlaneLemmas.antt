@@ -7,7 +7,7 @@ use Rattle.std.proofs.lemmas.Bool.{cases_eq, and_parts, and_from, or_cases, or_l
 use Rattle.std.proofs.lemmas.Nat.Bits.{shr_and_one}
 use Rattle.tm_plan_map.specs.Map.{windows_base, windows_size, within}
 use Rattle.tm_base.specs.Lists.{any, count_from}
-use Rattle.tm_plan.proofs.Within.{within-parts, within-true}
+use Rattle.tm_plan_cases.proofs.Within.{within-parts, within-true}
 use Rattle.tm_plane.proofs.WordLemmas.{bit-none, bit-and, bit-or}
 use Rattle.tm_plane.specs.Plane.{Bit, in_plane, IsNear, Spans, Overwritten}
 

@@ -4,12 +4,12 @@ use Rattle.std.specs.Prelude.{All, slice_index, filter, map, if◌then◌else◌
 use Rattle.std.specs.List.{AllByRecursion as Each}
 use Rattle.std.proofs.lemmas.Bool.{and_parts, ltb-true, ltb-false}
 use Rattle.std.proofs.lemmas.List.Elements.{All-from_recursion, All-get_or}
-use Rattle.tm_plan.specs.declared.program.Program.{Program}
-use Rattle.tm_plan.specs.declared.cases.Cases.{Cases}
+use Rattle.tm_plan_cases.specs.declared.program.Program.{Program}
+use Rattle.tm_plan_cases.specs.declared.cases.Cases.{Cases}
 use Rattle.tm_plan_map.specs.Map.{window_at, windows_base}
-use Rattle.tm_plan.specs.Collected.{is_declared, collector, window_dwords, owned}
+use Rattle.tm_plan_cases.specs.Collected.{is_declared, collector, window_dwords, owned}
 use Rattle.tm_base.specs.Lists.{count_from}
-use Rattle.tm_plan.specs.Shaped.{AreShaped}
+use Rattle.tm_plan_cases.specs.Shaped.{AreShaped}
 use Rattle.tm_world.specs.Verdict.{Part, Register, Byte, saved, parts}
 use Rattle.tm_runs.proofs.Places.{within-parts}
 use Rattle.tm_runs.proofs.Bytes.{within-true}

@@ -4,12 +4,12 @@ use Rattle.std.specs.Prelude.{Contains, slice_get, if◌then◌else◌}
 use Rattle.std.proofs.lemmas.Bool.{and_parts, and_from, not-true, true≢false}
 use Rattle.std.proofs.lemmas.List.Elements.{Contains-append_left, Contains-append_right, Contains-append_cases}
 use Rattle.tm_table.specs.declared.instr.Instr.{Instr}
-use Rattle.tm_plan.specs.declared.cases.Cases.{Cases}
-use Rattle.tm_plan.specs.declared.cases.Stream.{Stream}
+use Rattle.tm_plan_cases.specs.declared.cases.Cases.{Cases}
+use Rattle.tm_plan_cases.specs.declared.cases.Stream.{Stream}
 use Rattle.tm_plan_map.specs.Map.{windows_base, window_at, within}
-use Rattle.tm_plan.specs.Collected.{is_declared}
+use Rattle.tm_plan_cases.specs.Collected.{is_declared}
 use Rattle.tm_plan_map.specs.Slots.{instr_of, load_width, store_width, is_jump, slot_addr, slot_target, stores_to}
-use Rattle.tm_plan.specs.Shaped.{AreShaped, IsShapedSlot}
+use Rattle.tm_plan_cases.specs.Shaped.{AreShaped, IsShapedSlot}
 use Rattle.tm_world.specs.Lists.{those}
 use Rattle.tm_world.specs.Writers.{stream_in, may_store}
 use Rattle.tm_world.specs.Slots.{named, another_may_store, is_own_byte, load_bytes, store_bytes, slot_of, slot_or_none, word_slot, words_slots, slots_in}

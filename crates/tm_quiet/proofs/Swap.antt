@@ -4,7 +4,7 @@ use Rattle.std.specs.Prelude.{IfSome, if◌then◌else◌}
 use Rattle.std.proofs.lemmas.Bool.{cases_eq, cases_lt, or_cases, or_from, or_left, false≢true}
 use Rattle.tm_table.specs.declared.state.Access.{Access}
 use Rattle.tm_table.specs.declared.state.Access.TheVariants.{Quiet, Read, Write}
-use Rattle.tm_plan.specs.declared.program.Program.{Program}
+use Rattle.tm_plan_cases.specs.declared.program.Program.{Program}
 use Rattle.tm_plan_map.specs.Map.{flag_at, verdict_at, private_at, private_size, windows_base, windows_size, within}
 use Rattle.tm_base.specs.Lists.{any, count_from}
 use Rattle.tm_world.specs.Lists.{or_else}

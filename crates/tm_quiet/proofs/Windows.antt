@@ -1,9 +1,9 @@
 -- Who may write a shared byte: in a run phase the harts with a store slot that covers it, in a phase after it its collector alone.
 use Rattle.std.proofs.Common.{◌≡◌, ℕ, zero, suc, ◌+◌, ◌%◌, ◌<◌, ◌≤◌, List, [], ◌∷◌, Bool, true, false, ◌&&◌, ◌||◌, not, ◌==◌, Option, Some, inr, refl, sym, ap, ap₂, ◌∙◌, arith, eq-eqb, ne_eqb}
 use Rattle.std.specs.Prelude.{if◌then◌else◌}
-use Rattle.tm_plan.specs.declared.program.Program.{Program}
+use Rattle.tm_plan_cases.specs.declared.program.Program.{Program}
 use Rattle.tm_plan_map.specs.Map.{flag_at, verdict_at, private_at, private_size, windows_base, windows_size, within}
-use Rattle.tm_plan.specs.Collected.{is_declared, collector}
+use Rattle.tm_plan_cases.specs.Collected.{is_declared, collector}
 use Rattle.tm_base.specs.Lists.{count_from}
 use Rattle.tm_world.specs.Lists.{those}
 use Rattle.tm_world.specs.Place.{harts, case_count, is_flag, is_verdict, is_private, is_window}

@@ -1,9 +1,9 @@
 -- Laws of legal runs, with any number of harts (this project's own).
 use Rattle.std.specs.Prelude.{◌≡◌, ℕ, ◌<◌, slice_get, Some, IsTrue}
-use Rattle.tm_plan.specs.declared.program.Program.{Program}
-use Rattle.tm_plan.specs.declared.masks.CaseMask.{CaseMask}
-use Rattle.tm_plan.specs.Collected.{is_declared, collector}
-use Rattle.tm_plan.specs.Shaped.{IsProgram, IsTyped}
+use Rattle.tm_plan_cases.specs.declared.program.Program.{Program}
+use Rattle.tm_plan_cases.specs.declared.masks.CaseMask.{CaseMask}
+use Rattle.tm_plan_cases.specs.Collected.{is_declared, collector}
+use Rattle.tm_plan_cases.specs.Shaped.{IsProgram, IsTyped}
 use Rattle.tm_world.specs.Place.{harts, case_of_round, passes}
 use Rattle.tm_world.specs.Run.{Run}
 use Rattle.tm_world.specs.Kinds.{Legal}

@@ -1,7 +1,7 @@
 // Laws over the definitions, each as the contract of a function that does nothing.
 ghost use Rattle.tm_quiet.specs.Laws.{EndsThere, PassesAgree, Silent};
 
-use tm_plan::Program;
+use tm_plan_cases::Program;
 
 /// In any two passes of a round case on a legal run, each checked register and each checked byte that has end
 /// values in both has the same, whatever the racing reads return and whichever branches they steer. For any

@@ -2,14 +2,14 @@
 use Rattle.std.proofs.Common.{◌≡◌, ◌≢◌, ℕ, ◌+◌, true, Some, List, length, sym, subst, ◌∙◌, arith}
 use Rattle.std.specs.Prelude.{slice_get}
 use Rattle.tm_table.specs.declared.instr.Instr.{Instr}
-use Rattle.tm_plan.specs.declared.cases.Case.{Case}
-use Rattle.tm_plan.specs.declared.cases.Stream.{Stream}
+use Rattle.tm_plan_cases.specs.declared.cases.Case.{Case}
+use Rattle.tm_plan_cases.specs.declared.cases.Stream.{Stream}
 use Rattle.tm_plan_map.specs.Map.{within}
 use Rattle.tm_plan_map.specs.Slots.{instr_of, store_width, slot_addr}
-use Rattle.tm_plan.specs.Collected.{is_declared}
-use Rattle.tm_plan.specs.Shaped.{IsShapedSlot}
-use Rattle.tm_plan.proofs.Within.{within-parts}
-use Rattle.tm_plan.specs.declared.cases.Cases.{Cases}
+use Rattle.tm_plan_cases.specs.Collected.{is_declared}
+use Rattle.tm_plan_cases.specs.Shaped.{IsShapedSlot}
+use Rattle.tm_plan_cases.proofs.Within.{within-parts}
+use Rattle.tm_plan_cases.specs.declared.cases.Cases.{Cases}
 use Rattle.tm_world.specs.Slots.{slots_in}
 use Rattle.tm_plane.specs.Plane.{in_plane}
 use Rattle.tm_race.specs.declared.walking.Taint.{Taint}

@@ -7,15 +7,15 @@ use Rattle.std.proofs.lemmas.List.Elements.{All-contains}
 use Rattle.tm_table.specs.declared.instr.Op.{Op}
 use Rattle.tm_table.specs.declared.instr.Op.TheVariants.{Lb, Lh, Lw, Ld, Lbu, Lhu, Lwu, Sb, Sh, Sw, Sd}
 use Rattle.tm_table.specs.declared.instr.Instr.{Instr}
-use Rattle.tm_plan.specs.declared.cases.Cases.{Cases}
-use Rattle.tm_plan.specs.declared.cases.Case.{Case}
-use Rattle.tm_plan.specs.declared.cases.Stream.{Stream}
+use Rattle.tm_plan_cases.specs.declared.cases.Cases.{Cases}
+use Rattle.tm_plan_cases.specs.declared.cases.Case.{Case}
+use Rattle.tm_plan_cases.specs.declared.cases.Stream.{Stream}
 use Rattle.tm_plan_map.specs.Map.{window_at, windows_size, within}
-use Rattle.tm_plan.specs.Collected.{declares, is_declared}
+use Rattle.tm_plan_cases.specs.Collected.{declares, is_declared}
 use Rattle.tm_base.specs.Lists.{any}
 use Rattle.tm_plan_map.specs.Slots.{instr_of, load_width, store_width, is_access, slot_addr}
-use Rattle.tm_plan.specs.Shaped.{IsPlaced, IsShapedSlot, IsShapedStream, IsShapedCase, IsShapedWindow, AreShaped}
-use Rattle.tm_plan.proofs.Within.{within-parts, within-true}
+use Rattle.tm_plan_cases.specs.Shaped.{IsPlaced, IsShapedSlot, IsShapedStream, IsShapedCase, IsShapedWindow, AreShaped}
+use Rattle.tm_plan_cases.proofs.Within.{within-parts, within-true}
 use Rattle.tm_legal.proofs.Streams.{all-at}
 use Rattle.tm_plane.specs.Plane.{IsNear}
 use Rattle.tm_race.specs.Slots.{IsLoad, IsStore, IsStoreWord, IsTracked}

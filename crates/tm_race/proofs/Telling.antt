@@ -2,15 +2,15 @@
 use Rattle.std.proofs.Common.{◌≡◌, ℕ, zero, suc, List, [], ◌∷◌, ◌++◌, Bool, true, ◌&&◌, ◌||◌, not, ◌==◌, Option, Some, refl, sym, ap, ap₂, ◌∙◌, arith}
 use Rattle.std.specs.Prelude.{slice_get, if◌then◌else◌}
 use Rattle.tm_table.specs.declared.instr.Instr.{Instr}
-use Rattle.tm_plan.specs.declared.cases.Cases.{Cases}
-use Rattle.tm_plan.specs.declared.cases.Case.{Case}
-use Rattle.tm_plan.specs.declared.cases.Stream.{Stream}
+use Rattle.tm_plan_cases.specs.declared.cases.Cases.{Cases}
+use Rattle.tm_plan_cases.specs.declared.cases.Case.{Case}
+use Rattle.tm_plan_cases.specs.declared.cases.Stream.{Stream}
 use Rattle.tm_plan_map.specs.Map.{within}
 use Rattle.tm_plan_map.specs.Slots.{instr_of, store_width, slot_addr}
-use Rattle.tm_plan.specs.Collected.{is_declared}
+use Rattle.tm_plan_cases.specs.Collected.{is_declared}
 use Rattle.tm_base.specs.Lists.{any, count_from}
-use Rattle.tm_plan.specs.Shaped.{AreShaped}
-use Rattle.tm_plan.proofs.Within.{within-parts, within-true}
+use Rattle.tm_plan_cases.specs.Shaped.{AreShaped}
+use Rattle.tm_plan_cases.proofs.Within.{within-parts, within-true}
 use Rattle.tm_world.specs.Lists.{those}
 use Rattle.tm_world.specs.Writers.{some_store_to, may_store}
 use Rattle.tm_world.specs.Slots.{another_may_store, is_own_byte, named, load_bytes, target_of, slot_of, word_slot, words_slots, slots_in}

@@ -1,9 +1,9 @@
 -- Cases of shaped cases, and who may write a byte in one (this project's own).
 use Rattle.std.specs.Prelude.{◌≡◌, ℕ, Bool, ◌&&◌, not, ◌==◌, length, slice_get, Some}
-use Rattle.tm_plan.specs.declared.cases.Cases.{Cases}
-use Rattle.tm_plan.specs.declared.cases.Case.{Case}
+use Rattle.tm_plan_cases.specs.declared.cases.Cases.{Cases}
+use Rattle.tm_plan_cases.specs.declared.cases.Case.{Case}
 use Rattle.tm_base.specs.Lists.{any, count_from}
-use Rattle.tm_plan.specs.Shaped.{AreShaped}
+use Rattle.tm_plan_cases.specs.Shaped.{AreShaped}
 use Rattle.tm_world.specs.Writers.{some_store_to}
 
 -- It is a case of some shaped cases.

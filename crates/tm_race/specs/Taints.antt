@@ -1,8 +1,8 @@
 -- Where a walk over a hart's slots stands (this project's own).
 use Rattle.std.specs.Prelude.{◌≡◌, ◌⊎◌, ◌↔◌, ◌<◌, ℕ, slice_get, Some, IsTrue}
-use Rattle.tm_plan.specs.declared.cases.Cases.{Cases}
-use Rattle.tm_plan.specs.declared.cases.Case.{Case}
-use Rattle.tm_plan.specs.Shaped.{AreShaped}
+use Rattle.tm_plan_cases.specs.declared.cases.Cases.{Cases}
+use Rattle.tm_plan_cases.specs.declared.cases.Case.{Case}
+use Rattle.tm_plan_cases.specs.Shaped.{AreShaped}
 use Rattle.tm_world.specs.Slots.{Slot, slots_in}
 use Rattle.tm_plane.specs.Plane.{Bit, in_plane}
 use Rattle.tm_race.specs.declared.walking.Taint.{Taint}

@@ -2,13 +2,13 @@
 ghost use Rattle.std.specs.Prelude.{◌≡◌, ◌<◌, ◌||◌, ℕ, All, length, slice_get, Some};
 ghost use Rattle.tm_plan_map.specs.Slots.{stores_to};
 ghost use Rattle.tm_world.specs.Writers.{is_store_to, some_store_to};
-ghost use Rattle.tm_plan.specs.declared.cases.Stream.{Stream as TheStream};
+ghost use Rattle.tm_plan_cases.specs.declared.cases.Stream.{Stream as TheStream};
 ghost use Rattle.tm_plane.specs.Plane.{in_plane};
 ghost use Rattle.tm_race.specs.Slots.{IsStore, IsStoreWord};
 ghost use Rattle.tm_race.specs.Shapes.{IsOfShaped};
 
 use crate::ops::{slot_addr, store_width};
-use tm_plan::{Case, Stream};
+use tm_plan_cases::{Case, Stream};
 use tm_plane::{has, put};
 use tm_table::{Instr, decode};
 

@@ -1,7 +1,7 @@
 // A walk over a hart's slots, which knows what depends on a race.
 ghost use Rattle.std.specs.Prelude.{◌≡◌, ◌<◌, ◌+◌, ◌↔◌, ℕ, IsTrue, length, replicate, slice_get, Some, Contains};
-ghost use Rattle.tm_plan.specs.declared.cases.Case.{Case as TheCase};
-ghost use Rattle.tm_plan.specs.declared.cases.Stream.{Stream as TheStream};
+ghost use Rattle.tm_plan_cases.specs.declared.cases.Case.{Case as TheCase};
+ghost use Rattle.tm_plan_cases.specs.declared.cases.Stream.{Stream as TheStream};
 ghost use Rattle.tm_plan_map.specs.Slots.{instr_of};
 ghost use Rattle.tm_plane.specs.Plane.{in_plane};
 ghost use Rattle.tm_race.specs.Slots.{IsTracked, reads_of, plane_slot};
@@ -11,7 +11,7 @@ ghost use Rattle.tm_race.specs.Taints.{Holds, Moved, StandsAt};
 use crate::ops::{is_branch, target_of};
 use crate::slots::{either, loads_any, marks_of, raised, sources, stored, target_register, turns};
 use crate::stores::stream_of;
-use tm_plan::{Case, Stream};
+use tm_plan_cases::{Case, Stream};
 use tm_plane::{meets, overwritten};
 use tm_table::{Instr, decode};
 

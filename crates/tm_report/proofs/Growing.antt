@@ -5,7 +5,7 @@ use Rattle.std.proofs.lemmas.Grind.{flat_map-append}
 use Rattle.std.proofs.lemmas.List.Elements.{filter-append}
 use Rattle.std.proofs.lemmas.List.{map-append}
 use Rattle.tm_plan_map.specs.Map.{windows_base}
-use Rattle.tm_plan.specs.Collected.{window_dwords}
+use Rattle.tm_plan_cases.specs.Collected.{window_dwords}
 use Rattle.tm_base.specs.Lists.{count_from}
 use Rattle.tm_report.specs.Listing.{saved_registers}
 

@@ -6,11 +6,11 @@ use Rattle.tm_table.specs.Words.{decoded}
 use Rattle.tm_asm_line.specs.Shapes.{name_of, shape_of, pieces_of}
 use Rattle.tm_asm_line.specs.Printing.{operand_text, mark_text, pieces_text, printed}
 use Rattle.tm_plan_map.specs.declared.windows.Kind2.TheVariants.{True}
-use Rattle.tm_plan.specs.declared.cases.Stream.{Stream}
-use Rattle.tm_plan.specs.declared.program.Program.{Program}
+use Rattle.tm_plan_cases.specs.declared.cases.Stream.{Stream}
+use Rattle.tm_plan_cases.specs.declared.program.Program.{Program}
 use Rattle.tm_plan_map.specs.Map.{windows_base, window_at}
 use Rattle.tm_plan_map.specs.Slots.{instr_of}
-use Rattle.tm_plan.specs.Collected.{is_declared, window_dwords}
+use Rattle.tm_plan_cases.specs.Collected.{is_declared, window_dwords}
 use Rattle.tm_report.specs.Listing.{listing, head_line, case_lines, hart_lines, bytes_line, is_listed, slot_line, is_unchecked, saved_registers, register_entry, unchecked_line, dword_bits, dword_entry}
 
 a_slot : slot_line 0 0x00128313 ≡ codes "0 00128313 addi x6, x5, 1\n"

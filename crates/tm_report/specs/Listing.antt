@@ -6,14 +6,14 @@ use Rattle.std.specs.Fmt.{decimal}
 use Rattle.tm_base.specs.Numbers.{hex_text}
 use Rattle.tm_table.specs.declared.instr.Instr.{Instr}
 use Rattle.tm_asm_line.specs.Printing.{printed}
-use Rattle.tm_plan.specs.declared.cases.Cases.{Cases}
-use Rattle.tm_plan.specs.declared.cases.Case.{Case}
-use Rattle.tm_plan.specs.declared.cases.Stream.{Stream}
-use Rattle.tm_plan.specs.declared.masks.CaseMask.{CaseMask}
-use Rattle.tm_plan.specs.declared.program.Program.{Program}
+use Rattle.tm_plan_cases.specs.declared.cases.Cases.{Cases}
+use Rattle.tm_plan_cases.specs.declared.cases.Case.{Case}
+use Rattle.tm_plan_cases.specs.declared.cases.Stream.{Stream}
+use Rattle.tm_plan_cases.specs.declared.masks.CaseMask.{CaseMask}
+use Rattle.tm_plan_cases.specs.declared.program.Program.{Program}
 use Rattle.tm_plan_map.specs.Map.{windows_base}
 use Rattle.tm_plan_map.specs.Slots.{instr_of}
-use Rattle.tm_plan.specs.Collected.{is_declared, window_dwords}
+use Rattle.tm_plan_cases.specs.Collected.{is_declared, window_dwords}
 use Rattle.tm_base.specs.Lists.{count_from}
 
 -- ---- slots

@@ -2,16 +2,16 @@
 ghost use Rattle.std.specs.Prelude.{◌≡◌, ◌++◌, ◌*◌, ◌+◌, ◌<◌, ◌≤◌, ◌^◌, OnOk, All, ◌∷◌, [], filter, length};
 ghost use Rattle.std.specs.List.{flat_map};
 ghost use Rattle.tm_plan_map.specs.Map.{windows_base};
-ghost use Rattle.tm_plan.specs.Collected.{declares as window_declares, is_declared as declared};
+ghost use Rattle.tm_plan_cases.specs.Collected.{declares as window_declares, is_declared as declared};
 ghost use Rattle.tm_base.specs.Lists.{any};
-ghost use Rattle.tm_plan.specs.Shaped.{IsShapedWindow};
+ghost use Rattle.tm_plan_cases.specs.Shaped.{IsShapedWindow};
 ghost use Rattle.tm_report.specs.Listing.{bytes_line, dword_bits as bits_at, dword_entries, dword_entry};
 ghost use Rattle.tm_report.specs.Listing.{is_listed as listed, unchecked_bits as bits_of};
 
 use crate::entries::put_entries;
 use std::alloc::Global;
 use tm_base::{Bytes, NoMemory, push_hex};
-use tm_plan::Cases;
+use tm_plan_cases::Cases;
 use tm_plan_map::{Window, window_base};
 
 // How many dwords the three windows have.
@@ -62,7 +62,7 @@ fn dword_bits(bytes: &[u8], number: usize) -> u64
     unchecked_bits(&bytes[place..place + 8])
 }
 
-#[tactic(auto, unfolding(tm_plan::specs::Collected::is_declared))]
+#[tactic(auto, unfolding(tm_plan_cases::specs::Collected::is_declared))]
 fn is_declared(cases: &Cases, addr: u64) -> bool
     requires { All (IsShapedWindow cases.now.line) cases.now.windows }
     ensures { result ≡ declared cases.now addr }

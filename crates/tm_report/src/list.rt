@@ -1,7 +1,7 @@
 // The listing of a program.
 ghost use Rattle.std.specs.Prelude.{◌≡◌, ◌++◌, ◌+◌, ◌<◌, ◌≤◌, ◌^◌, OnOk, IfOk, All, length};
 ghost use Rattle.std.specs.Fmt.{decimal};
-ghost use Rattle.tm_plan.specs.Shaped.{AreShaped, IsProgram, IsShapedMask};
+ghost use Rattle.tm_plan_cases.specs.Shaped.{AreShaped, IsProgram, IsShapedMask};
 ghost use Rattle.tm_report.specs.Listing.{case_lines, cases_lines, hart_lines, harts_lines, head_line, listing};
 
 use crate::dwords::put_bytes;
@@ -9,7 +9,7 @@ use crate::registers::put_unchecked;
 use crate::slots::put_slots;
 use std::alloc::Global;
 use tm_base::{Bytes, NoMemory, Text, push_decimal};
-use tm_plan::{Case, CaseMask, Cases, Program, Stream};
+use tm_plan_cases::{Case, CaseMask, Cases, Program, Stream};
 
 // A name and a number, each behind its own words.
 fn put_number(out: &mut Bytes, words: &[u8], number: u64) -> Result<(), NoMemory>

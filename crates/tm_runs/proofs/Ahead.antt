@@ -9,7 +9,7 @@ use Rattle.tm_table.proofs.Bounds.{IsBounded, effect-bounded}
 use Rattle.tm_table.proofs.Signs.{low-lt}
 use Rattle.tm_runs.specs.Machine.{World, State, Entry, Table, get, put, stored, act, effect_in, after, Reads, ReadsAs}
 use Rattle.tm_runs.specs.Runs.{Takes, Now, Step}
-use Rattle.tm_plan.specs.declared.program.Program.{Program}
+use Rattle.tm_plan_cases.specs.declared.program.Program.{Program}
 use Rattle.tm_world.specs.Place.{halt_of, word_at}
 use Rattle.tm_world.specs.Kinds.{stream_at}
 use Rattle.tm_runs.specs.World.{Sizes, world_of, support, support_at}

@@ -5,7 +5,7 @@ use Rattle.std.proofs.Math.Nat.{div-div-eq-div-mul, pow-succ'}
 use Rattle.std.proofs.lemmas.Bool.Decides.{nat_tests}
 use Rattle.tm_table.specs.declared.state.Access.TheVariants.{Write}
 use Rattle.tm_plan_map.specs.Map.{within}
-pub use Rattle.tm_plan.proofs.Within.{within-true}
+pub use Rattle.tm_plan_cases.proofs.Within.{within-true}
 use Rattle.tm_world.specs.Place.{byte_of}
 use Rattle.tm_world.specs.Run.{written}
 use Rattle.tm_runs.specs.World.{joined}

@@ -14,7 +14,7 @@ use Rattle.tm_table.specs.Words.{low, word_of}
 use Rattle.tm_table.specs.Row.{Effect, Gives, Loads, Stores, Branches, Jumps, effect, word64, row, put as set_register, after as row_after, loaded as value_of}
 use Rattle.tm_table.proofs.Signs.{low-lt}
 use Rattle.tm_table.proofs.Bounds.{IsBounded, effect-bounded}
-use Rattle.tm_plan.specs.declared.program.Program.{Program}
+use Rattle.tm_plan_cases.specs.declared.program.Program.{Program}
 use Rattle.tm_plan_map.specs.Map.{within}
 use Rattle.tm_world.specs.Place.{byte_of, start_of, end_of, is_window}
 use Rattle.tm_world.specs.Run.{Step, now, first_state, pc_of, access_of, written, read_value, HasShape, IsFitting, Writes, Reads as ReadsOwed}

@@ -4,7 +4,7 @@ use Rattle.std.specs.Prelude.{flat_map}
 use Rattle.std.proofs.lemmas.Bool.{cases_lt}
 use Rattle.tm_table.specs.declared.state.Access.{Access}
 use Rattle.tm_base.specs.Lists.{count_from}
-use Rattle.tm_plan.specs.declared.program.Program.{Program}
+use Rattle.tm_plan_cases.specs.declared.program.Program.{Program}
 use Rattle.tm_world.specs.Place.{case_count, passes}
 use Rattle.tm_world.specs.Marks.{Mark, End, Halt, pass_way, whole_way}
 use Rattle.tm_runs.specs.Machine.{World, State, Entry, Strays}

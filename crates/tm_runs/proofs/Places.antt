@@ -3,11 +3,11 @@ use Rattle.std.proofs.Common.{◌≡◌, ℕ, zero, suc, ◌+◌, ◌-◌, ◌*�
 use Rattle.std.specs.Prelude.{slice_get, slice_index, if◌then◌else◌}
 use Rattle.std.proofs.lemmas.Bool.{and_parts}
 use Rattle.std.proofs.lemmas.Bool.Decides.{nat_tests}
-use Rattle.tm_plan.specs.declared.program.Program.{Program}
+use Rattle.tm_plan_cases.specs.declared.program.Program.{Program}
 use Rattle.tm_plan_map.specs.Map.{guest_base, guest_end, text_base, tables_base, private_at, private_size, windows_base, windows_size, within}
 use Rattle.tm_world.specs.Place.{is_text, is_table, is_private, is_window, image_byte, word_at, byte_of}
 use Rattle.tm_runs.specs.World.{Sizes, holds, is_fixed_dword, is_private_dword, is_guest_dword}
-pub use Rattle.tm_plan.proofs.Within.{within-parts}
+pub use Rattle.tm_plan_cases.proofs.Within.{within-parts}
 use Rattle.tm_runs.proofs.Bytes.{within-true, within-false, byte-lt}
 
 holds-true : (base n a : ℕ) → holds base n a ≡ true → (base ≤ a) × (a + 8 ≤ base + n)

@@ -5,10 +5,10 @@ use Rattle.std.proofs.lemmas.Bool.Decides.{nat_tests}
 use Rattle.tm_table.specs.declared.instr.Instr.{Instr}
 use Rattle.tm_table.specs.Words.{word_of, Fits}
 use Rattle.tm_table.proofs.Decoding.{decoded-word}
-use Rattle.tm_plan.specs.declared.program.Program.{Program}
+use Rattle.tm_plan_cases.specs.declared.program.Program.{Program}
 use Rattle.tm_plan_map.specs.Map.{text_base, tables_base, private_at, private_size}
 use Rattle.tm_plan_map.specs.Slots.{instr_of}
-use Rattle.tm_plan.specs.Shaped.{IsProgram, IsTyped}
+use Rattle.tm_plan_cases.specs.Shaped.{IsProgram, IsTyped}
 use Rattle.tm_world.specs.Place.{start_of, end_of, halt_of, is_text, is_table, image_byte, word_at, byte_of}
 use Rattle.tm_world.specs.Kinds.{stream_at}
 use Rattle.tm_runs.specs.Machine.{State}

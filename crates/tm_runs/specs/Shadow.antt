@@ -1,7 +1,7 @@
 -- A half run's steps as a run of the one-hart machine (this project's own).
 use Rattle.std.specs.Prelude.{◌≡◌, ℕ, ◌+◌, ◌%◌, ◌^◌, ◌<◌, List, [], ◌∷◌, length, slice_index, Some, IsTrue}
 use Rattle.tm_table.specs.State.{Hart}
-use Rattle.tm_plan.specs.declared.program.Program.{Program}
+use Rattle.tm_plan_cases.specs.declared.program.Program.{Program}
 use Rattle.tm_world.specs.Place.{harts, byte_of}
 use Rattle.tm_world.specs.Run.{Step, now, first_state, pc_of, access_of}
 use Rattle.tm_world.specs.Kinds.{IsOpening, HalfPath, half_owed}

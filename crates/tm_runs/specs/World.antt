@@ -1,7 +1,7 @@
 -- The world in which a hart of a program runs its support code, and the state in which it starts (this project's own).
 use Rattle.std.specs.Prelude.{ℕ, zero, suc, ◌+◌, ◌*◌, ◌^◌, ◌<◌, ◌≤◌, Bool, true, false, ◌&&◌, ◌||◌, nat_le, ◌==◌, List, [], length, slice_index, Option, None, Some}
 use Rattle.tm_table.specs.declared.instr.Instr.{Instr}
-use Rattle.tm_plan.specs.declared.program.Program.{Program}
+use Rattle.tm_plan_cases.specs.declared.program.Program.{Program}
 use Rattle.tm_plan_map.specs.Map.{guest_base, guest_end, text_base, tables_base, private_at, private_size}
 use Rattle.tm_plan_map.specs.Slots.{instr_of}
 use Rattle.tm_world.specs.Place.{harts, start_of, end_of, halt_of, is_window, image_byte, word_at}

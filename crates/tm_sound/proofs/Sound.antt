@@ -1,5 +1,5 @@
 -- A program is sound by its parts.
-use Rattle.tm_plan.specs.declared.program.Program.{Program}
+use Rattle.tm_plan_cases.specs.declared.program.Program.{Program}
 use Rattle.tm_world.specs.Whole.{Course}
 use Rattle.tm_legal.specs.Tame.{Formed}
 use Rattle.tm_memory.specs.Meet.{AllMeet}

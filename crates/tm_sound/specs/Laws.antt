@@ -1,5 +1,5 @@
 -- Soundness, by what each hart keeps on its own steps (this project's own).
-use Rattle.tm_plan.specs.declared.program.Program.{Program}
+use Rattle.tm_plan_cases.specs.declared.program.Program.{Program}
 use Rattle.tm_world.specs.Sound.{Sound}
 use Rattle.tm_sound.specs.Parts.{SoundParts}
 

@@ -1,7 +1,7 @@
 // A law over the definitions, as the contract of a function that does nothing.
 ghost use Rattle.tm_sound.specs.Laws.{SoundByHarts};
 
-use tm_plan::Program;
+use tm_plan_cases::Program;
 
 /// A program of any number of harts is sound by its parts and by what each of its harts keeps on half runs, of
 /// one hart's own steps alone. That no case is reported on a legal run, that shared memory has settled to first

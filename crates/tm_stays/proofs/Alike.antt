@@ -12,8 +12,8 @@ use Rattle.tm_table.specs.Words.{low}
 use Rattle.tm_table.proofs.Signs.{low-lt}
 use Rattle.tm_table.specs.Row.{Effect, Gives, Loads, Stores, Branches, Jumps, effect, row, row_word, after}
 use Rattle.tm_table.proofs.Signs.{low-lt}
-use Rattle.tm_plan.specs.declared.program.Program.{Program}
-use Rattle.tm_plan.specs.declared.cases.Stream.{Stream}
+use Rattle.tm_plan_cases.specs.declared.program.Program.{Program}
+use Rattle.tm_plan_cases.specs.declared.cases.Stream.{Stream}
 use Rattle.tm_base.specs.Lists.{count_from}
 use Rattle.tm_plan_map.specs.Slots.{load_width, is_access}
 use Rattle.tm_world.specs.Lists.{or_else}

@@ -4,12 +4,12 @@ use Rattle.std.specs.Prelude.{IsTrue, All, Contains, filter, map, if◌then◌el
 use Rattle.std.specs.List.{AllByRecursion as Each}
 use Rattle.std.proofs.lemmas.Bool.{cases_eq, and_from, false≢true}
 use Rattle.std.proofs.lemmas.List.Elements.{recursion_from_All}
-use Rattle.tm_plan.specs.declared.cases.Cases.{Cases}
+use Rattle.tm_plan_cases.specs.declared.cases.Cases.{Cases}
 use Rattle.tm_plan_map.specs.declared.windows.Window.{Window}
 use Rattle.tm_plan_map.specs.Map.{window_at, windows_base}
-use Rattle.tm_plan.specs.Collected.{declares, is_declared, collector, window_dwords, owned}
+use Rattle.tm_plan_cases.specs.Collected.{declares, is_declared, collector, window_dwords, owned}
 use Rattle.tm_base.specs.Lists.{any, count_from}
-use Rattle.tm_plan.specs.Shaped.{IsShapedWindow, AreShaped}
+use Rattle.tm_plan_cases.specs.Shaped.{IsShapedWindow, AreShaped}
 use Rattle.tm_runs.proofs.Places.{within-parts}
 use Rattle.tm_runs.proofs.Bytes.{within-true}
 use Rattle.tm_legal.proofs.Streams.{window-declared}

@@ -3,7 +3,7 @@ use Rattle.std.proofs.Common.{◌≡◌, ℕ, zero, suc, ◌+◌, ◌*◌, ◌/�
 use Rattle.std.specs.Prelude.{flat_map, if◌then◌else◌}
 use Rattle.std.proofs.lemmas.Bool.{and_parts, and_left}
 use Rattle.tm_table.specs.State.{Hart}
-use Rattle.tm_plan.specs.declared.program.Program.{Program}
+use Rattle.tm_plan_cases.specs.declared.program.Program.{Program}
 use Rattle.tm_base.specs.Lists.{count_from}
 use Rattle.tm_world.specs.Lists.{those, first_of}
 use Rattle.tm_world.specs.Place.{harts, case_count, passes, start_of, exit_of, inside}

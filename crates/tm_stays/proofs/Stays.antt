@@ -4,10 +4,10 @@ use Rattle.std.specs.Prelude.{if◌then◌else◌, slice_get}
 use Rattle.std.proofs.lemmas.Bool.{false≢true, cases_eq, and_parts}
 use Rattle.std.proofs.lemmas.Option.{slice_get_within}
 use Rattle.tm_table.specs.State.{Hart}
-use Rattle.tm_plan.specs.declared.program.Program.{Program}
-use Rattle.tm_plan.specs.declared.cases.Case.{Case}
-use Rattle.tm_plan.specs.declared.cases.Stream.{Stream}
-use Rattle.tm_plan.specs.Collected.{sum_of, slots_of}
+use Rattle.tm_plan_cases.specs.declared.program.Program.{Program}
+use Rattle.tm_plan_cases.specs.declared.cases.Case.{Case}
+use Rattle.tm_plan_cases.specs.declared.cases.Stream.{Stream}
+use Rattle.tm_plan_cases.specs.Collected.{sum_of, slots_of}
 use Rattle.tm_base.specs.Lists.{count_from}
 use Rattle.tm_world.specs.Place.{harts, case_count, passes, start_of, end_of, inside}
 use Rattle.tm_world.specs.Run.{Step, Always, own, now, first_state}

@@ -1,8 +1,8 @@
 -- Laws of what a hart does inside its streams on legal runs (this project's own).
 use Rattle.std.specs.Prelude.{◌≡◌, ℕ, ◌+◌, ◌*◌, ◌<◌, ◌≤◌, length, slice_get, Some}
 use Rattle.tm_table.specs.declared.instr.Instr.{Instr}
-use Rattle.tm_plan.specs.declared.program.Program.{Program}
-use Rattle.tm_plan.specs.declared.cases.Stream.{Stream}
+use Rattle.tm_plan_cases.specs.declared.program.Program.{Program}
+use Rattle.tm_plan_cases.specs.declared.cases.Stream.{Stream}
 use Rattle.tm_plan_map.specs.Slots.{instr_of, load_width}
 use Rattle.tm_world.specs.Place.{harts, passes, exit_of}
 use Rattle.tm_world.specs.Run.{Run, now, phase}

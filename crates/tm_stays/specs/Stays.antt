@@ -1,9 +1,9 @@
 -- How long a hart stays inside its streams and outside them (this project's own).
 use Rattle.std.specs.Prelude.{ℕ, suc, ◌+◌, List, [], ◌∷◌, slice_get, Option, None, Some, if◌then◌else◌}
 use Rattle.tm_table.specs.State.{Hart}
-use Rattle.tm_plan.specs.declared.program.Program.{Program}
-use Rattle.tm_plan.specs.declared.cases.Case.{Case}
-use Rattle.tm_plan.specs.Collected.{slots_of}
+use Rattle.tm_plan_cases.specs.declared.program.Program.{Program}
+use Rattle.tm_plan_cases.specs.declared.cases.Case.{Case}
+use Rattle.tm_plan_cases.specs.Collected.{slots_of}
 use Rattle.tm_world.specs.Place.{inside}
 use Rattle.tm_world.specs.Run.{Step, now}
 use Rattle.tm_world.specs.Kinds.{stream_at}

@@ -2,7 +2,7 @@
 ghost use Rattle.tm_stays.specs.Laws.{EachStayShort, StaysShort, WorksLittle, EndsSoon, PassesAlike};
 ghost use Rattle.tm_stays.specs.Laws.{StaysInPhase, LegalWritesAreRight};
 
-use tm_plan::Program;
+use tm_plan_cases::Program;
 
 /// On legal runs each stay in a stream takes at most as many steps as the stream has words; so do all stays
 /// together in each pass; so a bound on the steps outside streams on half runs gives one on all steps.

@@ -13,7 +13,7 @@ use std::alloc::Global;
 use tm_base::{Bytes, NoMemory, Text, push_decimal};
 use tm_faults::{BuildFault, InputFault, Role};
 use tm_image_build::build;
-use tm_plan::Program;
+use tm_plan_cases::Program;
 use tm_top_line::AnyFault;
 use tm_top_owed::Stop;
 

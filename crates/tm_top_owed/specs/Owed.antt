@@ -4,7 +4,7 @@ use Rattle.std.specs.Prelude.{◌≡◌, ◌⊎◌, ℕ, Bool, true, false, IsTr
 use Rattle.tm_desk.specs.Causes.{Files}
 use Rattle.tm_desk.specs.declared.desk.DeskError.TheVariants.{Failed, TooLong, NoMemory}
 use Rattle.tm_plan_map.specs.declared.admitted.Admitted.{Admitted}
-use Rattle.tm_plan.specs.declared.program.Program.{Program}
+use Rattle.tm_plan_cases.specs.declared.program.Program.{Program}
 use Rattle.tm_image_program.specs.Program.{IsTestOf}
 use Rattle.tm_world.specs.Sound.{SoundSoFar}
 use Rattle.tm_elf_write.specs.declared.parts.Parts.{Parts}

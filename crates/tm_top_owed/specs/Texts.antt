@@ -1,7 +1,7 @@
 -- The texts that go to the sinks. Source: this project.
 use Rattle.std.specs.Prelude.{ℕ, List, ◌++◌, length, codes}
 use Rattle.std.specs.Fmt.{decimal}
-use Rattle.tm_plan.specs.declared.program.Program.{Program}
+use Rattle.tm_plan_cases.specs.declared.program.Program.{Program}
 
 -- what is said of words that are no command
 unfoldable pub usage : List ℕ

@@ -6,7 +6,7 @@ ghost use Rattle.tm_table.specs.Row.{read_at, IsGiven};
 
 use std::alloc::Global;
 use std::test::Fail;
-use tm_plan::Program;
+use tm_plan_cases::Program;
 use tm_table::{Access, Cpu, Instr, decode, exec, needs_read};
 
 const TEXT: u64 = 0x8000_0000;

@@ -3,7 +3,7 @@ use crate::machine::Machine;
 use std::alloc::Global;
 use std::test::Fail;
 use tm_image_build::{Image, build};
-use tm_plan::Program;
+use tm_plan_cases::Program;
 
 const TOPOLOGY: &[u8] = b"cores = 1\nthreads = 1\nline = 64\n";
 

@@ -1,7 +1,7 @@
 -- What stands earlier in a run of a kind is a run of that kind.
 use Rattle.std.proofs.Common.{◌≡◌, ℕ, List, [], ◌∷◌, ◌++◌, subst}
 use Rattle.std.proofs.lemmas.List.Elements.{filter-append}
-use Rattle.tm_plan.specs.declared.program.Program.{Program}
+use Rattle.tm_plan_cases.specs.declared.program.Program.{Program}
 use Rattle.tm_table.specs.State.{Hart}
 use Rattle.tm_world.specs.Run.{Step, Run, Always, own}
 use Rattle.tm_world.specs.Kinds.{first_of_hart, EachHart, Paths, Legal, Plain, Half}

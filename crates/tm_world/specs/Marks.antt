@@ -1,7 +1,7 @@
 -- The marks that a hart comes to, and the order in which it should (this project's own).
 use Rattle.std.specs.Prelude.{ℕ, Bool, ◌&&◌, not, ◌==◌, List, [], ◌∷◌, ◌++◌, flat_map}
 use Rattle.tm_table.specs.State.{Hart}
-use Rattle.tm_plan.specs.declared.program.Program.{Program}
+use Rattle.tm_plan_cases.specs.declared.program.Program.{Program}
 use Rattle.tm_base.specs.Lists.{count_from}
 use Rattle.tm_world.specs.Lists.{those}
 use Rattle.tm_world.specs.Place.{case_count, round_count, case_of_round, passes, start_of, end_of, exit_of, halt_of, inside}

@@ -2,9 +2,9 @@
 -- A resource is a number: a register below 32, or the address of a byte that the hart alone may write.
 use Rattle.std.specs.Prelude.{◌≡◌, ℕ, ◌<◌, Bool, true, false, ◌&&◌, not, ◌==◌, List, [], ◌∷◌, ◌++◌, slice_get, Option, Some, None, Contains, if◌then◌else◌}
 use Rattle.tm_table.specs.declared.instr.Instr.{Instr}
-use Rattle.tm_plan.specs.declared.cases.Cases.{Cases}
-use Rattle.tm_plan.specs.declared.cases.Stream.{Stream}
-use Rattle.tm_plan.specs.Collected.{is_declared}
+use Rattle.tm_plan_cases.specs.declared.cases.Cases.{Cases}
+use Rattle.tm_plan_cases.specs.declared.cases.Stream.{Stream}
+use Rattle.tm_plan_cases.specs.Collected.{is_declared}
 use Rattle.tm_base.specs.Lists.{any, count_from}
 use Rattle.tm_plan_map.specs.Slots.{instr_of, load_width, store_width, is_branch, is_jump, slot_addr, slot_target}
 use Rattle.tm_world.specs.Lists.{those}

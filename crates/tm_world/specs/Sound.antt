@@ -1,10 +1,10 @@
 -- A sound program (this project's own).
 use Rattle.std.specs.Prelude.{◌≡◌, ℕ, ◌<◌, IsTrue}
 use Rattle.tm_table.specs.declared.state.Access.TheVariants.{Write}
-use Rattle.tm_plan.specs.declared.program.Program.{Program}
+use Rattle.tm_plan_cases.specs.declared.program.Program.{Program}
 use Rattle.tm_plan_map.specs.Map.{verdict_at}
-use Rattle.tm_plan.specs.Shaped.{IsProgram}
-use Rattle.tm_plan.specs.Tables.{table_bytes}
+use Rattle.tm_plan_cases.specs.Shaped.{IsProgram}
+use Rattle.tm_plan_cases.specs.Tables.{table_bytes}
 use Rattle.tm_world.specs.Place.{harts, round_count}
 use Rattle.tm_world.specs.Run.{Run, Always, access_of}
 use Rattle.tm_world.specs.Kinds.{Legal, Plain}

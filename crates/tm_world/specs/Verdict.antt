@@ -2,10 +2,10 @@
 use Rattle.std.specs.Prelude.{◌≡◌, ℕ, ◌+◌, ◌-◌, ◌*◌, ◌/◌, ◌%◌, ◌^◌, ◌<◌, Bool, ◌&&◌, not, nat_lt, ◌==◌, List, [], ◌∷◌, length, slice_index, slice_get, Option, Some, None, IsTrue, All, map, if◌then◌else◌, option_map}
 use Rattle.tm_table.specs.declared.state.Access.TheVariants.{Write}
 use Rattle.tm_table.specs.State.{Hart}
-use Rattle.tm_plan.specs.declared.program.Program.{Program}
-use Rattle.tm_plan.specs.declared.masks.CaseMask.{CaseMask}
+use Rattle.tm_plan_cases.specs.declared.program.Program.{Program}
+use Rattle.tm_plan_cases.specs.declared.masks.CaseMask.{CaseMask}
 use Rattle.tm_plan_map.specs.Map.{verdict_at, windows_base}
-use Rattle.tm_plan.specs.Collected.{owned}
+use Rattle.tm_plan_cases.specs.Collected.{owned}
 use Rattle.tm_base.specs.Lists.{count_from}
 use Rattle.tm_world.specs.Place.{round_count, case_of_round, passes, exit_of, inside}
 use Rattle.tm_world.specs.Run.{Step, now, access_of, got, phase, earliest, Always}

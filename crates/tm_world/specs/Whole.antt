@@ -1,10 +1,10 @@
 -- The parts of the course that speak of the text, of all harts, and of legal runs; and the course (this project's own).
 use Rattle.std.specs.Prelude.{◌≡◌, ◌≢◌, ◌⊎◌, ℕ, ◌+◌, ◌-◌, ◌*◌, ◌/◌, ◌%◌, ◌<◌, ◌≤◌, false, List, [], ◌∷◌, length, slice_get, slice_index, Some, IsTrue, AllPairs, All, flat_map, map}
-use Rattle.tm_plan.specs.declared.program.Program.{Program}
-use Rattle.tm_plan.specs.declared.cases.Case.{Case}
-use Rattle.tm_plan.specs.declared.cases.Stream.{Stream}
+use Rattle.tm_plan_cases.specs.declared.program.Program.{Program}
+use Rattle.tm_plan_cases.specs.declared.cases.Case.{Case}
+use Rattle.tm_plan_cases.specs.declared.cases.Stream.{Stream}
 use Rattle.tm_plan_map.specs.Map.{text_base, windows_base}
-use Rattle.tm_plan.specs.Collected.{is_declared}
+use Rattle.tm_plan_cases.specs.Collected.{is_declared}
 use Rattle.tm_base.specs.Lists.{count_from}
 use Rattle.tm_world.specs.Place.{harts, case_count, case_of_round, first_dwords, start_of, end_of, exit_of, halt_of, inside, byte_of, word_at}
 use Rattle.tm_world.specs.Run.{Run, own, Always, now, access_of, hart_of, Writes}

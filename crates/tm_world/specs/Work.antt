@@ -4,9 +4,9 @@ use Rattle.tm_table.specs.declared.state.Access.{Access}
 use Rattle.tm_table.specs.declared.state.Access.TheVariants.{Quiet, Read, Write}
 use Rattle.tm_table.specs.State.{Hart}
 use Rattle.tm_table.specs.Row.{row_word}
-use Rattle.tm_plan.specs.declared.program.Program.{Program}
+use Rattle.tm_plan_cases.specs.declared.program.Program.{Program}
 use Rattle.tm_plan_map.specs.Map.{flag_at}
-use Rattle.tm_plan.specs.Collected.{work_of}
+use Rattle.tm_plan_cases.specs.Collected.{work_of}
 use Rattle.tm_base.specs.Lists.{any, count_from}
 use Rattle.tm_world.specs.Place.{harts, halt_of, exit_of, word_at}
 use Rattle.tm_world.specs.Run.{Step, Run, own, now, phase, access_of}

@@ -1,11 +1,11 @@
 -- Who may write a byte in a phase, and to what it settles (this project's own).
 use Rattle.std.specs.Prelude.{ℕ, zero, suc, ◌+◌, ◌*◌, ◌/◌, ◌%◌, Bool, false, ◌&&◌, ◌||◌, nat_lt, ◌==◌, List, [], ◌∷◌, slice_get, Option, Some, None, if◌then◌else◌}
-use Rattle.tm_plan.specs.declared.program.Program.{Program}
-use Rattle.tm_plan.specs.declared.cases.Cases.{Cases}
-use Rattle.tm_plan.specs.declared.cases.Case.{Case}
-use Rattle.tm_plan.specs.declared.cases.Stream.{Stream}
+use Rattle.tm_plan_cases.specs.declared.program.Program.{Program}
+use Rattle.tm_plan_cases.specs.declared.cases.Cases.{Cases}
+use Rattle.tm_plan_cases.specs.declared.cases.Case.{Case}
+use Rattle.tm_plan_cases.specs.declared.cases.Stream.{Stream}
 use Rattle.tm_table.specs.declared.instr.Instr.{Instr}
-use Rattle.tm_plan.specs.Collected.{is_declared, collector}
+use Rattle.tm_plan_cases.specs.Collected.{is_declared, collector}
 use Rattle.tm_base.specs.Lists.{any, count_from}
 use Rattle.tm_plan_map.specs.Slots.{instr_of, stores_to}
 use Rattle.tm_world.specs.Lists.{those, or_else}

@@ -2,7 +2,7 @@
 ghost use Rattle.tm_world.specs.Kinds.{Legal, Half, Plain};
 ghost use Rattle.tm_world.specs.Laws.{PassesToPrefixes};
 
-use tm_plan::Program;
+use tm_plan_cases::Program;
 
 /// Each prefix of a legal run is a legal run, and the same holds of half runs and of plain runs.
 pub fn prefixes(program: &Program)

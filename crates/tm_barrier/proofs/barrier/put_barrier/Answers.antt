@@ -1,7 +1,7 @@
 use Rattle.std.proofs.Common.{[], ◌∷◌, ◌++◌, length, ap, ◌∙◌, arith, length-append}
 use Rattle.tm_asm.specs.Sheet.{Sheet}
 use Rattle.tm_asm.proofs.Append.{length-puts}
-use Rattle.tm_blocks.specs.Instrs.{fence, go_to}
+use Rattle.tm_blocks_base.specs.Instrs.{fence, go_to}
 use Rattle.tm_blocks_code.proofs.Puts.{and_then}
 use Rattle.tm_barrier.specs.Words.{meet, barrier}
 use Rattle.tm_barrier.proofs.Meet.{meet_runs, fence_runs, return_runs, length-barrier}

@@ -1,7 +1,7 @@
 use Rattle.std.proofs.Common.{arith}
 use Rattle.std.proofs.lemmas.Result.{on_ok_weaker}
-use Rattle.tm_blocks.specs.Blocks.{constant}
-use Rattle.tm_blocks.proofs.Constant.{constant_runs}
+use Rattle.tm_blocks_base.specs.Blocks.{constant}
+use Rattle.tm_blocks_base.proofs.Constant.{constant_runs}
 use Rattle.tm_blocks_code.proofs.blocks.put_constant.Goals as goal
 
 pub returns-clause-words : goal.returns-clause-words

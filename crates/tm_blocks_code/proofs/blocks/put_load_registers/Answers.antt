@@ -2,9 +2,9 @@ use Rattle.std.proofs.Common.{ℕ, ◌≡◌, ◌-◌, ◌*◌, List, [], ◌∷
 use Rattle.tm_table.specs.declared.instr.Instr.{Instr}
 use Rattle.tm_base.specs.Lists.{count_from}
 use Rattle.tm_asm.specs.Sheet.{puts}
-use Rattle.tm_blocks.specs.Instrs.{ld}
-use Rattle.tm_blocks.specs.Blocks.{constant, load_registers}
-use Rattle.tm_blocks.proofs.Registers.{load_registers_runs, load_all_but_last_runs, last_load_runs}
+use Rattle.tm_blocks_base.specs.Instrs.{ld}
+use Rattle.tm_blocks_base.specs.Blocks.{constant, load_registers}
+use Rattle.tm_blocks_base.proofs.Registers.{load_registers_runs, load_all_but_last_runs, last_load_runs}
 use Rattle.tm_blocks_code.proofs.Puts.{none_yet, one_more, all_single, and_then}
 use Rattle.tm_blocks_code.proofs.blocks.put_load_registers.Goals as goal
 

@@ -1,5 +1,5 @@
 use Rattle.std.proofs.Common.{◌≡◌, ◌-◌, ◌*◌, [], ◌∷◌}
-use Rattle.tm_blocks.specs.Instrs.{ld}
+use Rattle.tm_blocks_base.specs.Instrs.{ld}
 use Rattle.tm_blocks_code.proofs.Puts.{row_of}
 use Rattle.tm_blocks_code.proofs.blocks.put_load_registers.Given as goal
 

@@ -1,9 +1,9 @@
 use Rattle.std.proofs.Common.{ℕ, ◌≡◌, ◌-◌, ◌*◌, List, [], ◌∷◌, ◌∙◌, ap, arith}
 use Rattle.tm_table.specs.declared.instr.Instr.{Instr}
 use Rattle.tm_asm.specs.Sheet.{puts}
-use Rattle.tm_blocks.specs.Instrs.{sd}
-use Rattle.tm_blocks.specs.Blocks.{save_registers}
-use Rattle.tm_blocks.proofs.Registers.{save_registers_runs}
+use Rattle.tm_blocks_base.specs.Instrs.{sd}
+use Rattle.tm_blocks_base.specs.Blocks.{save_registers}
+use Rattle.tm_blocks_base.proofs.Registers.{save_registers_runs}
 use Rattle.tm_blocks_code.proofs.Puts.{none_yet, one_more, all_single}
 use Rattle.tm_blocks_code.proofs.blocks.put_save_registers.Goals as goal
 

@@ -1,5 +1,5 @@
 use Rattle.std.proofs.Common.{◌≡◌, ◌-◌, ◌*◌, [], ◌∷◌}
-use Rattle.tm_blocks.specs.Instrs.{sd}
+use Rattle.tm_blocks_base.specs.Instrs.{sd}
 use Rattle.tm_blocks_code.proofs.Puts.{row_of}
 use Rattle.tm_blocks_code.proofs.blocks.put_save_registers.Given as goal
 

@@ -3,7 +3,7 @@ use Rattle.std.proofs.lemmas.Int.{ints}
 use Rattle.tm_table.specs.declared.instr.Op.TheVariants.{Addi}
 use Rattle.tm_table.specs.Words.{Fits}
 use Rattle.tm_table.specs.declared.instr.Instr.{Instr}
-use Rattle.tm_blocks.proofs.Fitting.{subi_fits}
+use Rattle.tm_blocks_base.proofs.Fitting.{subi_fits}
 use Rattle.tm_blocks_code.proofs.instrs.subi.Goals as goal
 
 pub returns-clause-is : goal.returns-clause-is

@@ -1,8 +1,8 @@
 use Rattle.std.proofs.Common.{List, [], ◌∷◌}
 use Rattle.std.proofs.lemmas.Result.{on_ok_weaker}
 use Rattle.tm_table.specs.declared.instr.Instr.{Instr}
-use Rattle.tm_blocks.specs.Instrs.{slli, add, addi}
-use Rattle.tm_blocks.specs.Blocks.{constant}
+use Rattle.tm_blocks_base.specs.Instrs.{slli, add, addi}
+use Rattle.tm_blocks_base.specs.Blocks.{constant}
 use Rattle.tm_blocks_code.proofs.Puts.{and_then}
 use Rattle.tm_blocks_compare.specs.Words.{pass_head}
 use Rattle.tm_blocks_compare.proofs.words.put_pass_head.Goals as goal

@@ -1,8 +1,8 @@
 use Rattle.std.proofs.Common.{List, [], ◌∷◌, ◌++◌}
 use Rattle.std.proofs.lemmas.Result.{on_ok_weaker}
 use Rattle.tm_table.specs.declared.instr.Instr.{Instr}
-use Rattle.tm_blocks.specs.Instrs.{addi}
-use Rattle.tm_blocks.specs.Blocks.{copy_dwords}
+use Rattle.tm_blocks_base.specs.Instrs.{addi}
+use Rattle.tm_blocks_base.specs.Blocks.{copy_dwords}
 use Rattle.tm_blocks_code.proofs.Puts.{and_then}
 use Rattle.tm_blocks_move.specs.Lines.{collect_windows, collect_all}
 use Rattle.tm_blocks_move.proofs.Collecting.{collect_all_runs}

@@ -2,7 +2,7 @@ use Rattle.std.proofs.Common.{ℕ, ◌+◌, ◌/◌, ap, ◌∙◌}
 use Rattle.std.proofs.lemmas.Result.{on_ok_weaker}
 use Rattle.tm_plan_map.specs.Map.{windows_base}
 use Rattle.tm_asm.specs.Sheet.{puts}
-use Rattle.tm_blocks.specs.Blocks.{constant}
+use Rattle.tm_blocks_base.specs.Blocks.{constant}
 use Rattle.tm_plan_owned.specs.Lines.{line_count, line_place}
 use Rattle.tm_blocks_code.proofs.Puts.{and_then}
 use Rattle.tm_blocks_move.specs.Words.{move_lines}

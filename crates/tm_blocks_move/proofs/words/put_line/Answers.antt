@@ -1,5 +1,5 @@
 use Rattle.std.proofs.Common.{arith}
-use Rattle.tm_blocks.specs.Blocks.{copy_dword, copy_dwords}
+use Rattle.tm_blocks_base.specs.Blocks.{copy_dword, copy_dwords}
 use Rattle.tm_blocks_code.proofs.Puts.{none_yet, one_more, all_done}
 use Rattle.tm_blocks_move.proofs.words.put_line.Goals as goal
 

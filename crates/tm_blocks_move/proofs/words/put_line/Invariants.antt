@@ -1,5 +1,5 @@
 use Rattle.std.proofs.Common.{◌≡◌}
-use Rattle.tm_blocks.specs.Blocks.{copy_dword}
+use Rattle.tm_blocks_base.specs.Blocks.{copy_dword}
 use Rattle.tm_blocks_code.proofs.Puts.{row_of}
 use Rattle.tm_blocks_move.proofs.words.put_line.Given as goal
 

@@ -1,5 +1,5 @@
 use Rattle.std.proofs.lemmas.Result.{on_ok_weaker}
-use Rattle.tm_blocks.specs.Blocks.{copy_dwords}
+use Rattle.tm_blocks_base.specs.Blocks.{copy_dwords}
 use Rattle.tm_blocks_code.proofs.Puts.{and_then}
 use Rattle.tm_blocks_move.specs.Words.{line_turn, lines_loop}
 use Rattle.tm_blocks_move.proofs.words.put_lines_loop.Goals as goal

@@ -2,9 +2,9 @@ use Rattle.std.proofs.Common.{◌≡◌, ◌*◌, List, [], ◌∷◌, ◌++◌,
 use Rattle.std.proofs.lemmas.Result.{on_ok_weaker}
 use Rattle.tm_table.specs.declared.instr.Instr.{Instr}
 use Rattle.tm_plan_map.specs.Map.{save_at, windows_base}
-use Rattle.tm_blocks.specs.Instrs.{jump_back, words_of}
-use Rattle.tm_blocks.specs.Blocks.{collect}
-use Rattle.tm_blocks.proofs.Lists.{and_then}
+use Rattle.tm_blocks_base.specs.Instrs.{jump_back, words_of}
+use Rattle.tm_blocks_base.specs.Blocks.{collect}
+use Rattle.tm_blocks_base.proofs.Lists.{and_then}
 use Rattle.tm_pass.specs.Hart.{first_bytes, between}
 use Rattle.tm_pass.proofs.parts.put_between.Goals as goal
 

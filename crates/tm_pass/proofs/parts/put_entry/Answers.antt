@@ -2,9 +2,9 @@ use Rattle.std.proofs.Common.{◌≡◌, ◌++◌, ◌∙◌, ap, List}
 use Rattle.std.proofs.lemmas.Result.{on_ok_weaker}
 use Rattle.tm_table.specs.declared.instr.Instr.{Instr}
 use Rattle.tm_plan_map.specs.Map.{private_at}
-use Rattle.tm_blocks.specs.Instrs.{words_of}
-use Rattle.tm_blocks.specs.Blocks.{constant}
-use Rattle.tm_blocks.proofs.Lists.{and_then}
+use Rattle.tm_blocks_base.specs.Instrs.{words_of}
+use Rattle.tm_blocks_base.specs.Blocks.{constant}
+use Rattle.tm_blocks_base.proofs.Lists.{and_then}
 use Rattle.tm_pass.specs.Hart.{entry, first_bytes}
 use Rattle.tm_pass.proofs.parts.put_entry.Goals as goal
 

@@ -2,10 +2,10 @@ use Rattle.std.proofs.Common.{◌≡◌, List, ◌++◌, ◌∙◌, ap}
 use Rattle.std.proofs.lemmas.Result.{on_ok_weaker}
 use Rattle.tm_table.specs.declared.instr.Instr.{Instr}
 use Rattle.tm_plan_map.specs.Map.{save_at, verdict_at, windows_base}
-use Rattle.tm_blocks.specs.Instrs.{words_of}
-use Rattle.tm_blocks.specs.Blocks.{collect}
-use Rattle.tm_blocks.specs.Compare.{compare}
-use Rattle.tm_blocks.proofs.Lists.{and_then}
+use Rattle.tm_blocks_base.specs.Instrs.{words_of}
+use Rattle.tm_blocks_base.specs.Blocks.{collect}
+use Rattle.tm_blocks_base.specs.Compare.{compare}
+use Rattle.tm_blocks_base.proofs.Lists.{and_then}
 use Rattle.tm_pass.specs.Hart.{masks_table, bytes_table, last}
 use Rattle.tm_pass.proofs.parts.put_last.Goals as goal
 

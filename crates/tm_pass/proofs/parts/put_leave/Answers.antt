@@ -1,8 +1,8 @@
 use Rattle.std.proofs.Common.{◌≡◌, ◌*◌, [], ◌∷◌, ◌++◌, ◌∙◌, ap, ℕ, arith}
 use Rattle.std.proofs.lemmas.Result.{on_ok_weaker}
-use Rattle.tm_blocks.specs.Instrs.{jump_back, words_of}
-use Rattle.tm_blocks.specs.Blocks.{save_registers}
-use Rattle.tm_blocks.proofs.Lists.{and_then}
+use Rattle.tm_blocks_base.specs.Instrs.{jump_back, words_of}
+use Rattle.tm_blocks_base.specs.Blocks.{save_registers}
+use Rattle.tm_blocks_base.proofs.Lists.{and_then}
 use Rattle.tm_pass.specs.Hart.{leave}
 use Rattle.tm_pass.proofs.parts.put_leave.Goals as goal
 

@@ -1,5 +1,5 @@
 use Rattle.std.proofs.Common.{List, sym, subst}
-use Rattle.tm_plan.specs.declared.cases.Case.{Case}
+use Rattle.tm_plan_cases.specs.declared.cases.Case.{Case}
 use Rattle.tm_plan_owned.specs.Lines.{FewSlots}
 use Rattle.tm_plan_owned.proofs.Places.{few-slots}
 use Rattle.tm_plan_owned.proofs.steps.work.Goals as goal

@@ -1,6 +1,6 @@
 use Rattle.std.proofs.Common.{◌∙◌, sym}
 use Rattle.tm_rules.specs.Admitting.{hart_slots}
-use Rattle.tm_plan.proofs.Counted.{counted-more}
+use Rattle.tm_plan_cases.proofs.Counted.{counted-more}
 use Rattle.tm_rules.proofs.bodies.bodies_of.Goals as goal
 
 pub loop-h-preserved : goal.loop-h-preserved

@@ -1,0 +1,11 @@
+use Rattle.std.proofs.Common.{◌≡◌, ◌-◌, ◌-ℤ◌, ℤ, pos, negsuc, to_z, of_z, w64, subst, arith}
+use Rattle.std.proofs.lemmas.Int.{ints}
+use Rattle.tm_table.specs.declared.instr.Op.TheVariants.{Jal}
+use Rattle.tm_table.specs.Words.{Fits}
+use Rattle.tm_blocks_base.proofs.Fitting.{jump_back_fits}
+use Rattle.tm_blocks_base.proofs.instrs.jump_back.Goals as goal
+
+pub put-requires : goal.put-requires
+put-requires c =
+    let e : negsuc (c.args.n - 1) ≡ to_z w64 (of_z w64 (pos 0 -ℤ to_z w64 (of_z w64 c.from.result))) = omega (arith, ints) in
+    subst (λ (z : ℤ). Fits (record { op = Jal; rd = 0; rs1 = 0; rs2 = 0; imm = z })) e (jump_back_fits c.args.n c.requires.even c.requires.some c.requires.near)
