@@ -120,7 +120,8 @@ pub record IsFirstFar (s : Sheet) (from to : ℕ) : Type 0 where
   pub far : reaches s.places from item ≡ false
   pub first : (k : ℕ) (x : Item) → k < from → slice_get s.items k ≡ Some x → reaches s.places k x ≡ true
 
--- what code without words was refused for: a word that can't reach its label, with no such word before it, or want of memory
+-- what code without words was refused for: a word that can't reach its label, with no such word before it, or want of
+-- memory
 abbrev pub IsFar : Sheet → CodeFault → Type 0
 IsFar s (FarBranch from to) = IsFirstFar s from to
 IsFar s NoMemory = Unit {0}
@@ -158,7 +159,8 @@ pub record AppendsFor (label : ℕ) (old new : Sheet) (block : ℕ → List Inst
   pub items : new.items ≡ old.items ++ extra
   pub places : KeepsPlaces old.places new.places
   pub open' : KeepsOpen old.places new.places
-  pub words : (ps : List (Option ℕ)) (p : ℕ) → KeepsPlaces new.places ps → slice_get ps label ≡ Some (Some p) → instrs ps (length old.items) extra ≡ block p
+  pub words : (ps : List (Option ℕ)) (p : ℕ) → KeepsPlaces new.places ps → slice_get ps label ≡ Some (Some p)
+      → instrs ps (length old.items) extra ≡ block p
 
 -- ---- plain instructions
 

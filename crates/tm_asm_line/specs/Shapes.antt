@@ -150,9 +150,11 @@ pieces_of Registers = reg Rd ∷ comma ∷ reg Rs1 ∷ comma ∷ reg Rs2 ∷ []
 pieces_of Fences = Take (Set Before) ∷ comma ∷ Take (Set After) ∷ []
 pieces_of Bare = []
 
--- The texts of FENCE's sets below 15, by number: `0`, or letters of iorw in this order, with i 8, o 4, r 2 and w 1 (this project).
+-- The texts of FENCE's sets below 15, by number: `0`, or letters of iorw in this order, with i 8, o 4, r 2 and w 1
+-- (this project).
 abbrev set_texts : List (List ℕ)
-set_texts = codes "0" ∷ codes "w" ∷ codes "r" ∷ codes "rw" ∷ codes "o" ∷ codes "ow" ∷ codes "or" ∷ codes "orw" ∷ codes "i" ∷ codes "iw" ∷ codes "ir" ∷ codes "irw" ∷ codes "io" ∷ codes "iow" ∷ codes "ior" ∷ []
+set_texts = codes "0" ∷ codes "w" ∷ codes "r" ∷ codes "rw" ∷ codes "o" ∷ codes "ow" ∷ codes "or" ∷ codes "orw"
+    ∷ codes "i" ∷ codes "iw" ∷ codes "ir" ∷ codes "irw" ∷ codes "io" ∷ codes "iow" ∷ codes "ior" ∷ []
 
 -- the same with the last, which has all four letters
 unfoldable pub set_text : ℕ → List ℕ

@@ -38,6 +38,7 @@ Looks h n = Uses (IsOtherFlag h n) (λ a. ⊥)
 abbrev pub signals_in : ℕ → Entry → Bool
 signals_in h e = writes_flag h e.access
 
+-- its word is `fence rw, rw`
 abbrev pub is_fence_in : Entry → Bool
 is_fence_in e = e.word == 0x0330000F
 

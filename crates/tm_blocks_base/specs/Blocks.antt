@@ -1,5 +1,5 @@
--- The parts of which support code is put together, as lists of instructions (this project's own). Each says which registers it
--- takes and which it changes.
+-- The parts of which support code is put together, as lists of instructions (this project's own). Each says which
+-- registers it takes and which it changes.
 use Rattle.std.specs.Prelude.{ℕ, ◌+◌, ◌-◌, ◌*◌, ◌/◌, ◌%◌, ◌^◌, List, [], ◌∷◌, ◌++◌, map, flat_map}
 use Rattle.tm_table.specs.declared.instr.Instr.{Instr}
 use Rattle.tm_base.specs.Lists.{count_from}
@@ -37,6 +37,7 @@ copy_dwords from a to b n = flat_map (copy_dword from a to b) (count_from 0 n)
 unfoldable pub copy : (from to n : ℕ) → List Instr
 copy from to n = constant 1 from ++ constant 2 to ++ copy_dwords 1 0 2 0 n
 
--- dwords 0 to 29 at x31, and then n dwords at an address, go to the save area at an address; it changes x1, x3 and x9 alone
+-- dwords 0 to 29 at x31, and then n dwords at an address, go to the save area at an address; it changes x1, x3 and x9
+-- alone
 unfoldable pub collect : (shared save n : ℕ) → List Instr
 collect shared save n = constant 9 save ++ copy_dwords 31 0 9 0 30 ++ constant 1 shared ++ copy_dwords 1 0 9 30 n

@@ -1,7 +1,7 @@
--- What every run of a part's words does, over all values that reads may return (this project's own). Each law is of a hart in any
--- world, in any state at the part's first word: it comes, in so many steps, to the address behind the last, never back to the
--- first, and each step until then makes the accesses alone that are named; what holds then says how the state differs from the one
--- before, and which accesses were made.
+-- What every run of a part's words does, over all values that reads may return (this project's own). Each law is of a
+-- hart in any world, in any state at the part's first word: it comes, in so many steps, to the address behind the
+-- last, never back to the first, and each step until then makes the accesses alone that are named; what holds then
+-- says how the state differs from the one before, and which accesses were made.
 use Rattle.std.specs.Prelude.{◌≡◌, ◌≢◌, ℕ, zero, suc, ◌+◌, ◌-◌, ◌*◌, ◌/◌, ◌%◌, ◌^◌, ◌<◌, ◌≤◌, ◌⊎◌, List, [], ◌∷◌, ◌++◌, length, slice_index, map, Bool, false, nat_lt, ◌==◌, if◌then◌else◌, IsTrue}
 use Rattle.tm_table.specs.declared.state.Access.{Access}
 use Rattle.tm_table.specs.declared.state.Access.TheVariants.{Quiet, Read, Write}
@@ -36,7 +36,8 @@ abbrev pub writes : (b j : ℕ) → List ℕ → List Access
 writes b j [] = []
 writes b j (v ∷ vs) = writes b (suc j) vs ++ Write (b + 8 * j) 8 v ∷ []
 
--- a read of each of these values, from dword j at a on, each followed by its write, from dword j at b on, the newest first
+-- a read of each of these values, from dword j at a on, each followed by its write, from dword j at b on, the newest
+-- first
 abbrev pub copies : (a b j : ℕ) → List ℕ → List Access
 copies a b j [] = []
 copies a b j (v ∷ vs) = copies a b (suc j) vs ++ Write (b + 8 * j) 8 v ∷ Read (a + 8 * j) 8 v ∷ []
@@ -133,7 +134,8 @@ pub record HasAll (table : ℕ) (s t : State) : Type 0 where
 
 -- 41 steps, which read the first 30 dwords alone
 abbrev pub LoadAllButLastRuns : (table : ℕ) → Type 0
-LoadAllButLastRuns table = (w : World) (s : State) → Usable w table 31 → ReadsBack w table 31 → At w.text s.pc (load_registers_but_last table)
+LoadAllButLastRuns table = (w : World) (s : State) → Usable w table 31 → ReadsBack w table 31
+    → At w.text s.pc (load_registers_but_last table)
     → Takes w (Within s.pc (s.pc + 164) (Uses (Among table 30) Nowhere)) (HasAllButLast table s) 41 s
 
 -- the state after the last load, which reads dword 30 of the table
@@ -147,12 +149,14 @@ pub record HasLast (table : ℕ) (s t : State) : Type 0 where
 
 -- the last load by itself
 abbrev pub LastLoadRuns : (table : ℕ) → Type 0
-LastLoadRuns table = (w : World) (s : State) → Usable w table 31 → ReadsBack w table 31 → At w.text s.pc (ld 31 240 31 ∷ []) → get s.regs 31 ≡ table
+LastLoadRuns table = (w : World) (s : State) → Usable w table 31 → ReadsBack w table 31
+    → At w.text s.pc (ld 31 240 31 ∷ []) → get s.regs 31 ≡ table
     → Takes w (HasLast table s) (HasLast table s) 1 s
 
 -- 42 steps, which read the 31 dwords alone
 abbrev pub LoadRegistersRuns : (table : ℕ) → Type 0
-LoadRegistersRuns table = (w : World) (s : State) → Usable w table 31 → ReadsBack w table 31 → At w.text s.pc (load_registers table)
+LoadRegistersRuns table = (w : World) (s : State) → Usable w table 31 → ReadsBack w table 31
+    → At w.text s.pc (load_registers table)
     → Takes w (Within s.pc (s.pc + 168) (Uses (Among table 31) Nowhere)) (HasAll table s) 42 s
 
 -- ---- saving registers
@@ -170,7 +174,8 @@ pub record HasSaved (b : ℕ) (s t : State) : Type 0 where
 
 -- 30 steps, which write 30 dwords alone
 abbrev pub SaveRegistersRuns : Type 0
-SaveRegistersRuns = (w : World) (s : State) (b : ℕ) → get s.regs 31 ≡ b → Usable w b 30 → Changeable w b 30 → At w.text s.pc save_registers
+SaveRegistersRuns = (w : World) (s : State) (b : ℕ) → get s.regs 31 ≡ b → Usable w b 30 → Changeable w b 30
+    → At w.text s.pc save_registers
     → Takes w (Within s.pc (s.pc + 120) (Uses Nowhere (Among b 30))) (HasSaved b s) 30 s
 
 -- ---- copying
@@ -195,7 +200,8 @@ pub record HasCopied (w : World) (from to n : ℕ) (s t : State) : Type 0 where
 
 -- 22 steps and 2 a dword, which read from the one address on and write from the other on
 abbrev pub CopyRuns : (from to n : ℕ) → Type 0
-CopyRuns from to n = (w : World) (s : State) → Usable w from n → Usable w to n → Changeable w to n → Disjoint from n to n → At w.text s.pc (copy from to n)
+CopyRuns from to n = (w : World) (s : State) → Usable w from n → Usable w to n → Changeable w to n
+    → Disjoint from n to n → At w.text s.pc (copy from to n)
     → Takes w (Within s.pc (s.pc + 4 * (22 + 2 * n)) (Uses (Among from n) (Among to n))) (HasCopied w from to n s) (22 + 2 * n) s
 
 -- ---- collecting
@@ -208,7 +214,8 @@ pub record HasCollected (w : World) (b shared save n : ℕ) (s t : State) : Type
   pub pc : t.pc ≡ s.pc + 4 * (82 + 2 * n)
   pub regs : (r : ℕ) → r ≢ 1 → r ≢ 3 → r ≢ 9 → get t.regs r ≡ get s.regs r
   pub mem : t.mem ≡ stored_all s.mem save 0 (dwords s.mem b 30 ++ values)
-  pub accesses : accesses t.log ≡ copies shared (save + 240) 0 values ++ copies b save 0 (dwords s.mem b 30) ++ accesses s.log
+  pub accesses : accesses t.log ≡ copies shared (save + 240) 0 values ++ copies b save 0 (dwords s.mem b 30)
+      ++ accesses s.log
   pub fits : RegistersFit s → RegistersFit t
 
 -- an address of the 30 dwords at b, or of the n shared ones
@@ -218,7 +225,8 @@ Collects b shared n a = Among b 30 a ⊎ Among shared n a
 -- 82 steps and 2 a dword, which read the dwords at x31 and the shared ones, and write from save on
 abbrev pub CollectRuns : (shared save n : ℕ) → Type 0
 CollectRuns shared save n = (w : World) (s : State) (b : ℕ) → get s.regs 31 ≡ b
-    → Usable w b 30 → ReadsBack w b 30 → Usable w shared n → Usable w save (30 + n) → Changeable w save (30 + n) → Disjoint b 30 save 30
+    → Usable w b 30 → ReadsBack w b 30 → Usable w shared n → Usable w save (30 + n) → Changeable w save (30 + n)
+    → Disjoint b 30 save 30
     → At w.text s.pc (collect shared save n)
     → Takes w (Within s.pc (s.pc + 4 * (82 + 2 * n)) (Uses (Collects b shared n) (Among save (30 + n)))) (HasCollected w b shared save n s) (82 + 2 * n) s
 
@@ -242,12 +250,14 @@ pub data Compares (first other masks bytes n a : ℕ) : Type 0 where
   Mask : a ≡ masks → Compares first other masks bytes n a
   Bytes : Among bytes n a → Compares first other masks bytes n a
 
--- the reads of dword i's check, the newest first: of a register that is checked, the two saved values; of a collected dword, the two
--- and then its mask
+-- the reads of dword i's check, the newest first: of a register that is checked, the two saved values; of a collected
+-- dword, the two and then its mask
 unfoldable pub check_reads : Table → (first other bytes registers i : ℕ) → List Access
 check_reads mem first other bytes registers i =
-    if nat_lt i 30 then (if registers / 2 ^ (i + 1) % 2 == 1 then Read (other + 8 * i) 8 (mem (other + 8 * i)) ∷ Read (first + 8 * i) 8 (mem (first + 8 * i)) ∷ [] else [])
-    else Read (bytes + 8 * (i - 30)) 8 (mem (bytes + 8 * (i - 30))) ∷ Read (other + 8 * i) 8 (mem (other + 8 * i)) ∷ Read (first + 8 * i) 8 (mem (first + 8 * i)) ∷ []
+    if nat_lt i 30 then (if registers / 2 ^ (i + 1) % 2 == 1 then Read (other + 8 * i) 8 (mem (other + 8 * i))
+        ∷ Read (first + 8 * i) 8 (mem (first + 8 * i)) ∷ [] else [])
+    else Read (bytes + 8 * (i - 30)) 8 (mem (bytes + 8 * (i - 30))) ∷ Read (other + 8 * i) 8 (mem (other + 8 * i))
+        ∷ Read (first + 8 * i) 8 (mem (first + 8 * i)) ∷ []
 
 -- the reads of n checks from dword i on, up to the first that finds a difference, the newest first
 abbrev pub reads_until : (ℕ → Bool) → (ℕ → List Access) → (i n : ℕ) → List Access
@@ -261,7 +271,8 @@ differs_in mem first other masks bytes = differs (mem masks) (λ j. mem (bytes +
 -- all reads of a comparison, the newest first; the first is that of the registers' mask
 abbrev pub compare_reads : Table → (first other masks bytes n : ℕ) → List Access
 compare_reads mem first other masks bytes n =
-    reads_until (differs_in mem first other masks bytes) (check_reads mem first other bytes (mem masks)) 0 (30 + n) ++ Read masks 8 (mem masks) ∷ []
+    reads_until (differs_in mem first other masks bytes) (check_reads mem first other bytes (mem masks)) 0 (30 + n)
+        ++ Read masks 8 (mem masks) ∷ []
 
 -- the verdict on pass k over the memory: dword i of a saved state is at its address plus 8 * i
 abbrev pub verdict_in : Table → (first other masks bytes k n : ℕ) → ℕ
@@ -282,7 +293,8 @@ pub record HasVerdict (first other masks bytes cell k n : ℕ) (s t : State) : T
 
 -- up to 301 steps and 7 a dword, which read what is compared and write nothing
 abbrev pub CompareButLastRuns : (first other masks bytes cell k n : ℕ) → Type 0
-CompareButLastRuns first other masks bytes cell k n = (w : World) (s : State) → Comparable w first other masks bytes n → At w.text s.pc (compare_but_last first other masks bytes cell k n)
+CompareButLastRuns first other masks bytes cell k n = (w : World) (s : State)
+    → Comparable w first other masks bytes n → At w.text s.pc (compare_but_last first other masks bytes cell k n)
     → Takes w (Within s.pc (s.pc + 4 * (301 + 7 * n)) (Uses (Compares first other masks bytes n) Nowhere)) (HasVerdict first other masks bytes cell k n s) (301 + 7 * n) s
 
 -- the state after the store of x8 at an address
@@ -291,7 +303,8 @@ after_verdict cell s = moved (sd 8 0 7) s (Write cell 8 (get s.regs 8)) (s.pc + 
 
 -- the store of the verdict by itself
 abbrev pub LastStoreRuns : (cell : ℕ) → Type 0
-LastStoreRuns cell = (w : World) (s : State) → Usable w cell 1 → Changeable w cell 1 → At w.text s.pc (sd 8 0 7 ∷ []) → get s.regs 7 ≡ cell
+LastStoreRuns cell = (w : World) (s : State) → Usable w cell 1 → Changeable w cell 1
+    → At w.text s.pc (sd 8 0 7 ∷ []) → get s.regs 7 ≡ cell
     → Takes w (λ t. t ≡ after_verdict cell s) (λ t. t ≡ after_verdict cell s) 1 s
 
 -- the verdict was written to the cell, by the last access and by no other
@@ -307,6 +320,7 @@ pub record HasCompared (first other masks bytes cell k n : ℕ) (s t : State) : 
 
 -- up to 302 steps and 7 a dword, of which the last alone writes
 abbrev pub CompareRuns : (first other masks bytes cell k n : ℕ) → Type 0
-CompareRuns first other masks bytes cell k n = (w : World) (s : State) → Comparable w first other masks bytes n → Usable w cell 1 → Changeable w cell 1
+CompareRuns first other masks bytes cell k n = (w : World) (s : State) → Comparable w first other masks bytes n
+    → Usable w cell 1 → Changeable w cell 1
     → At w.text s.pc (compare first other masks bytes cell k n)
     → Takes w (Within s.pc (s.pc + 4 * (302 + 7 * n)) (Uses (Compares first other masks bytes n) (Among cell 1))) (HasCompared first other masks bytes cell k n s) (302 + 7 * n) s

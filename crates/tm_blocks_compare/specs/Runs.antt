@@ -74,5 +74,6 @@ ComparingIn p h c = Sizes p → AreShaped p.cases → h < p.cases.harts → c < 
 abbrev pub CaseRuns : Cases → (c h : ℕ) → Type 0
 CaseRuns cases c h = CompareAllRuns cases h (save_at h 0) (case_masks cases h c) (case_bytes cases c) (verdict_at c h)
 
+-- the number of the comparison of hart h's passes of case c names the least difference
 abbrev pub CaseNamesLeast : Cases → (c h : ℕ) → Type 0
 CaseNamesLeast cases c h = NamesLeastOfAll cases h (save_at h 0) (case_masks cases h c) (case_bytes cases c)

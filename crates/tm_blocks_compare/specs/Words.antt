@@ -15,12 +15,15 @@ use Rattle.tm_plan_owned.specs.Lines.{line_count, line_place}
 abbrev pub register_look : ℕ → List Instr
 register_look far = addi 8 8 1 ∷ and 6 10 5 ∷ beq 6 0 16 ∷ ld 6 0 1 ∷ ld 7 0 2 ∷ bne 6 7 (4 * (6 + far)) ∷ []
 
+-- on to the next register: both pointers, the bit of its mask, and the count
 abbrev pub register_on : List Instr
 register_on = addi 1 1 8 ∷ addi 2 2 8 ∷ add 10 10 10 ∷ subi 4 4 1 ∷ bne_back 4 0 40 ∷ []
 
+-- one turn: a register is looked at, and on to the next
 abbrev pub register_turn : ℕ → List Instr
 register_turn far = register_look far ++ register_on
 
+-- the 30 registers, from the bit of x1 on
 unfoldable pub register_loop : ℕ → List Instr
 register_loop far = addi 10 0 2 ∷ addi 4 0 30 ∷ register_turn far
 
@@ -29,9 +32,11 @@ register_loop far = addi 10 0 2 ∷ addi 4 0 30 ∷ register_turn far
 abbrev pub dword_look : ℕ → List Instr
 dword_look far = addi 8 8 1 ∷ ld 6 0 1 ∷ ld 7 0 2 ∷ xor 6 6 7 ∷ ld 7 0 3 ∷ and 6 6 7 ∷ bne 6 0 (4 * (9 + far)) ∷ []
 
+-- on to the next dword: three pointers, and the count
 abbrev pub dword_on : List Instr
 dword_on = addi 1 1 8 ∷ addi 2 2 8 ∷ addi 3 3 8 ∷ subi 10 10 1 ∷ bne_back 10 0 44 ∷ []
 
+-- one turn: a dword is looked at, and on to the next
 abbrev pub dword_turn : ℕ → List Instr
 dword_turn far = dword_look far ++ dword_on
 
@@ -49,12 +54,15 @@ abbrev pub own_check : Cases → (h bytes v far : ℕ) → List Instr
 own_check cases h bytes v far =
     window_check (bytes + line_place cases h v) (line_count cases h v) (cases.line / 8) (cases.line * cases.harts - cases.line) far
 
+-- the lines of window 2
 abbrev pub last_check : Cases → (h bytes : ℕ) → List Instr
 last_check cases h bytes = own_check cases h bytes 2 5
 
+-- the lines of window 1
 abbrev pub next_check : Cases → (h bytes : ℕ) → List Instr
 next_check cases h bytes = own_check cases h bytes 1 (5 + length (last_check cases h bytes))
 
+-- the lines of window 0
 abbrev pub first_check : Cases → (h bytes : ℕ) → List Instr
 first_check cases h bytes =
     own_check cases h bytes 0 (5 + length (last_check cases h bytes) + length (next_check cases h bytes))
@@ -63,6 +71,7 @@ first_check cases h bytes =
 unfoldable pub pass_head : ℕ → List Instr
 pass_head first = constant 1 first ++ (slli 2 9 13 ∷ add 2 2 1 ∷ addi 8 0 0 ∷ [])
 
+-- the registers and then the windows of one pass
 unfoldable pub pass_body : Cases → (h bytes : ℕ) → List Instr
 pass_body cases h bytes =
     register_loop (5 + length (last_check cases h bytes) + length (next_check cases h bytes) + length (first_check cases h bytes))
@@ -72,6 +81,7 @@ pass_body cases h bytes =
 abbrev pub pass_tail : (passes long : ℕ) → List Instr
 pass_tail passes long = addi 9 9 1 ∷ addi 10 0 passes ∷ bne_back 9 10 (4 * (long + 2)) ∷ []
 
+-- one pass, compared with pass 0
 abbrev pub one_pass : Cases → (h first bytes : ℕ) → List Instr
 one_pass cases h first bytes = pass_head first ++ pass_body cases h bytes
 

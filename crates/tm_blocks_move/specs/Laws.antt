@@ -7,6 +7,7 @@ use Rattle.tm_base.specs.Lists.{count_from}
 use Rattle.tm_runs.specs.Machine.{Table, State, World, put, get, MayAccess}
 use Rattle.tm_blocks_base.specs.Laws.{RegistersFit, accesses}
 
+-- a move: the address that is read, and the one that is written
 abbrev pub Move : Type 0
 Move = ℕ × ℕ
 

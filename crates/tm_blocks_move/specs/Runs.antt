@@ -15,6 +15,7 @@ use Rattle.tm_blocks_base.specs.Laws.{Uses}
 use Rattle.tm_blocks_move.specs.Laws.{Move, Movable, EachMove, HasMoved, line_moves}
 use Rattle.tm_blocks_move.specs.Lines.{first_bytes, collect_all, set_moves, collect_moves}
 
+-- the move is one of the list
 abbrev pub In : Move → List Move → Type 0
 In m [] = ⊥
 In m (k ∷ ks) = (m ≡ k) ⊎ In m ks
@@ -53,5 +54,6 @@ pub record MovesFit (p : Program) (h : ℕ) : Type 0 where
   pub collect : (k : ℕ) → k < 8
       → EachMove (Movable (world_of p h)) (all_collected p.cases h (private_at h) (save_at h k))
 
+-- in a program of the stated sizes all moves of hart h can be made
 abbrev pub FitsIn : Program → ℕ → Type 0
 FitsIn p h = Sizes p → AreShaped p.cases → h < p.cases.harts → MovesFit p h

@@ -15,11 +15,12 @@ use Rattle.tm_pass.specs.Hart.{hart_words, exit_place, start_place, halt_place}
 
 -- no word of the stream is a load or a store
 abbrev pub HasNoAccess : Stream → Type 0
-HasNoAccess stream = (n w : ℕ) (i : Instr) → slice_get stream.words n ≡ Some w → instr_of w ≡ Some i → (load_width i.op ≡ 0) × (store_width i.op ≡ 0)
+HasNoAccess stream = (n w : ℕ) (i : Instr) → slice_get stream.words n ≡ Some w → instr_of w ≡ Some i
+    → (load_width i.op ≡ 0) × (store_width i.op ≡ 0)
 
--- A program of one hart, with one case of one stream, two passes, and one line of 64 bytes of window 0: its text is the hart's words
--- around the stream, its marks are theirs, and its tables are those of its cases and masks; the masks are the checked ones, all
--- first bytes are 0, and the stream neither loads nor stores.
+-- A program of one hart, with one case of one stream, two passes, and one line of 64 bytes of window 0: its text is
+-- the hart's words around the stream, its marks are theirs, and its tables are those of its cases and masks; the
+-- masks are the checked ones, all first bytes are 0, and the stream neither loads nor stores.
 pub record IsOfOneHart (p : Program) (case : Case) (stream : Stream) (mask : CaseMask) : Type 0 where
   pub program : IsProgram p
   pub typed : IsTyped p

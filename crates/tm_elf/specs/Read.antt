@@ -54,13 +54,14 @@ unfoldable pub with_symbols : List ℕ → Result (List Symbol) ElfFault → Res
 with_symbols bytes (Ok symbols) = compared (parts_in bytes symbols) bytes
 with_symbols bytes (Err e) = Err e
 
--- What a file is read as: its parts, or the first fault in this order: the file header, the program headers, the plan, the ranges of the symbol
--- table and of its strings, the entries, and last any other byte (this project).
+-- What a file is read as: its parts, or the first fault in this order: the file header, the program headers, the
+-- plan, the ranges of the symbol table and of its strings, the entries, and last any other byte (this project).
 unfoldable pub elf_of : List ℕ → Result Parts ElfFault
 elf_of bytes =
     unless_fault (header_fault bytes) (
     unless_fault (segment_fault (bad_segment bytes)) (
-    if has_plan bytes then (if has_symbols bytes then with_symbols bytes (symbols_in bytes) else Err (BadSymbol 0)) else Err NoPlan))
+    if has_plan bytes then (if has_symbols bytes then with_symbols bytes (symbols_in bytes) else Err (BadSymbol 0))
+        else Err NoPlan))
 
 -- parts whose numbers are in the ranges of their types (this project)
 pub record InRange (p : Parts) : Type 0 where

@@ -10,11 +10,13 @@ use Rattle.tm_elf_head.specs.Numbers.{word_at, long_at, part_at}
 unfoldable pub is_name : List ℕ → Bool
 is_name bytes = nat_lt 0 (length bytes) && (nat_le (length bytes) 32 && list_all (λ b. nat_lt 0 b && nat_lt b 128) bytes)
 
--- the length of the name with which bytes begin, if they begin with one that a zero byte ends (ELF gABI, "String Table")
+-- the length of the name with which bytes begin, if they begin with one that a zero byte ends (ELF gABI, "String
+-- Table")
 unfoldable pub name_len : List ℕ → Option ℕ
 name_len bytes = let n = prefix_len (λ b. not (b == 0)) bytes in if nat_lt n (length bytes) && is_name (take n bytes) then Some n else None
 
--- the symbol of an entry (ELF gABI, "Symbol Table"), if its name stands in the strings: a name and its zero byte take at most 33 bytes
+-- the symbol of an entry (ELF gABI, "Symbol Table"), if its name stands in the strings: a name and its zero byte take
+-- at most 33 bytes
 unfoldable pub symbol_at : (table strings : List ℕ) (index : ℕ) → Option Symbol
 symbol_at table strings index =
     let named = part_at (word_at table (24 * index)) 33 strings in

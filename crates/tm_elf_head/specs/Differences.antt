@@ -1,8 +1,8 @@
 -- Where two lists of bytes differ.
 use Rattle.std.specs.Prelude.{ℕ, List, [], ◌∷◌, ◌+◌, ◌==◌, Bool, Option, Some, None, is_some, if◌then◌else◌}
 
--- The first place at which two lists differ, or the shorter length where one begins with the other, counted from this number on; none where
--- they are the same (this project).
+-- The first place at which two lists differ, or the shorter length where one begins with the other, counted from this
+-- number on; none where they are the same (this project).
 unfoldable pub difference_from : ℕ → List ℕ → List ℕ → Option ℕ
 difference_from at [] [] = None
 difference_from at [] (y ∷ ys) = Some at

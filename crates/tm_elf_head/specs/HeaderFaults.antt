@@ -10,8 +10,9 @@ use Rattle.tm_elf_head.specs.Numbers.{half_at, word_at, long_at, part_at}
 unfoldable pub magic : List ℕ
 magic = 0x7F ∷ 0x45 ∷ 0x4C ∷ 0x46 ∷ 2 ∷ 1 ∷ 1 ∷ []
 
--- The least offset whose field is at fault (the fields are those of ELF gABI, "ELF Header", and their values this project's): 7 stands for the
--- rest of e_ident. The section headers are the file's last 512 bytes, and a file of fewer than 744 bytes has no room for its headers.
+-- The least offset whose field is at fault (the fields are those of ELF gABI, "ELF Header", and their values this
+-- project's): 7 stands for the rest of e_ident. The section headers are the file's last 512 bytes, and a file of
+-- fewer than 744 bytes has no room for its headers.
 unfoldable pub bad_field : List ℕ → Option ℕ
 bad_field bytes =
     if differ (part_at 7 9 bytes) (zeros 9) then Some 7 else (

@@ -17,8 +17,8 @@ is_tables bytes = ends_by (headers_at bytes) (segment bytes 1) && nat_le (segmen
 unfoldable pub bad_segment : List ℕ → Option ℕ
 bad_segment bytes = if is_text bytes then (if is_tables bytes then None else Some 1) else Some 0
 
--- whether bytes are a plan: the magic, the seed, two lengths within the limits of the two texts, and texts of these lengths up to the end
--- (this project)
+-- whether bytes are a plan: the magic, the seed, two lengths within the limits of the two texts, and texts of these
+-- lengths up to the end (this project)
 unfoldable pub is_plan : List ℕ → Bool
 is_plan bytes =
     nat_le 24 (length bytes) && (not (differ (take 8 bytes) (codes "TMPLAN01"))

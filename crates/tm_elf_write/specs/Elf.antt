@@ -1,4 +1,5 @@
--- The file of an image: an ELF-64 file for RISC-V with three segments and eight sections. Numbers are little-endian, padding bytes are zero.
+-- The file of an image: an ELF-64 file for RISC-V with three segments and eight sections. Numbers are little-endian,
+-- padding bytes are zero.
 use Rattle.std.specs.Prelude.{ℕ, List, ◌++◌, ◌+◌, ◌-◌, ◌*◌, ◌≤◌, ◌<◌, length, map, All}
 use Rattle.tm_elf_write.specs.declared.fields.Field.TheVariants.{Word}
 use Rattle.tm_elf_write.specs.declared.parts.Parts.{Parts}
@@ -14,8 +15,9 @@ use Rattle.tm_elf_write.specs.Symbols.{symbol_bytes, string_bytes, IsName}
 unfoldable pub text_bytes : List ℕ → List ℕ
 text_bytes words = bytes_of (map Word words)
 
--- The parts in their order, filled with zeros up to each one's place (this project): the file header, the program headers, text, tables, plan,
--- symbol table, strings, section names, and the section headers, with which the file ends.
+-- The parts in their order, filled with zeros up to each one's place (this project): the file header, the program
+-- headers, text, tables, plan, symbol table, strings, section names, and the section headers, with which the file
+-- ends.
 unfoldable pub file : (text tables plan symbols strings : List ℕ) → List ℕ
 file text tables plan symbols strings =
     let at = places (length text) (length tables) (length plan) (length symbols) (length strings) in

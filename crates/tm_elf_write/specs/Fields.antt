@@ -5,7 +5,8 @@ use Rattle.std.specs.Int.{to_le_bytes, w16, w32, w64}
 use Rattle.tm_elf_write.specs.declared.fields.Field.{Field}
 use Rattle.tm_elf_write.specs.declared.fields.Field.TheVariants.{Byte, Half, Word, Long}
 
--- the 1, 2, 4 or 8 bytes of a field: unsigned char, Elf64_Half, Elf64_Word, and Elf64_Xword, Elf64_Addr or Elf64_Off (ELF gABI)
+-- the 1, 2, 4 or 8 bytes of a field: unsigned char, Elf64_Half, Elf64_Word, and Elf64_Xword, Elf64_Addr or Elf64_Off
+-- (ELF gABI)
 unfoldable pub field_bytes : Field → List ℕ
 field_bytes (Byte n) = n ∷ []
 field_bytes (Half n) = to_le_bytes w16 n

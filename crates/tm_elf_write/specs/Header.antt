@@ -3,8 +3,8 @@ use Rattle.std.specs.Prelude.{ℕ, List, [], ◌∷◌}
 use Rattle.tm_elf_write.specs.declared.fields.Field.{Field}
 use Rattle.tm_elf_write.specs.declared.fields.Field.TheVariants.{Byte, Half, Word, Long}
 
--- The header of a file whose section headers stand at this offset. The fields are those of ELF gABI, "ELF Header"; e_machine and e_flags are given
--- by RISC-V psABI, the entry and the numbers of headers by this project.
+-- The header of a file whose section headers stand at this offset. The fields are those of ELF gABI, "ELF Header";
+-- e_machine and e_flags are given by RISC-V psABI, the entry and the numbers of headers by this project.
 unfoldable pub header : ℕ → List Field
 header sections =
     Byte 0x7F ∷ Byte 0x45 ∷ Byte 0x4C ∷ Byte 0x46  -- e_ident 0 to 3: 0x7F and "ELF"

@@ -3,7 +3,8 @@ use Rattle.std.specs.Prelude.{ℕ, ◌+◌}
 use Rattle.tm_elf_write.specs.declared.places.Places.{Places}
 use Rattle.tm_elf_write.specs.Fields.{next_multiple}
 
--- The places of the parts, from their lengths in bytes. The file header and the three program headers end at 232, and the text stands at 4096.
+-- The places of the parts, from their lengths in bytes. The file header and the three program headers end at 232, and
+-- the text stands at 4096.
 unfoldable pub places : (text tables plan symbols strings : ℕ) → Places
 places text tables plan symbols strings =
     let tables_at = next_multiple 4096 (4096 + text) in

@@ -4,8 +4,8 @@ use Rattle.tm_elf_write.specs.declared.fields.Field.TheVariants.{Word, Long}
 use Rattle.tm_elf_write.specs.declared.parts.Plan.{Plan}
 use Rattle.tm_elf_write.specs.Fields.{bytes_of}
 
--- eight bytes of magic (54 4D 50 4C 41 4E 30 31), the seed in 8 bytes, the lengths of topology and template in 4 bytes each, and the two texts
--- (this project)
+-- eight bytes of magic (54 4D 50 4C 41 4E 30 31), the seed in 8 bytes, the lengths of topology and template in 4
+-- bytes each, and the two texts (this project)
 unfoldable pub plan_bytes : Plan → List ℕ
 plan_bytes plan =
     codes "TMPLAN01"

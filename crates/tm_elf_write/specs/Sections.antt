@@ -48,4 +48,5 @@ sections_bytes rows = flat_map (λ s. bytes_of (section_fields s)) rows
 unfoldable pub section_names : List ℕ
 section_names =
     0 ∷ flat_map (λ name. name ++ 0 ∷ [])
-    (codes ".text" ∷ codes ".tables" ∷ codes ".work" ∷ codes ".tmplan" ∷ codes ".symtab" ∷ codes ".strtab" ∷ codes ".shstrtab" ∷ [])
+    (codes ".text" ∷ codes ".tables" ∷ codes ".work" ∷ codes ".tmplan" ∷ codes ".symtab" ∷ codes ".strtab"
+        ∷ codes ".shstrtab" ∷ [])

@@ -7,7 +7,8 @@ use Rattle.tm_elf_write.specs.declared.places.Places.{Places}
 use Rattle.tm_elf_write.specs.declared.segments.Segment.{Segment}
 use Rattle.tm_elf_write.specs.Fields.{bytes_of}
 
--- one program header (ELF gABI, "Program Header"): all are loaded, and stand at one address, virtual and physical (this project)
+-- one program header (ELF gABI, "Program Header"): all are loaded, and stand at one address, virtual and physical
+-- (this project)
 unfoldable pub segment_fields : Segment → List Field
 segment_fields s =
     Word 1  -- 0 p_type: PT_LOAD
@@ -24,7 +25,8 @@ segment_fields s =
 abbrev pub segment : (flags offset address filesz memsz : ℕ) → Segment
 segment flags offset address filesz memsz = record { flags = flags; offset = offset; address = address; filesz = filesz; memsz = memsz }
 
--- The rows: text (read and executed), tables (read) and work (read and written, filled with zeros by the loader) (this project).
+-- The rows: text (read and executed), tables (read) and work (read and written, filled with zeros by the loader)
+-- (this project).
 unfoldable pub segments : (text tables : ℕ) → Places → List Segment
 segments text tables at =
     segment 5 4096 0x80000000 text text

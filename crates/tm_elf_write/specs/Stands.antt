@@ -20,8 +20,8 @@ StandsAt place part bytes = take (length part) (drop place bytes) ≡ part
 unfoldable pub places_in : Parts → Places
 places_in p = places (length (text_bytes p.text)) (length p.tables) (length (plan_bytes p.plan)) (length (symbol_bytes p.symbols)) (length (string_bytes p.symbols))
 
--- What a reader finds in the file of an image (this project). Each part stands where the program headers and section headers say, and the file
--- ends with its eight section headers.
+-- What a reader finds in the file of an image (this project). Each part stands where the program headers and section
+-- headers say, and the file ends with its eight section headers.
 pub record ReadsAs (p : Parts) (bytes : List ℕ) : Type 0 where
   -- e_ident, e_type, e_machine, e_version, e_entry and e_phoff, whatever the parts
   pub begins : take 40 bytes ≡ first_bytes

@@ -27,7 +27,8 @@ entry name addr =
     ∷ Long 0  -- 16 st_size: none
     ∷ []
 
--- the entries of symbols, in order, whose names stand in the strings from this offset on, each with its zero byte (this project)
+-- the entries of symbols, in order, whose names stand in the strings from this offset on, each with its zero byte
+-- (this project)
 unfoldable pub entries : ℕ → List Symbol → List ℕ
 entries name [] = []
 entries name (s ∷ ss) = bytes_of (entry name s.addr) ++ entries (name + length s.name + 1) ss

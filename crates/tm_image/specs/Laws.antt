@@ -5,5 +5,6 @@ use Rattle.tm_image_build.specs.Opened.{opened}
 
 -- the file that is built of two texts within the limits and a seed of 64 bits is what it is opened as (this project)
 abbrev pub IsOpenedAgain : (topo template : List ℕ) → Type 0
-IsOpenedAgain topo template = (seed : ℕ) (file : List ℕ) → seed < 2 ^ 64 → length topo ≤ 65536 → length template ≤ 1048576
+IsOpenedAgain topo template = (seed : ℕ) (file : List ℕ) → seed < 2 ^ 64 → length topo ≤ 65536
+    → length template ≤ 1048576
     → built topo template seed ≡ Ok file → opened file ≡ Ok file

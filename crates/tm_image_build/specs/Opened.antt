@@ -28,7 +28,7 @@ abbrev pub opened_from : (bytes : List ℕ) → Result Parts ElfFault → Result
 opened_from bytes (Ok parts) = compared bytes (rebuilt parts)
 opened_from bytes (Err fault) = Err (Elf fault)
 
--- the file that a file is opened as, itself, or the first fault: of its form, of the two texts of its plan, or a byte that the plan doesn't give
--- (this project)
+-- the file that a file is opened as, itself, or the first fault: of its form, of the two texts of its plan, or a byte
+-- that the plan doesn't give (this project)
 unfoldable pub opened : List ℕ → Result (List ℕ) ImageFault
 opened bytes = opened_from bytes (elf_of bytes)

@@ -13,14 +13,17 @@ symbol name addr = record { name = name; addr = addr }
 -- `tm_s_H_C` and `tm_e_H_C`: where hart h's stream of case c starts and ends (this project)
 abbrev pub stream_symbols : Program → ℕ → ℕ → List Symbol
 stream_symbols p h c =
-    symbol (codes "tm_s_" ++ decimal h ++ codes "_" ++ decimal c) (slice_index p.marks.starts (h * length p.cases.cases + c))
-    ∷ symbol (codes "tm_e_" ++ decimal h ++ codes "_" ++ decimal c) (slice_index p.marks.ends (h * length p.cases.cases + c)) ∷ []
+    symbol (codes "tm_s_" ++ decimal h ++ codes "_"
+        ++ decimal c) (slice_index p.marks.starts (h * length p.cases.cases + c))
+    ∷ symbol (codes "tm_e_" ++ decimal h ++ codes "_"
+    ++ decimal c) (slice_index p.marks.ends (h * length p.cases.cases + c)) ∷ []
 
 -- of hart h: the start and the end of its stream in each case, the barrier's exit, and halt (this project)
 abbrev pub hart_symbols : Program → ℕ → List Symbol
 hart_symbols p h =
     flat_map (stream_symbols p h) (count_from 0 (length p.cases.cases))
-    ++ (symbol (codes "tm_x_" ++ decimal h) (slice_index p.marks.exits h) ∷ symbol (codes "tm_halt_" ++ decimal h) (slice_index p.marks.halts h) ∷ [])
+    ++ (symbol (codes "tm_x_" ++ decimal h) (slice_index p.marks.exits h)
+    ∷ symbol (codes "tm_halt_" ++ decimal h) (slice_index p.marks.halts h) ∷ [])
 
 -- of all harts, one after another (this project)
 unfoldable pub symbols_of : Program → List Symbol

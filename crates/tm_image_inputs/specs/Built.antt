@@ -30,8 +30,8 @@ abbrev pub emits : List Instr → List Slot
 emits [] = []
 emits (i ∷ is) = Emit i ∷ emits is
 
--- A test that is built so far: one hart, lines of 64 bytes, two passes, one shared line of window 0, and one case, in which the hart has
--- 1 to 256 instructions, each of the three ops (this project).
+-- A test that is built so far: one hart, lines of 64 bytes, two passes, one shared line of window 0, and one case, in
+-- which the hart has 1 to 256 instructions, each of the three ops (this project).
 pub record IsBuilt (a : Admitted) (case : List ℕ) (stream : List Instr) : Type 0 where
   pub harts : a.harts ≡ 1
   pub line : a.line ≡ 64

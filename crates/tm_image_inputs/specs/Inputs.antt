@@ -41,7 +41,8 @@ abbrev pub late_at : Option Pos → Option InputFault
 late_at None = None
 late_at (Some p) = Some (NotYet of_template p.line)
 
--- Why a test that no rule refuses isn't built yet: its system, which has line 0, else the first statement of its template (this project).
+-- Why a test that no rule refuses isn't built yet: its system, which has line 0, else the first statement of its
+-- template (this project).
 unfoldable pub not_yet : Topology → Template → Option InputFault
 not_yet topo t = if is_first_system topo then late_at (late_in t) else Some (NotYet of_topology 0)
 
@@ -62,7 +63,8 @@ abbrev pub of_reading : Topology → Result Template TmplFault → Result Admitt
 of_reading topo (Ok t) = unless_broken topo t (broken_rule topo t)
 of_reading topo (Err e) = Err (Tmpl e)
 
--- The test of a template for a system, or the template's first fault: of its grammar, of its rules, or that it isn't built yet (this project).
+-- The test of a template for a system, or the template's first fault: of its grammar, of its rules, or that it isn't
+-- built yet (this project).
 unfoldable pub template_inputs : Topology → List ℕ → Result Admitted InputFault
 template_inputs topo template = of_reading topo (template_of template)
 

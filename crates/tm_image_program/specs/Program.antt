@@ -1,4 +1,5 @@
--- The program of a test that is built so far: one hart with one case, of a stream of sums and exclusive ors. Source: this project.
+-- The program of a test that is built so far: one hart with one case, of a stream of sums and exclusive ors. Source:
+-- this project.
 use Rattle.std.specs.Prelude.{◌≡◌, ℕ, ◌+◌, ◌-◌, ◌*◌, ◌^◌, List, [], ◌∷◌, ◌++◌, length, replicate, map}
 use Rattle.tm_table.specs.declared.instr.Instr.{Instr}
 use Rattle.tm_table.specs.Words.{word_of}
@@ -32,7 +33,8 @@ pub record Names : Type 0 where
 
 -- one case; all first bytes are 0
 unfoldable pub case_of : Names → List ℕ → Case
-case_of names words = record { name = names.case; streams = record { words = words; regs = first_registers } ∷ []; first = zero_dwords }
+case_of names words = record { name = names.case; streams = record { words = words; regs = first_registers }
+    ∷ []; first = zero_dwords }
 
 -- one hart, one case, two passes, and window 0, shared by all, with one line of 64 bytes
 unfoldable pub cases_of : Names → List ℕ → Cases
@@ -117,7 +119,8 @@ stream_from slots = record { words = map word_of (emitted slots); regs = first_r
 abbrev pub case_from : AdmittedCase → Case
 case_from case = record { name = case.name; streams = map stream_from case.bodies; first = zero_dwords }
 
--- The cases are those of the test: its numbers, its names, its windows, and in each case the words of each hart (this project).
+-- The cases are those of the test: its numbers, its names, its windows, and in each case the words of each hart (this
+-- project).
 pub record IsTestOf (a : Admitted) (cases : Cases) : Type 0 where
   pub name : cases.name ≡ a.name
   pub harts : cases.harts ≡ a.harts

@@ -112,7 +112,8 @@ tokens_of text = lines_reading 1 0 (slice_split (λ b. b == 10) text)
 -- the words of a line from a place on are this one, and those after it
 abbrev pub IsNextWord : List ℕ → ℕ → Option (ℕ × ℕ) → Type 0
 IsNextWord bs at None = words at (drop at bs) ≡ []
-IsNextWord bs at (Some s) = (words at (drop at bs) ≡ s ∷ words s.1 (drop s.1 bs)) × (at ≤ s.0) × (s.0 < s.1) × (s.1 ≤ length bs)
+IsNextWord bs at (Some s) = (words at (drop at bs) ≡ s ∷ words s.1 (drop s.1 bs)) × (at ≤ s.0) × (s.0 < s.1)
+    × (s.1 ≤ length bs)
 
 -- a part that may be missing, as a list
 abbrev pub as_list : Option Span → List Span

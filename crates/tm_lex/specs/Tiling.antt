@@ -1,5 +1,5 @@
--- What tokens are, in the words of the format. Lines are gaps and words in turn; a line's fault is the first place with a cause.
--- All of this is this project's own.
+-- What tokens are, in the words of the format. Lines are gaps and words in turn; a line's fault is the first place
+-- with a cause. All of this is this project's own.
 use Rattle.std.specs.Prelude.{ℕ, ◌≡◌, ◌≢◌, ◌≤◌, ◌<◌, ◌+◌, ◌-◌, ◌==◌, ◌⊎◌, Bool, true, false, ◌&&◌, ◌||◌, not, nat_le, nat_lt, List, [], ◌∷◌, ◌++◌, length, drop, map, codes, slice_index}
 use Rattle.std.specs.List.{list_all, list_any, slice_split}
 use Rattle.tm_lex.specs.declared.token.TokenKind.{TokenKind}
@@ -18,7 +18,8 @@ abbrev pub begins_no_word : List ℕ → Bool
 begins_no_word [] = true
 begins_no_word (b ∷ bs) = not (is_word b)
 
--- bytes that begin at a place i are a gap without bytes of words, the word at this span, and a rest that doesn't go on with it
+-- bytes that begin at a place i are a gap without bytes of words, the word at this span, and a rest that doesn't go
+-- on with it
 pub record IsWordFirst (s : Span) (i : ℕ) (bs gap word rest : List ℕ) : Type 0 where
   pub spelled : bs ≡ gap ++ (word ++ rest)
   pub begins : s.0 ≡ i + length gap
@@ -31,7 +32,8 @@ pub record IsWordFirst (s : Span) (i : ℕ) (bs gap word rest : List ℕ) : Type
 -- bytes that begin at a place i are gaps and words in turn, the words at these spans
 abbrev pub WordsAt : List Span → ℕ → List ℕ → Type 0
 WordsAt [] i bs = list_all (λ b. not (is_word b)) bs ≡ true
-WordsAt (s ∷ ss) i bs = (gap : List ℕ) × (word : List ℕ) × (rest : List ℕ) × IsWordFirst s i bs gap word rest × WordsAt ss s.1 rest
+WordsAt (s ∷ ss) i bs = (gap : List ℕ) × (word : List ℕ) × (rest : List ℕ) × IsWordFirst s i bs gap word rest
+    × WordsAt ss s.1 rest
 
 -- a span of bytes that begin at a place i: separators around it, and none at its ends
 pub record IsTrimmed (s : Span) (i : ℕ) (bs : List ℕ) : Type 0 where
@@ -79,18 +81,21 @@ IsFine bs ps = (list_all may_stand bs ≡ true) × (list_all (λ s. nat_le s.1.1
 -- the fault is at the first place of line n at which something is wrong; of two causes at one place it is the bad byte
 abbrev pub IsFirstOf : ℕ → List ℕ → List (TokenKind × Span) → LexFault → Type 0
 IsFirstOf n bs ps (BadByte pos b) =
-    (p : ℕ) × (pos ≡ record { line = n; col = p + 1 }) × (b ≡ slice_index bs p) × (is_bad_at bs p ≡ true) × IsFineBefore bs ps p
+    (p : ℕ) × (pos ≡ record { line = n; col = p + 1 }) × (b ≡ slice_index bs p) × (is_bad_at bs p ≡ true)
+        × IsFineBefore bs ps p
 IsFirstOf n bs ps (LongWord pos) =
-    (p : ℕ) × (pos ≡ record { line = n; col = p + 1 }) × (is_long_at ps p ≡ true) × (is_bad_at bs p ≡ false) × IsFineBefore bs ps p
+    (p : ℕ) × (pos ≡ record { line = n; col = p + 1 }) × (is_long_at ps p ≡ true) × (is_bad_at bs p ≡ false)
+        × IsFineBefore bs ps p
 IsFirstOf n bs ps NoMemory = ⊥
 
--- lines from a number and a place on have these tokens: all is fine, and each line has a token at each of its parts and, where there
--- is a part, one at its end
+-- lines from a number and a place on have these tokens: all is fine, and each line has a token at each of its parts
+-- and, where there is a part, one at its end
 abbrev pub HaveTokens : ℕ → ℕ → List (List ℕ) → List Token → Type 0
 HaveTokens n from [] ts = ts ≡ []
 HaveTokens n from (line ∷ rest) ts =
     (ps : List (TokenKind × Span)) × (more : List Token) × AreParts (content line) ps × IsFine (content line) ps
-    × (ts ≡ map (token_at n from) (with_end (length line) ps) ++ more) × HaveTokens (n + 1) (from + length line + 1) rest more
+    × (ts ≡ map (token_at n from) (with_end (length line) ps) ++ more)
+    × HaveTokens (n + 1) (from + length line + 1) rest more
 
 -- lines from a number on have this first fault: it is the first of a line, and the lines before are fine
 abbrev pub HaveFault : ℕ → List (List ℕ) → LexFault → Type 0

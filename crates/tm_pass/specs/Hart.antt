@@ -1,5 +1,5 @@
--- The program of the one hart that is built so far: one case of one stream, two passes, one window with one line of 64 bytes
--- (this project's own). In order:
+-- The program of the one hart that is built so far: one case of one stream, two passes, one window with one line of
+-- 64 bytes (this project's own). In order:
 --
 --   entry     x31 = the private area; the first bytes of pass 0
 --   arrive    the count of exits, in the private area, goes up by one
@@ -55,7 +55,8 @@ arrive = ld 1 256 31 ∷ addi 1 1 1 ∷ sd 1 256 31 ∷ []
 
 -- its third and fifth instructions are branches, from which it is this far to between and to last
 unfoldable pub choose : (to_between to_last : ℕ) → List Instr
-choose to_between to_last = ld 1 256 31 ∷ addi 2 0 2 ∷ beq 1 2 (4 * to_between) ∷ addi 2 0 4 ∷ beq 1 2 (4 * to_last) ∷ []
+choose to_between to_last = ld 1 256 31 ∷ addi 2 0 2 ∷ beq 1 2 (4 * to_between) ∷ addi 2 0 4 ∷ beq 1 2 (4 * to_last)
+    ∷ []
 
 -- what stands before the stream
 unfoldable pub run : List Instr

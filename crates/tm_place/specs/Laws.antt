@@ -6,7 +6,8 @@ use Rattle.tm_place.specs.Sharing.{Sharing, StandsAt, MayStoreByte, MayLoadByte}
 
 -- No byte of a false or own window may be stored to by two harts.
 abbrev pub OneStores : Sharing → Type 0
-OneStores s = (g h b : ℕ) (v : Window) (j r : ℕ) → StandsAt s b v j r → v.kind ≢ True → MayStoreByte s g b → MayStoreByte s h b → g ≡ h
+OneStores s = (g h b : ℕ) (v : Window) (j r : ℕ) → StandsAt s b v j r → v.kind ≢ True → MayStoreByte s g b
+    → MayStoreByte s h b → g ≡ h
 
 -- What a hart may store to, it may load.
 abbrev pub StoresAreLoads : Sharing → Type 0

@@ -14,7 +14,8 @@ abbrev pub power_within : ℕ → ℕ → ℕ
 power_within zero n = 1
 power_within (suc k) n = if nat_le (2 ^ suc k) n then 2 ^ suc k else power_within k n
 
--- a hart's part of each line of a false window: the greatest power of two that is at most line / harts, for lines of at most 128 bytes
+-- a hart's part of each line of a false window: the greatest power of two that is at most line / harts, for lines of
+-- at most 128 bytes
 unfoldable pub part_size : ℕ → ℕ → ℕ
 part_size line harts = power_within 7 (line / harts)
 

@@ -1,4 +1,5 @@
--- Tests that no rule refuses: all of their numbers, registers, accesses and targets are as streams need them. Source: this project.
+-- Tests that no rule refuses: all of their numbers, registers, accesses and targets are as streams need them. Source:
+-- this project.
 use Rattle.std.specs.Prelude.{ℕ, ◌+◌, ◌-◌, ◌*◌, ◌%◌, ◌==◌, ◌<◌, ◌≤◌, ◌≡◌, ◌≢◌, IsTrue, IsFalse, List, length, find, slice_get, Some, All, AllPairs}
 use Rattle.tm_base.specs.Limits.{image_version, most_harts, most_cases}
 use Rattle.tm_table.specs.declared.instr.Instr.{Instr}
@@ -13,7 +14,8 @@ use Rattle.tm_plan_map.specs.declared.admitted.Admitted.{Admitted}
 use Rattle.tm_place.specs.Numbers.{is_line_size, part_size}
 use Rattle.tm_place.specs.Sharing.{Sharing, StandsAt, MayStore, MayLoad}
 
--- The access of an instruction begins in a declared line of the window whose base its first register holds (this project).
+-- The access of an instruction begins in a declared line of the window whose base its first register holds (this
+-- project).
 pub record IsBased (s : Sharing) (i : Instr) : Type 0 where
   pub window : Window
   pub line : ℕ
@@ -21,8 +23,9 @@ pub record IsBased (s : Sharing) (i : Instr) : Type 0 where
   pub base : window.number ≡ i.rs1 - 28
   pub stands : StandsAt s (slot_addr i) window line byte
 
--- An instruction that hart h runs in slot n of len: it fits and may stand in a stream, its registers are x0 to x27 beside the base of an
--- access, its access lies in the window of its base and is allowed to the hart, and it goes to a slot behind it, or to the end (this project).
+-- An instruction that hart h runs in slot n of len: it fits and may stand in a stream, its registers are x0 to x27
+-- beside the base of an access, its access lies in the window of its base and is allowed to the hart, and it goes to
+-- a slot behind it, or to the end (this project).
 pub record IsRuledEmit (s : Sharing) (h len n : ℕ) (i : Instr) : Type 0 where
   pub fits : Fits i
   pub allowed : IsFalse (is_barred i.op)
@@ -35,7 +38,8 @@ pub record IsRuledEmit (s : Sharing) (h len n : ℕ) (i : Instr) : Type 0 where
   pub stores : store_width i.op ≢ 0 → MayStore s h (slot_addr i) (store_width i.op)
   pub target : IsTrue (is_jump i.op) → (low 64 i.imm % 4 ≡ 0) × (n < slot_target n i) × (slot_target n i ≤ len)
 
--- Weights of which a class can be drawn: 1 to 1,000,000 in all, and a window for accesses where they have a weight (this project).
+-- Weights of which a class can be drawn: 1 to 1,000,000 in all, and a window for accesses where they have a weight
+-- (this project).
 pub record IsRuledMix (windows : List Window) (alu load store branch : ℕ) : Type 0 where
   pub some : 1 ≤ alu + load + store + branch
   pub few : alu + load + store + branch ≤ 1000000

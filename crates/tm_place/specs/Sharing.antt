@@ -5,7 +5,8 @@ use Rattle.tm_plan_map.specs.declared.windows.Kind2.{Kind2}
 use Rattle.tm_plan_map.specs.declared.windows.Kind2.TheVariants.{True, False, Own}
 use Rattle.tm_plan_map.specs.Map.{window_at}
 
--- What decides it: the number of harts, the bytes of a line and those of a hart's part of one, and the window of each number.
+-- What decides it: the number of harts, the bytes of a line and those of a hart's part of one, and the window of each
+-- number.
 pub record Sharing : Type 0 where
   pub harts : ℕ
   pub line : ℕ
@@ -19,13 +20,15 @@ pub record StandsAt (s : Sharing) (b : ℕ) (v : Window) (j r : ℕ) : Type 0 wh
   pub byte : r < s.line
   pub place : b ≡ window_at v.number + (j * s.line + r)
 
--- hart h may store to byte r of line j of a window of a kind: to every byte; to its part of each line; to the lines that are its own
+-- hart h may store to byte r of line j of a window of a kind: to every byte; to its part of each line; to the lines
+-- that are its own
 abbrev pub StoresAt : Kind2 → Sharing → (h j r : ℕ) → Type 0
 StoresAt True s h j r = Unit {0}
 StoresAt False s h j r = (h * s.part ≤ r) × (r < (h + 1) * s.part)
 StoresAt Own s h j r = j % s.harts ≡ h
 
--- hart h may load byte r of line j of a window of a kind: every byte, but of an own window only the lines that are its own
+-- hart h may load byte r of line j of a window of a kind: every byte, but of an own window only the lines that are
+-- its own
 abbrev pub LoadsAt : Kind2 → Sharing → (h j r : ℕ) → Type 0
 LoadsAt True s h j r = Unit {0}
 LoadsAt False s h j r = Unit {0}

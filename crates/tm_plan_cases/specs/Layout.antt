@@ -15,14 +15,17 @@ table_size harts = 256 * harts + 12288
 
 -- each stream has first values of 32 registers, as its type gives
 abbrev pub HaveRegisters : Cases → Type 0
-HaveRegisters cases = (c h : ℕ) (case : Case) (s : Stream) → slice_get cases.cases c ≡ Some case → slice_get case.streams h ≡ Some s
+HaveRegisters cases = (c h : ℕ) (case : Case) (s : Stream) → slice_get cases.cases c ≡ Some case
+    → slice_get case.streams h ≡ Some s
     → length s.regs ≡ 32
 
 -- The table bytes are as long as one table for each case, and from the address of a case's table on they are its table.
 pub record HasTables (cases : Cases) (masks : Masks) : Type 0 where
   pub whole : length (table_bytes cases masks) ≡ length cases.cases * table_size cases.harts
-  pub each : (c : ℕ) (case : Case) (mask : CaseMask) → slice_get cases.cases c ≡ Some case → slice_get masks.cases c ≡ Some mask
-      → take (table_size cases.harts) (drop (table_at cases.harts c - tables_base) (table_bytes cases masks)) ≡ case_table case mask
+  pub each : (c : ℕ) (case : Case) (mask : CaseMask) → slice_get cases.cases c ≡ Some case
+      → slice_get masks.cases c ≡ Some mask
+      → take (table_size cases.harts) (drop (table_at cases.harts c - tables_base) (table_bytes cases masks))
+      ≡ case_table case mask
 
 -- It is so for shaped cases and masks that fit them.
 abbrev pub TablesStand : Cases → Masks → Type 0

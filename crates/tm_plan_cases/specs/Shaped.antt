@@ -21,7 +21,8 @@ pub record IsPlaced (cases : Cases) (i : Instr) : Type 0 where
   pub base : (28 ≤ i.rs1) × (i.rs1 ≤ 30)
   pub aligned : slot_addr i % (load_width i.op + store_width i.op) ≡ 0
   pub declared : (w : Window) × Contains cases.windows w × (w.number ≡ i.rs1 - 28)
-      × ((b : ℕ) → IsTrue (within (slot_addr i) (load_width i.op + store_width i.op) b) → IsTrue (declares cases.line b w))
+      × ((b : ℕ) → IsTrue (within (slot_addr i) (load_width i.op + store_width i.op) b)
+      → IsTrue (declares cases.line b w))
 
 -- Slot n of a stream of len slots.
 pub record IsShapedSlot (cases : Cases) (len n : ℕ) (i : Instr) : Type 0 where
@@ -39,7 +40,8 @@ pub record IsShapedSlot (cases : Cases) (len n : ℕ) (i : Instr) : Type 0 where
 pub record IsShapedStream (cases : Cases) (h : ℕ) (s : Stream) : Type 0 where
   pub some : 1 ≤ length s.words
   pub few : length s.words ≤ 256
-  pub slots : (n w : ℕ) → slice_get s.words n ≡ Some w → (i : Instr) × (instr_of w ≡ Some i) × IsShapedSlot cases (length s.words) n i
+  pub slots : (n w : ℕ) → slice_get s.words n ≡ Some w
+      → (i : Instr) × (instr_of w ≡ Some i) × IsShapedSlot cases (length s.words) n i
   pub zero : slice_index s.regs 0 ≡ 0
   pub bases : (w : ℕ) → w < 3 → slice_index s.regs (28 + w) ≡ window_at w
   pub own : slice_index s.regs 31 ≡ private_at h
@@ -90,16 +92,20 @@ pub record IsProgram (p : Program) : Type 0 where
   pub text : (1 ≤ length p.text) × (length p.text ≤ 2097152)
   pub tables : length p.tables ≤ 4194304
 
--- What the types of a program's parts give beside: words of 32 bits, bytes, 32 registers and first dwords of 64 bits, and masks of 32
--- bits.
+-- What the types of a program's parts give beside: words of 32 bits, bytes, 32 registers and first dwords of 64 bits,
+-- and masks of 32 bits.
 pub record IsTyped (p : Program) : Type 0 where
   pub text : (k : ℕ) → slice_index p.text k < 2 ^ 32
   pub tables : (k : ℕ) → slice_index p.tables k < 256
-  pub words : (c h : ℕ) (case : Case) (s : Stream) → slice_get p.cases.cases c ≡ Some case → slice_get case.streams h ≡ Some s
+  pub words : (c h : ℕ) (case : Case) (s : Stream) → slice_get p.cases.cases c ≡ Some case
+      → slice_get case.streams h ≡ Some s
       → (n : ℕ) → slice_index s.words n < 2 ^ 32
-  pub count : (c h : ℕ) (case : Case) (s : Stream) → slice_get p.cases.cases c ≡ Some case → slice_get case.streams h ≡ Some s
+  pub count : (c h : ℕ) (case : Case) (s : Stream) → slice_get p.cases.cases c ≡ Some case
+      → slice_get case.streams h ≡ Some s
       → length s.regs ≡ 32
-  pub regs : (c h : ℕ) (case : Case) (s : Stream) → slice_get p.cases.cases c ≡ Some case → slice_get case.streams h ≡ Some s
+  pub regs : (c h : ℕ) (case : Case) (s : Stream) → slice_get p.cases.cases c ≡ Some case
+      → slice_get case.streams h ≡ Some s
       → (r : ℕ) → slice_index s.regs r < 2 ^ 64
-  pub first : (c : ℕ) (case : Case) → slice_get p.cases.cases c ≡ Some case → (k : ℕ) → slice_index case.first k < 2 ^ 64
+  pub first : (c : ℕ) (case : Case) → slice_get p.cases.cases c ≡ Some case → (k : ℕ)
+      → slice_index case.first k < 2 ^ 64
   pub masks : (c : ℕ) (m : CaseMask) → slice_get p.masks.cases c ≡ Some m → (h : ℕ) → slice_index m.regs h < 2 ^ 32

@@ -1,4 +1,5 @@
--- The test that a template asks for: for each case and hart the slots that the hart runs, written out. This project's own.
+-- The test that a template asks for: for each case and hart the slots that the hart runs, written out. This project's
+-- own.
 use Rattle.std.specs.Prelude.{ℕ, ◌≡◌, pos, List, [], ◌∷◌, map, find, flat_map, replicate, Option, Some, None, Result, Ok, Err}
 use Rattle.tm_table.specs.declared.instr.Op.TheVariants.{Addi}
 use Rattle.tm_table.specs.declared.instr.Instr.{Instr}
@@ -32,7 +33,8 @@ abbrev pub or_nothing : Result Instr AsmFault → Instr
 or_nothing (Ok i) = i
 or_nothing (Err e) = nothing
 
--- the slots of one statement of a body: the instruction that its line spells, or as many drawn ones as a mix says (this project)
+-- the slots of one statement of a body: the instruction that its line spells, or as many drawn ones as a mix says
+-- (this project)
 unfoldable pub slots_of : SlotText → List Slot
 slots_of (said.Emit text) = slot.Emit (or_nothing (line_of text)) ∷ []
 slots_of (said.Mix n alu load store branch) = replicate n (slot.Mix alu load store branch)

@@ -1,5 +1,5 @@
--- Which rule a template breaks, and where: all rules of its statements as one list of checks in text order, and the first of
--- them that is broken. This project's own.
+-- Which rule a template breaks, and where: all rules of its statements as one list of checks in text order, and the
+-- first of them that is broken. This project's own.
 use Rattle.std.specs.Prelude.{ℕ, ◌≡◌, ◌≢◌, ◌<◌, ◌+◌, ◌-◌, ◌*◌, ◌^◌, ◌==◌, min, Bool, true, not, ◌&&◌, nat_le, nat_lt, if◌then◌else◌, List, [], ◌∷◌, ◌++◌, length, slice_get, find, Option, Some, None, option_map}
 use Rattle.std.specs.List.{list_any}
 use Rattle.std.specs.Str.{bytes_eq}
@@ -72,8 +72,8 @@ has_each False harts lines = true
 abbrev pub has_lines : Topology → Kind → (lines : ℕ) → Bool
 has_lines topo kind lines = (nat_le 1 lines && nat_le (lines * topo.line) 2048) && has_each kind (harts_of topo) lines
 
--- the rules of a window behind those before it: its number is below 3, and is new, and its lines are enough and not too many (this
--- project)
+-- the rules of a window behind those before it: its number is below 3, and is new, and its lines are enough and not
+-- too many (this project)
 unfoldable pub window_rules : Topology → List WindowDecl → WindowDecl → List (Option RuleFault)
 window_rules topo before w =
     unless (nat_lt w.number 3) (NoWindow w.number)
@@ -101,14 +101,16 @@ total_slots (d ∷ ds) = slots_in d.what + total_slots ds
 unfoldable pub slot_count : List SlotDecl → ℕ
 slot_count ds = min (total_slots ds) (2 ^ 64 - 1)
 
--- the fault of a statement of a body for a team, at slot n of len, where window w stands at place w of a shape: that of the emit, or
--- of the mix (this project)
-unfoldable pub slot_fault : Topology → (shape : List (Option Window)) → Selector → (len n : ℕ) → SlotText → Option RuleFault
+-- the fault of a statement of a body for a team, at slot n of len, where window w stands at place w of a shape: that
+-- of the emit, or of the mix (this project)
+unfoldable pub slot_fault : Topology → (shape : List (Option Window)) → Selector → (len n : ℕ) → SlotText
+    → Option RuleFault
 slot_fault topo shape whom len n (Emit text) = emit_fault topo.line (part_size topo.line (harts_of topo)) shape topo whom n len text
 slot_fault topo shape whom len n (Mix count alu load store branch) = mix_fault shape alu load store branch
 
 -- the check of a statement of a body behind those before it, which stand for the slots before it (this project)
-unfoldable pub slot_checks : Topology → (shape : List (Option Window)) → Selector → (len : ℕ) → List SlotDecl → SlotDecl → List Check
+unfoldable pub slot_checks : Topology → (shape : List (Option Window)) → Selector → (len : ℕ) → List SlotDecl
+    → SlotDecl → List Check
 slot_checks topo shape whom len before d = (d.at, slot_fault topo shape whom len (total_slots before) d.what) ∷ []
 
 -- ---- bodies
@@ -135,8 +137,8 @@ has_body topo bodies h = list_any (λ b. in_team topo b.whom h) bodies
 unfoldable pub twice_fault : Topology → List BodyDecl → Selector → Option RuleFault
 twice_fault topo before whom = option_map TwiceBody (find (has_body topo before) (team topo whom))
 
--- the rules of a body of len slots behind those before it in its case: its selector names what is there, no hart of its team has an
--- earlier body, and it has 1 to 256 slots (this project)
+-- the rules of a body of len slots behind those before it in its case: its selector names what is there, no hart of
+-- its team has an earlier body, and it has 1 to 256 slots (this project)
 unfoldable pub body_rules : Topology → List BodyDecl → Selector → (len : ℕ) → List (Option RuleFault)
 body_rules topo before whom len =
     unless (is_there topo whom) (NoHart (number_in whom))
@@ -146,11 +148,13 @@ body_rules topo before whom len =
 
 -- the checks of a body behind those before it in its case, and of its statements (this project)
 unfoldable pub body_checks : Topology → (shape : List (Option Window)) → List BodyDecl → BodyDecl → List Check
-body_checks topo shape before b = put_at b.at (body_rules topo before b.whom (slot_count b.slots)) ++ in_turn (slot_checks topo shape b.whom (slot_count b.slots)) [] b.slots
+body_checks topo shape before b = put_at b.at (body_rules topo before b.whom (slot_count b.slots))
+    ++ in_turn (slot_checks topo shape b.whom (slot_count b.slots)) [] b.slots
 
 -- ---- cases
 
--- the rules of a case of a name, of so many in all, behind those before it: it isn't the 33rd, and its name is new (this project)
+-- the rules of a case of a name, of so many in all, behind those before it: it isn't the 33rd, and its name is new
+-- (this project)
 unfoldable pub case_rules : (count : ℕ) → List CaseDecl → (name : List ℕ) → List (Option RuleFault)
 case_rules count before name =
     unless (not (length before == most_cases image_version)) (Cases count)
@@ -158,13 +162,15 @@ case_rules count before name =
     ∷ []
 
 -- the checks of a case, of so many in all, behind those before it, and of its bodies (this project)
-unfoldable pub case_checks : Topology → (shape : List (Option Window)) → (count : ℕ) → List CaseDecl → CaseDecl → List Check
-case_checks topo shape count before c = put_at c.at (case_rules count before c.name) ++ in_turn (body_checks topo shape) [] c.bodies
+unfoldable pub case_checks : Topology → (shape : List (Option Window)) → (count : ℕ) → List CaseDecl → CaseDecl
+    → List Check
+case_checks topo shape count before c = put_at c.at (case_rules count before c.name)
+    ++ in_turn (body_checks topo shape) [] c.bodies
 
 -- ---- a template
 
--- the checks of a template in text order: its passes, its windows, its cases with their bodies, and at its end that there is a
--- case (this project)
+-- the checks of a template in text order: its passes, its windows, its cases with their bodies, and at its end that
+-- there is a case (this project)
 unfoldable pub checks_of : Topology → Template → List Check
 checks_of topo t =
     (t.passes_at, unless (are_passes t.passes) (Passes t.passes))

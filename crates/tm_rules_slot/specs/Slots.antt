@@ -95,11 +95,14 @@ abbrev pub register_checks : Instr → List (Option RuleFault)
 register_checks i = within_registers i.rd ∷ source_fault i ∷ within_registers i.rs2 ∷ []
 
 -- the rules of a load's or store's window, place and harts
-abbrev pub access_checks : (line part : ℕ) → List (Option Window) → Topology → Selector → Instr → List (Option RuleFault)
-access_checks line part shape topo whom i = window_fault shape i ∷ place_fault line shape i ∷ owner_fault line part shape topo whom i ∷ []
+abbrev pub access_checks : (line part : ℕ) → List (Option Window) → Topology → Selector → Instr
+    → List (Option RuleFault)
+access_checks line part shape topo whom i = window_fault shape i ∷ place_fault line shape i
+    ∷ owner_fault line part shape topo whom i ∷ []
 
 -- The rules of an instruction in slot n of len: its op, its registers, its window, its place, its harts, its target.
-unfoldable pub emit_checks : (line part : ℕ) → List (Option Window) → Topology → Selector → (n len : ℕ) → Instr → List (Option RuleFault)
+unfoldable pub emit_checks : (line part : ℕ) → List (Option Window) → Topology → Selector → (n len : ℕ) → Instr
+    → List (Option RuleFault)
 emit_checks line part shape topo whom n len i =
     (barred i ∷ []) ++ register_checks i ++ access_checks line part shape topo whom i ++ (target_fault n len i ∷ [])
 
@@ -109,7 +112,8 @@ fault_of (Err e) rules = Some (Asm e)
 fault_of (Ok i) rules = rules i
 
 -- The fault of a line in slot n of len: it spells no instruction, or the instruction breaks a rule.
-unfoldable pub emit_fault : (line part : ℕ) → List (Option Window) → Topology → Selector → (n len : ℕ) → List ℕ → Option RuleFault
+unfoldable pub emit_fault : (line part : ℕ) → List (Option Window) → Topology → Selector → (n len : ℕ) → List ℕ
+    → Option RuleFault
 emit_fault line part shape topo whom n len text = fault_of (line_of text) (λ i. first (emit_checks line part shape topo whom n len i))
 
 -- ---- a slot that is drawn
@@ -124,4 +128,5 @@ any_window_fault shape accesses = broken (nat_lt 0 accesses && not (list_any is_
 
 -- The fault of four weights.
 unfoldable pub mix_fault : List (Option Window) → (alu load store branch : ℕ) → Option RuleFault
-mix_fault shape alu load store branch = first (weight_fault (alu + load + store + branch) ∷ any_window_fault shape (load + store) ∷ [])
+mix_fault shape alu load store branch = first (weight_fault (alu + load + store + branch)
+    ∷ any_window_fault shape (load + store) ∷ [])

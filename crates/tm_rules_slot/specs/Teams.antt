@@ -7,7 +7,8 @@ use Rattle.tm_tmpl_types.specs.declared.template.Selector.TheVariants.{All, Hart
 use Rattle.tm_base.specs.Lists.{count_from}
 use Rattle.tm_place.specs.Numbers.{is_line_size}
 
--- A system within the limits: 1 to 8 cores of 1 to 8 threads, 8 harts at most, lines of 32, 64 or 128 bytes, a bias of 0 to 100.
+-- A system within the limits: 1 to 8 cores of 1 to 8 threads, 8 harts at most, lines of 32, 64 or 128 bytes, a bias
+-- of 0 to 100.
 pub record IsSystem (t : Topology) : Type 0 where
   pub cores : (1 ≤ t.cores) × (t.cores ≤ most_harts image_version)
   pub threads : (1 ≤ t.threads) × (t.threads ≤ most_harts image_version)

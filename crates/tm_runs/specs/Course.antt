@@ -17,23 +17,27 @@ pub record Grows (before ms after : List Mark) : Type 0 where
   pub is : after ≡ before ++ done
 
 -- From P every run comes to these marks, in this order, and then to Q, if it goes on.
-pub record Part (w : World) (arrive : ℕ → ℕ → List Mark) (P : State → Type 0) (ms : List Mark) (Q : State → Type 0) : Type 0 where
-  pub keeps : (s : State) → P s → Keeps w (λ t. Grows (trail arrive s.log) ms (trail arrive t.log)) (λ t. Q t × (trail arrive t.log ≡ trail arrive s.log ++ ms)) s
+pub record Part (w : World) (arrive : ℕ → ℕ → List Mark) (P : State → Type 0) (ms : List Mark) (Q : State
+    → Type 0) : Type 0 where
+  pub keeps : (s : State) → P s → Keeps w (λ t. Grows (trail arrive s.log) ms (trail arrive t.log)) (λ t. Q t
+      × (trail arrive t.log ≡ trail arrive s.log ++ ms)) s
 
 -- F holds of each entry of a log and of what stands before it.
 abbrev pub Story : (List Entry → Entry → Type 0) → List Entry → Type 0
 Story F [] = Unit {0}
 Story F (e ∷ past) = F past e × Story F past
 
--- What a log tells so far: the marks that were come to; a fact of each entry and of what was before it; and how large it is by a
--- measure, at most.
-pub record Sofar (arrive : ℕ → ℕ → List Mark) (F : List Entry → Entry → Type 0) (size : List Entry → ℕ) (ms : List Mark) (n : ℕ) (log : List Entry) : Type 0 where
+-- What a log tells so far: the marks that were come to; a fact of each entry and of what was before it; and how large
+-- it is by a measure, at most.
+pub record Sofar (arrive : ℕ → ℕ → List Mark) (F : List Entry → Entry → Type 0) (size : List Entry
+    → ℕ) (ms : List Mark) (n : ℕ) (log : List Entry) : Type 0 where
   pub way : trail arrive log ≡ ms
   pub story : Story F log
   pub few : size log ≤ n
 
 -- The same of some front of a way, with a bound on the measure.
-pub record Good (arrive : ℕ → ℕ → List Mark) (F : List Entry → Entry → Type 0) (size : List Entry → ℕ) (way : List Mark) (most : ℕ) (log : List Entry) : Type 0 where
+pub record Good (arrive : ℕ → ℕ → List Mark) (F : List Entry → Entry → Type 0) (size : List Entry
+    → ℕ) (way : List Mark) (most : ℕ) (log : List Entry) : Type 0 where
   pub marks : List Mark
   pub rest : List Mark
   pub front : way ≡ marks ++ rest

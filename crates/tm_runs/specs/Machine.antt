@@ -1,5 +1,5 @@
--- One hart as support code sees it: what an instruction does to its registers, to the dwords that it reads back, and to its log
--- (this project's own).
+-- One hart as support code sees it: what an instruction does to its registers, to the dwords that it reads back, and
+-- to its log (this project's own).
 use Rattle.std.specs.Prelude.{◌≡◌, ℕ, zero, suc, ◌+◌, ◌-◌, ◌%◌, ◌^◌, ◌<◌, ◌≤◌, List, ◌∷◌, Bool, false, Option, nat_eq, if◌then◌else◌, ℤ, pos, negsuc, IsTrue}
 use Rattle.tm_table.specs.declared.instr.Op.{Op}
 use Rattle.tm_table.specs.declared.instr.Op.TheVariants.{Jalr}
@@ -42,9 +42,9 @@ pub record State : Type 0 where
   pub mem : Table
   pub log : List Entry
 
--- What a hart runs in: the instructions of its support code by address; which dwords read back what stands in its memory, and
--- which of these no store changes; which dwords may be accessed; the first address of the stream that holds an address, and
--- the address behind its last word; and which bytes a stream may write.
+-- What a hart runs in: the instructions of its support code by address; which dwords read back what stands in its
+-- memory, and which of these no store changes; which dwords may be accessed; the first address of the stream that
+-- holds an address, and the address behind its last word; and which bytes a stream may write.
 pub record World : Type 0 where
   pub text : ℕ → Option Instr
   pub own : ℕ → Bool

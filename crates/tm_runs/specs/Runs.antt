@@ -5,17 +5,24 @@ use Rattle.tm_table.specs.declared.state.Access.{Access}
 use Rattle.tm_table.specs.declared.state.Access.TheVariants.{Quiet}
 use Rattle.tm_runs.specs.Machine.{World, State, Entry, Strays, after, May, Reads, IsNarrow, effect_in}
 
--- Every run from s comes to a state with Q in at most n steps. Until then there is a next step, and G holds of the state after each.
+-- Every run from s comes to a state with Q in at most n steps. Until then there is a next step, and G holds of the
+-- state after each.
 pub data Takes (w : World) (G Q : State → Type 0) : ℕ → State → Type 0 where
   Now : {n : ℕ} {s : State} → Q s → Takes w G Q n s
-  Step : {n : ℕ} {s : State} (i : Instr) → w.text s.pc ≡ Some i → May w i s → ((v : ℕ) → Reads w i s v → G (after w i v s)) → ((v : ℕ) → Reads w i s v → Takes w G Q n (after w i v s)) → Takes w G Q (suc n) s
+  Step : {n : ℕ} {s : State} (i : Instr) → w.text s.pc ≡ Some i → May w i s
+      → ((v : ℕ) → Reads w i s v → G (after w i v s)) → ((v : ℕ) → Reads w i s v → Takes w G Q n (after w i v s))
+      → Takes w G Q (suc n) s
 
 -- The same, of the first n steps of every run alone, which need not come to Q, and may lead through streams.
 pub data Upto (w : World) (G Q : State → Type 0) : ℕ → State → Type 0 where
   Unwatched : {s : State} → Upto w G Q zero s
   Came : {n : ℕ} {s : State} → Q s → Upto w G Q n s
-  Went : {n : ℕ} {s : State} (i : Instr) → w.text s.pc ≡ Some i → May w i s → ((v : ℕ) → Reads w i s v → G (after w i v s)) → ((v : ℕ) → Reads w i s v → Upto w G Q n (after w i v s)) → Upto w G Q (suc n) s
-  Strayed : {n : ℕ} {s : State} (lo hi : ℕ) → w.stream s.pc ≡ Some (lo, hi) → ((t : State) → Strays w lo hi s t → G t) → ((t : State) → Strays w lo hi s t → Upto w G Q n t) → Upto w G Q (suc n) s
+  Went : {n : ℕ} {s : State} (i : Instr) → w.text s.pc ≡ Some i → May w i s
+      → ((v : ℕ) → Reads w i s v → G (after w i v s)) → ((v : ℕ) → Reads w i s v → Upto w G Q n (after w i v s))
+      → Upto w G Q (suc n) s
+  Strayed : {n : ℕ} {s : State} (lo hi : ℕ) → w.stream s.pc ≡ Some (lo, hi)
+      → ((t : State) → Strays w lo hi s t → G t) → ((t : State) → Strays w lo hi s t → Upto w G Q n t)
+      → Upto w G Q (suc n) s
 
 -- Every run from s has G after each step and never lacks a next step, until it comes to Q, if ever.
 pub record Keeps (w : World) (G Q : State → Type 0) (s : State) : Type 0 where
@@ -36,7 +43,8 @@ abbrev pub Each : (Entry → Type 0) → List Entry → Type 0
 Each E [] = Unit {0}
 Each E (e ∷ es) = E e × Each E es
 
--- a step from one of these words to one of them but the first, or to the address behind the last, with an access that A allows
+-- a step from one of these words to one of them but the first, or to the address behind the last, with an access that
+-- A allows
 pub record Does (lo hi : ℕ) (A : Access → Type 0) (e : Entry) : Type 0 where
   pub from : lo ≤ e.pc
   pub below : e.pc < hi
@@ -44,7 +52,8 @@ pub record Does (lo hi : ℕ) (A : Access → Type 0) (e : Entry) : Type 0 where
   pub most : e.next ≤ hi
   pub access : A e.access
 
--- the newest entry goes from one of these words to one of them but the first, or behind the last, with an access that A allows
+-- the newest entry goes from one of these words to one of them but the first, or behind the last, with an access that
+-- A allows
 abbrev pub Within : ℕ → ℕ → (Access → Type 0) → State → Type 0
 Within lo hi A t = Newest (Does lo hi A) t.log
 

@@ -134,7 +134,8 @@ FitsAs I i = (i.rd < 32) × (i.rs1 < 32) × (i.rs2 ≡ 0) × From (negsuc 2047) 
 FitsAs S i = (i.rd ≡ 0) × (i.rs1 < 32) × (i.rs2 < 32) × From (negsuc 2047) (pos 2047) i.imm
 FitsAs B i = (i.rd ≡ 0) × (i.rs1 < 32) × (i.rs2 < 32) × From (negsuc 4095) (pos 4095) i.imm × (low 13 i.imm % 2 ≡ 0)
 FitsAs U i = (i.rd < 32) × (i.rs1 ≡ 0) × (i.rs2 ≡ 0) × From (pos 0) (pos 1048575) i.imm
-FitsAs J i = (i.rd < 32) × (i.rs1 ≡ 0) × (i.rs2 ≡ 0) × From (negsuc 1048575) (pos 1048575) i.imm × (low 21 i.imm % 2 ≡ 0)
+FitsAs J i = (i.rd < 32) × (i.rs1 ≡ 0) × (i.rs2 ≡ 0) × From (negsuc 1048575) (pos 1048575) i.imm
+    × (low 21 i.imm % 2 ≡ 0)
 FitsAs Shift6 i = (i.rd < 32) × (i.rs1 < 32) × (i.rs2 ≡ 0) × From (pos 0) (pos 63) i.imm
 FitsAs Shift5 i = (i.rd < 32) × (i.rs1 < 32) × (i.rs2 ≡ 0) × From (pos 0) (pos 31) i.imm
 FitsAs Order i = (i.rd ≡ 0) × (i.rs1 ≡ 0) × (i.rs2 ≡ 0) × From (pos 0) (pos 255) i.imm

@@ -33,7 +33,8 @@ whom_words (whose.Thread n) = codes "thread" ∷ decimal n ∷ []
 abbrev pub slot_words : SlotText → List (List ℕ)
 slot_words (Emit asm) = codes "emit" ∷ asm ∷ []
 slot_words (Mix n alu load store branch) =
-    codes "mix" ∷ decimal n ∷ codes "alu" ∷ decimal alu ∷ codes "load" ∷ decimal load ∷ codes "store" ∷ decimal store ∷ codes "branch" ∷ decimal branch ∷ []
+    codes "mix" ∷ decimal n ∷ codes "alu" ∷ decimal alu ∷ codes "load" ∷ decimal load ∷ codes "store"
+        ∷ decimal store ∷ codes "branch" ∷ decimal branch ∷ []
 
 -- the words of a statement
 unfoldable pub words_of : Statement → List (List ℕ)
@@ -96,4 +97,5 @@ ReadsBack text t = (r : Template) × (template_of text ≡ Ok r) × (without_pla
 
 -- a template, statement by statement
 unfoldable pub printed : Template → List ℕ
-printed t = line_of (template t.name) ++ (line_of (passes t.passes) ++ (lines_of (windows_at t.windows) ++ lines_of (cases_at t.cases)))
+printed t = line_of (template t.name) ++ (line_of (passes t.passes)
+    ++ (lines_of (windows_at t.windows) ++ lines_of (cases_at t.cases)))

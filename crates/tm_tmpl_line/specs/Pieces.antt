@@ -1,4 +1,5 @@
--- A statement in the grammar's own words: its pieces, and the tokens that stand for them. All of this is this project's own.
+-- A statement in the grammar's own words: its pieces, and the tokens that stand for them. All of this is this
+-- project's own.
 use Rattle.std.specs.Prelude.{ℕ, ◌≡◌, ◌<◌, ◌^◌, true, List, [], ◌∷◌, ◌++◌, Ok, codes}
 use Rattle.tm_base.specs.Numbers.{number_of}
 use Rattle.tm_base.specs.declared.Pos.{Pos}
@@ -14,8 +15,8 @@ use Rattle.tm_tmpl_line.specs.Readings.{Lexeme, is_name, At, template, passes, w
 
 -- ---- the pieces of a statement
 
--- what stands at one token: the first word of a statement, with its place; another fixed word; a name, a number, an assembler line, or the
--- line's end
+-- what stands at one token: the first word of a statement, with its place; another fixed word; a name, a number, an
+-- assembler line, or the line's end
 pub data Piece : Type 0 where
   opening : Pos → Want → List ℕ → Piece
   fixed : Want → List ℕ → Piece
@@ -50,13 +51,16 @@ whom_pieces (Thread n) = fixed want.Selector (codes "thread") ∷ a_number n ∷
 unfoldable pub pieces_of : At → List Piece
 pieces_of (p, template n) = opening p want.Template (codes "template") ∷ a_name n ∷ the_end ∷ []
 pieces_of (p, passes n) = opening p want.Passes (codes "passes") ∷ a_number n ∷ the_end ∷ []
-pieces_of (p, window w k n) = opening p want.Statement (codes "window") ∷ a_number w ∷ fixed want.Kind (kind_word k) ∷ a_number n ∷ the_end ∷ []
+pieces_of (p, window w k n) = opening p want.Statement (codes "window") ∷ a_number w ∷ fixed want.Kind (kind_word k)
+    ∷ a_number n ∷ the_end ∷ []
 pieces_of (p, case_of n) = opening p want.Statement (codes "case") ∷ a_name n ∷ the_end ∷ []
 pieces_of (p, body whom) = opening p want.Statement (codes "body") ∷ (whom_pieces whom ++ the_end ∷ [])
 pieces_of (p, slot (Emit a)) = opening p want.Statement (codes "emit") ∷ asm_line a ∷ the_end ∷ []
 pieces_of (p, slot (Mix n alu load store branch)) =
-    opening p want.Statement (codes "mix") ∷ a_number n ∷ fixed want.Class (codes "alu") ∷ a_number alu ∷ fixed want.Class (codes "load") ∷ a_number load
-    ∷ fixed want.Class (codes "store") ∷ a_number store ∷ fixed want.Class (codes "branch") ∷ a_number branch ∷ the_end ∷ []
+    opening p want.Statement (codes "mix") ∷ a_number n ∷ fixed want.Class (codes "alu") ∷ a_number alu
+        ∷ fixed want.Class (codes "load") ∷ a_number load
+    ∷ fixed want.Class (codes "store") ∷ a_number store ∷ fixed want.Class (codes "branch") ∷ a_number branch
+    ∷ the_end ∷ []
 
 -- ---- the tokens that stand for them
 

@@ -196,7 +196,8 @@ IsSpan text t = (t.from ≤ t.to) × (t.to ≤ length text)
 
 -- the token at an index of a line was read, or is at fault
 abbrev pub ReadsOne : {A : Type 0} → Want → (Lexeme → Option A) → List ℕ → List Token → ℕ → Result A TmplFault → Type 0
-ReadsOne w read text line at (Ok a) = one w read (lexemes text (drop at line)) ≡ Ok (a, lexemes text (drop (at + 1) line))
+ReadsOne w read text line at (Ok a) = one w read (lexemes text (drop at line))
+    ≡ Ok (a, lexemes text (drop (at + 1) line))
 ReadsOne w read text line at (Err e) = one w read (lexemes text (drop at line)) ≡ Err e
 
 -- how many tokens the line of a body has

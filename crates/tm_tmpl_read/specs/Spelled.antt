@@ -20,7 +20,8 @@ abbrev pub all_pieces : List At → List Piece
 all_pieces [] = []
 all_pieces (s ∷ ss) = pieces_of s ++ all_pieces ss
 
--- the statements of a template in order, the first of them at a place: its name, its passes, its windows, its cases with what they hold
+-- the statements of a template in order, the first of them at a place: its name, its passes, its windows, its cases
+-- with what they hold
 abbrev pub statements_of : Pos → Template → List At
 statements_of p t = (p, template t.name) ∷ (t.passes_at, passes t.passes) ∷ (windows_at t.windows ++ cases_at t.cases)
 
@@ -38,8 +39,8 @@ IsSpelled text t = (ts : List Token) × (tokens_of text ≡ Ok ts) × Spells (le
 unfoldable pub GoesOn : List Lexeme → Type 0
 GoesOn xs = (behind : List Lexeme) × (t : Template) × Spells (xs ++ behind) t
 
--- a piece that stands behind tokens in a template: they stand for what the template has before it, and some tokens stand for it and for all
--- behind it
+-- a piece that stands behind tokens in a template: they stand for what the template has before it, and some tokens
+-- stand for it and for all behind it
 pub record Follows (before : List Lexeme) (q : Piece) : Type 0 where
   pub t : Template
   pub place : Pos
@@ -56,8 +57,8 @@ pub record Wants (before : List Lexeme) (w : Want) : Type 0 where
   pub some : Follows before next
   pub each : (q : Piece) → Follows before q → want_of q ≡ w
 
--- tokens leave every template at the token of this place: with those before it some template goes on, with this one too none does. So it is the
--- first such token
+-- tokens leave every template at the token of this place: with those before it some template goes on, with this one
+-- too none does. So it is the first such token
 pub record Leaves (xs : List Lexeme) (p : Pos) (w : Want) : Type 0 where
   pub before : List Lexeme
   pub x : Lexeme
@@ -74,7 +75,8 @@ pub record Stops (xs : List Lexeme) (w : Want) : Type 0 where
   pub short : (t : Template) → Spells xs t → ⊥
   pub wants : Wants xs w
 
--- the fault of a text: of its tokens, or its tokens stop early or leave every template; want of memory says nothing of it
+-- the fault of a text: of its tokens, or its tokens stop early or leave every template; want of memory says nothing
+-- of it
 unfoldable pub IsFaultOf : List ℕ → TmplFault → Type 0
 IsFaultOf text (Lex e) = tokens_of text ≡ Err e
 IsFaultOf text (Early w) = (ts : List Token) × (tokens_of text ≡ Ok ts) × Stops (lexemes text ts) w

@@ -44,7 +44,8 @@ case_next text tokens = if opens_with text tokens (codes "case") then follows te
 
 -- the statements, where only a body or a case may come next
 unfoldable pub body_next : List ℕ → List Token → Result (List At) TmplFault
-body_next text tokens = if opens_with text tokens (codes "body") then follows text tokens cases else case_next text tokens
+body_next text tokens = if opens_with text tokens (codes "body") then follows text tokens cases
+    else case_next text tokens
 
 -- statements in front of others
 abbrev pub more_all : List At → Result (List At) TmplFault → Result (List At) TmplFault
@@ -87,8 +88,10 @@ abbrev pub windows_at : List WindowDecl → List At
 windows_at [] = []
 windows_at (w ∷ ws) = window_at w ∷ windows_at ws
 
--- from these statements one part was read, with the tokens behind it; or there is none, and it stops; or there is a fault
-abbrev pub IsNext : {A : Type 0} → Result (List At) TmplFault → (A → List At) → (List Token → Result (List At) TmplFault) → Result (List At) TmplFault
+-- from these statements one part was read, with the tokens behind it; or there is none, and it stops; or there is a
+-- fault
+abbrev pub IsNext : {A : Type 0} → Result (List At) TmplFault → (A → List At)
+    → (List Token → Result (List At) TmplFault) → Result (List At) TmplFault
     → Result (Option (A × Bor (List Token))) TmplFault → Type 0
 IsNext from ats next stop (Ok (Some p)) = from ≡ more_all (ats p.0) (next p.1.now)
 IsNext from ats next stop (Ok None) = from ≡ stop
@@ -99,6 +102,7 @@ abbrev pub AllAndLess : (Token → Type 0) → List Token → List Token → Typ
 AllAndLess P tokens rest = All P rest × (length rest < length tokens)
 
 -- where a part was read, what is left lies within the text, and is less
-abbrev pub IsLeft : {A : Type 0} → (Token → Type 0) → List Token → Result (Option (A × Bor (List Token))) TmplFault → Type 0
+abbrev pub IsLeft : {A : Type 0} → (Token → Type 0) → List Token → Result (Option (A × Bor (List Token))) TmplFault
+    → Type 0
 IsLeft P tokens (Ok (Some p)) = AllAndLess P tokens p.1.now
 IsLeft P tokens _ = Unit {0}

@@ -56,4 +56,5 @@ AreSayable (s ∷ ss) = IsSayable s.1 × AreSayable ss
 
 -- a template whose every statement some line spells
 unfoldable pub IsWritable : Template → Type 0
-IsWritable t = IsSayable (template t.name) × IsSayable (passes t.passes) × AreSayable (windows_at t.windows) × AreSayable (cases_at t.cases)
+IsWritable t = IsSayable (template t.name) × IsSayable (passes t.passes) × AreSayable (windows_at t.windows)
+    × AreSayable (cases_at t.cases)

@@ -84,7 +84,8 @@ and_then (Err e) f = Err e
 
 -- no more harts than an image may have
 abbrev pub within_harts : Topology → Result Topology TopoFault
-within_harts t = if nat_le (t.cores * t.threads) (most_harts image_version) then Ok t else Err (TooManyHarts (t.cores * t.threads))
+within_harts t = if nat_le (t.cores * t.threads) (most_harts image_version) then Ok t
+    else Err (TooManyHarts (t.cores * t.threads))
 
 -- the numbers, key by key, and their product
 unfoldable pub numbers_in : Members → Result Topology TopoFault

@@ -33,8 +33,10 @@ IsFresh regs hart = (r : ℕ) → 1 ≤ r → r < 32 → slice_index hart.x r �
 
 -- The hart comes into each of its streams with its first registers there.
 abbrev pub EntersFresh : Program → ℕ → Hart → List Step → Type 0
-EntersFresh p h first = Always (λ past s. (e : ℕ) (stream : Stream) → stream_in p.cases (case_of_round p e) h ≡ Some stream
-    → IsTrue (comes_to p h (Enter (case_of_round p e)) (now first past).pc s.after.pc) → IsFresh (first_registers p e stream) s.after)
+EntersFresh p h first = Always (λ past s. (e : ℕ) (stream : Stream)
+    → stream_in p.cases (case_of_round p e) h ≡ Some stream
+    → IsTrue (comes_to p h (Enter (case_of_round p e)) (now first past).pc s.after.pc)
+    → IsFresh (first_registers p e stream) s.after)
 
 -- ---- tests of one step
 
@@ -72,7 +74,8 @@ gets a least (Write addr width value) = false
 
 -- It writes nothing, and reads flags and hart h's private area alone.
 abbrev pub IsStill : Program → ℕ → Access → Type 0
-IsStill p h (Read addr width value) = (i : ℕ) → i < width → IsTrue (is_private h (addr + i) || any (λ g. is_flag g (addr + i)) (count_from 0 (harts p)))
+IsStill p h (Read addr width value) = (i : ℕ) → i < width
+    → IsTrue (is_private h (addr + i) || any (λ g. is_flag g (addr + i)) (count_from 0 (harts p)))
 IsStill p h Quiet = Unit {0}
 IsStill p h (Write addr width value) = ⊥
 
@@ -93,7 +96,8 @@ writes_shared p access = any (λ w. writes_in (window_at w.number) (w.lines * p.
 
 -- a write of phase q outside streams
 abbrev pub OutsideWrites : Program → ℕ → Option ℕ → ℕ → Step → Type 0
-OutsideWrites p h None q s = Writes (λ b. IsTrue (may_write p q h b) × (q % 2 ≡ 1 → IsFalse (is_declared p.cases b))) (access_of s)
+OutsideWrites p h None q s = Writes (λ b. IsTrue (may_write p q h b)
+    × (q % 2 ≡ 1 → IsFalse (is_declared p.cases b))) (access_of s)
 OutsideWrites p h (Some c) q s = Unit {0}
 
 -- Outside streams a hart writes only what it may, and no shared byte in an odd phase.
@@ -102,19 +106,22 @@ KeepsWrites p h first = Always (λ past s. OutsideWrites p h (stream_at p h (now
 
 -- ---- the barrier
 
--- Hart h's write of its flag in phase q: with width 8 and value q + 1; at most once in the phase; behind a fence that stands
--- after the last write before it, if there is one; in a run phase after the end of the phase's stream; and not in the last phase.
+-- Hart h's write of its flag in phase q: with width 8 and value q + 1; at most once in the phase; behind a fence that
+-- stands after the last write before it, if there is one; in a run phase after the end of the phase's stream; and not
+-- in the last phase.
 pub record Signal (p : Program) (h q : ℕ) (past : List Step) (s : Step) : Type 0 where
   pub value : access_of s ≡ Write (flag_at h) 8 (q + 1)
   pub once : IsFalse (any (signals h) (this_phase p h past))
-  pub fence : IsTrue (any (λ t. is_write (access_of t)) past) → IsTrue (any is_fence (front_to (λ t. is_write (access_of t)) past))
+  pub fence : IsTrue (any (λ t. is_write (access_of t)) past)
+      → IsTrue (any is_fence (front_to (λ t. is_write (access_of t)) past))
   pub ended : IfSome (case_of_phase p q) (λ c. IsTrue (any (λ t. t.after.pc == end_of p h c) (this_phase p h past)))
   pub more : q ≢ last_phase p
 
 -- It leaves phase q: it has signalled in it, and has since got at least q + 1 from each other hart's flag.
 pub record Leaves (p : Program) (h q : ℕ) (past : List Step) : Type 0 where
   pub signalled : IsTrue (any (signals h) (this_phase p h past))
-  pub met : (g : ℕ) → g < harts p → g ≢ h → IsTrue (any (λ t. gets (flag_at g) (q + 1) (access_of t)) (front_to (signals h) past))
+  pub met : (g : ℕ) → g < harts p → g ≢ h
+      → IsTrue (any (λ t. gets (flag_at g) (q + 1) (access_of t)) (front_to (signals h) past))
 
 -- A step in phase q. From the signal to the step at the exit mark the hart is still.
 pub record Barrier (p : Program) (h q : ℕ) (past : List Step) (s : Step) : Type 0 where
@@ -132,10 +139,12 @@ KeepsBarrier p h first = Always (λ past s. Barrier p h (phase (exit_of p h) pas
 abbrev pub HasCollected : Program → ℕ → ℕ → List Step → Type 0
 HasCollected p h q steps = All (λ a. IsTrue (any (λ t. reads_in a 8 (access_of t)) (in_phase (exit_of p h) q steps))) (owned p.cases h)
 
--- A step of a phase q that follows a run phase: it reads each dword that the hart collects with width 8 and at most once in the
--- phase; and all of them are read before it writes a shared byte, and before it leaves the phase.
+-- A step of a phase q that follows a run phase: it reads each dword that the hart collects with width 8 and at most
+-- once in the phase; and all of them are read before it writes a shared byte, and before it leaves the phase.
 pub record Collects (p : Program) (h q : ℕ) (past : List Step) (s : Step) : Type 0 where
-  pub once : All (λ a. IsTrue (reads_in a 8 (access_of s)) → ((v : ℕ) × (access_of s ≡ Read a 8 v)) × IsFalse (any (λ t. reads_in a 8 (access_of t)) (in_phase (exit_of p h) q past))) (owned p.cases h)
+  pub once : All (λ a. IsTrue (reads_in a 8 (access_of s))
+      → ((v : ℕ) × (access_of s ≡ Read a 8 v))
+      × IsFalse (any (λ t. reads_in a 8 (access_of t)) (in_phase (exit_of p h) q past))) (owned p.cases h)
   pub before_writes : IsTrue (writes_shared p (access_of s)) → HasCollected p h q past
   pub before_exit : pc_of s ≡ exit_of p h → HasCollected p h q past
 
@@ -148,16 +157,16 @@ round_before p (suc q) = round_of_phase p q
 abbrev pub KeepsCollecting : Program → ℕ → Hart → List Step → Type 0
 KeepsCollecting p h first = Always (λ past s. let q = phase (exit_of p h) past in IfSome (round_before p q) (λ e. Collects p h q past s))
 
--- Where the hart comes to halt in a phase that follows a run phase, it has read all that it collects in it. The phase is the one in
--- which it is after the step, so that a step at the exit mark that lands on halt counts too.
+-- Where the hart comes to halt in a phase that follows a run phase, it has read all that it collects in it. The phase
+-- is the one in which it is after the step, so that a step at the exit mark that lands on halt counts too.
 abbrev pub CollectsBeforeHalt : Program → ℕ → Hart → List Step → Type 0
 CollectsBeforeHalt p h first = Always (λ past s. s.after.pc ≡ halt_of p h
     → let q = phase (exit_of p h) (s ∷ past) in IfSome (round_before p q) (λ e. HasCollected p h q (s ∷ past)))
 
 -- ---- verdict cells
 
--- Hart h's write of its verdict on round case e, in whatever phase it stands: with width 8, once, behind the run phase of the last
--- pass, and behind all reads by which it collects in the phase after each of the run phases.
+-- Hart h's write of its verdict on round case e, in whatever phase it stands: with width 8, once, behind the run
+-- phase of the last pass, and behind all reads by which it collects in the phase after each of the run phases.
 pub record WritesVerdict (p : Program) (h e : ℕ) (past : List Step) (s : Step) : Type 0 where
   pub value : (v : ℕ) × (access_of s ≡ Write (verdict_at e h) 8 v)
   pub once : IsFalse (any (λ t. writes_in (verdict_at e h) 8 (access_of t)) past)

@@ -24,8 +24,9 @@ IsPossible Quiet = Unit {0}
 IsPossible (Read addr width value) = IsReachable addr width
 IsPossible (Write addr width value) = IsReachable addr width
 
--- The step follows the table: it is the hart's next step, at its program counter, which isn't the halt mark, with the text's
--- word there, and with the access and the result of the word's row, where a read may hold any value of its width.
+-- The step follows the table: it is the hart's next step, at its program counter, which isn't the halt mark, with the
+-- text's word there, and with the access and the result of the word's row, where a read may hold any value of its
+-- width.
 pub record Follows (p : Program) (h : ℕ) (before : Hart) (s : Step) : Type 0 where
   pub place : pc_of s ≡ before.pc
   pub goes : before.pc ≢ halt_of p h
@@ -85,8 +86,8 @@ Met p past s = (g : ℕ) → g < harts p → g ≢ hart_of s → phase_of p past
 abbrev pub another : ℕ → List ℕ → Bool
 another h hs = any (λ g. not (g == h)) hs
 
--- What a legal run owes hart h, in phase q, at b: nothing where another hart may write b; else h's last write of it in this
--- phase; else what it has settled to, where that isn't open.
+-- What a legal run owes hart h, in phase q, at b: nothing where another hart may write b; else h's last write of it
+-- in this phase; else what it has settled to, where that isn't open.
 abbrev pub legal_owed : Program → List Step → ℕ → ℕ → ℕ → Option ℕ
 legal_owed p past h q b = if another h (writers p q b) then None else or_else (wrote p past q b h) (settled p past q b)
 
@@ -113,15 +114,15 @@ pub record Plain (p : Program) (r : Run) : Type 0 where
 abbrev pub stream_at : Program → ℕ → ℕ → Option ℕ
 stream_at p h pc = first_of (λ c. inside p h c pc) (count_from 0 (case_count p))
 
--- Outside streams hart h reads its private area back, 0 where it wrote nothing yet; text and tables as in the image; and
--- anything elsewhere.
+-- Outside streams hart h reads its private area back, 0 where it wrote nothing yet; text and tables as in the image;
+-- and anything elsewhere.
 abbrev pub half_owed : Program → ℕ → List Step → ℕ → Option ℕ
 half_owed p h own b =
     if is_private h b then Some (unwrap_or (last_write b own) 0)
     else (if is_text p b || is_table p b then Some (image_byte p b) else None)
 
--- A step inside stream (h, c): any word and any access, but it writes bytes of the windows alone, leaves x0 and x28 to x31 as
--- they are, and leaves the program counter at a multiple of 4 inside the stream or at its end.
+-- A step inside stream (h, c): any word and any access, but it writes bytes of the windows alone, leaves x0 and x28
+-- to x31 as they are, and leaves the program counter at a multiple of 4 inside the stream or at its end.
 pub record Free (p : Program) (h c : ℕ) (before : Hart) (s : Step) : Type 0 where
   pub place : pc_of s ≡ before.pc
   pub shape : HasShape (access_of s)

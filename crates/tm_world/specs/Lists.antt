@@ -1,4 +1,5 @@
--- Words on lists that the definitions of runs use. They are recursions of their own, so that they compute one step after another.
+-- Words on lists that the definitions of runs use. They are recursions of their own, so that they compute one step
+-- after another.
 use Rattle.std.specs.Prelude.{◌≡◌, ℕ, suc, Bool, List, [], ◌∷◌, ◌++◌, Option, Some, None, if◌then◌else◌}
 
 -- how many elements pass the test

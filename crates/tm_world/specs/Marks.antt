@@ -7,8 +7,8 @@ use Rattle.tm_world.specs.Lists.{those}
 use Rattle.tm_world.specs.Place.{case_count, round_count, case_of_round, passes, start_of, end_of, exit_of, halt_of, inside}
 use Rattle.tm_world.specs.Run.{Step, now}
 
--- The exit mark, entering stream (h, c), its end, halt; and what no hart should do: to come into stream (h, c) from outside at
--- another place than its start.
+-- The exit mark, entering stream (h, c), its end, halt; and what no hart should do: to come into stream (h, c) from
+-- outside at another place than its start.
 pub data Mark : Type 0 where
   Exit : Mark
   Enter : (c : ℕ) → Mark

@@ -25,8 +25,8 @@ pc_of s = s.event.pc
 abbrev pub access_of : Step → Access
 access_of s = s.event.access
 
--- A run: the registers with which each hart opens, and the steps, the newest first, so that what stands behind a step in
--- the list is what was before it.
+-- A run: the registers with which each hart opens, and the steps, the newest first, so that what stands behind a step
+-- in the list is what was before it.
 pub record Run : Type 0 where
   pub opening : ℕ → List ℕ
   pub steps : List Step

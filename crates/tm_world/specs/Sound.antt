@@ -19,9 +19,9 @@ abbrev pub NotReported : Program → Run → Type 0
 NotReported p r = Always (λ past s. (e h : ℕ) → e < round_count p → h < harts p
     → IsTrue (writes_in (verdict_at e h) 8 (access_of s)) → access_of s ≡ Write (verdict_at e h) 8 0) r.steps
 
--- A sound program: its masks are exactly the checked sets, its tables those of the format, it keeps the course and the bound; on a
--- legal run no case is reported; on a half run each verdict is the true one; and each plain run is legal.
--- (That each run which a script of faults has changed is a half run comes with the type of scripts.)
+-- A sound program: its masks are exactly the checked sets, its tables those of the format, it keeps the course and
+-- the bound; on a legal run no case is reported; on a half run each verdict is the true one; and each plain run is
+-- legal. (That each run which a script of faults has changed is a half run comes with the type of scripts.)
 pub record Sound (p : Program) : Type 0 where
   pub program : IsProgram p
   pub masks : AreChecked p.cases p.masks
@@ -32,10 +32,11 @@ pub record Sound (p : Program) : Type 0 where
   pub exact : (h : ℕ) → h < harts p → OnHalf p h (WritesExactly p h)
   pub plain : (r : Run) → Plain p r → Legal p r
 
--- The parts of a sound program that are claimed so far: it is a program with exactly the checked masks and the format's tables; its
--- marks and streams stand where they belong; on each half run each hart comes to its marks in order, enters its streams with fresh
--- registers, and writes its verdicts as it should; its steps are bounded; on each legal run no case is reported; and on each half run
--- each number that is written to a verdict cell is the verdict.
+-- The parts of a sound program that are claimed so far: it is a program with exactly the checked masks and the
+-- format's tables; its marks and streams stand where they belong; on each half run each hart comes to its marks in
+-- order, enters its streams with fresh registers, and writes its verdicts as it should; its steps are bounded; on
+-- each legal run no case is reported; and on each half run each number that is written to a verdict cell is the
+-- verdict.
 pub record SoundSoFar (p : Program) : Type 0 where
   pub program : IsProgram p
   pub masks : AreChecked p.cases p.masks

@@ -38,14 +38,16 @@ work_steps p h (s ∷ past) = if idle_lately p h 4 (s ∷ past) then work_steps 
 -- A hart in this state has a next step, whatever a read returns.
 abbrev pub HasNext : Program → Hart → Type 0
 HasNext p hart = (word : ℕ) × (word_at p hart.pc ≡ Some word)
-    × ((read : ℕ) → (after : Hart) × (access : Access) × (row_word hart word read ≡ Some (after, access)) × IsPossible access)
+    × ((read : ℕ) → (after : Hart) × (access : Access) × (row_word hart word read ≡ Some (after, access))
+    × IsPossible access)
 
 -- A hart outside streams and not at halt has a next step.
 abbrev pub GoesOn : Program → ℕ → Hart → List Step → Type 0
-GoesOn p h first own = stream_at p h (now first own).pc ≡ None → (now first own).pc ≢ halt_of p h → HasNext p (now first own)
+GoesOn p h first own = stream_at p h (now first own).pc ≡ None → (now first own).pc ≢ halt_of p h
+    → HasNext p (now first own)
 
--- The bound of hart h: on a legal run it has at most so many work steps, and on a half run it doesn't get stuck outside streams.
--- (What it says of runs that a script of faults has changed comes with the type of scripts.)
+-- The bound of hart h: on a legal run it has at most so many work steps, and on a half run it doesn't get stuck
+-- outside streams. (What it says of runs that a script of faults has changed comes with the type of scripts.)
 pub record Bound (p : Program) (h : ℕ) : Type 0 where
   pub work : (r : Run) → Legal p r → work_steps p h (own h r.steps) ≤ work_of p.cases h
   pub next : OnHalf p h (GoesOn p h)
