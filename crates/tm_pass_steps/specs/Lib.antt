@@ -1,0 +1,14 @@
+pub mod Beginning
+pub mod Building
+pub mod Counting
+pub mod Entering
+pub mod Finding
+pub mod Gathering
+pub mod Hart
+pub mod Judging
+pub mod Meeting
+pub mod Placed
+pub mod Saving
+pub mod Setting
+pub mod Sites
+pub mod Turning
