@@ -10,5 +10,6 @@ use Rattle.tm_pass_steps.specs.Sites.{BarrierSite}
 
 -- Where the text is that of all harts' programs, and each stream has a word, the barrier stands behind the halt mark.
 abbrev pub BarrierIsPlaced : Program → Type 0
-BarrierIsPlaced p = IsBuilt p → ((h c : ℕ) → h < harts p → c < case_count p → 1 ≤ length (slice_index_or (streams_of p.cases h) c []))
+BarrierIsPlaced p = IsBuilt p → ((h c : ℕ) → h < harts p → c < case_count p
+    → 1 ≤ length (slice_index_or (streams_of p.cases h) c []))
     → (h : ℕ) → h < harts p → AllFit (barrier h (harts p)) → BarrierSite p h (halt_of p h + 4)

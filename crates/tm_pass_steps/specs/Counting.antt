@@ -15,7 +15,9 @@ use Rattle.tm_pass_way.specs.Calm.{Clear}
 
 -- The word that sets the pass counter to 0 does so as the hart's way asks for it.
 abbrev pub CounterIsReset : Program → Type 0
-CounterIsReset p = Formed p → MasksFit p.cases p.masks → (h : ℕ) → h < harts p → (lo : ℕ) → At (support_at p h) lo (reset ∷ [])
-    → Clear p h lo (lo + 4) → (limit : ℕ → ℕ) (q c o : ℕ) (ms : List Mark) (s : State) → c ≤ case_count p → o + 1 ≤ limit q
+CounterIsReset p = Formed p → MasksFit p.cases p.masks → (h : ℕ) → h < harts p → (lo : ℕ)
+    → At (support_at p h) lo (reset ∷ [])
+    → Clear p h lo (lo + 4) → (limit : ℕ → ℕ) (q c o : ℕ) (ms : List Mark) (s : State) → c ≤ case_count p
+    → o + 1 ≤ limit q
     → Ready p h lo q c o ms s → Told p h limit s.log
     → Leads p h limit s (λ t. Ready p h (lo + 4) q c (o + 1) ms t × Counts p h 0 s t × Told p h limit t.log)

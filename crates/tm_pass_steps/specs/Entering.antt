@@ -16,7 +16,8 @@ use Rattle.tm_pass_way.specs.Facts.{Told}
 use Rattle.tm_pass_way.specs.Parts.{Hold, Same, Leads, phase_at, way_to}
 use Rattle.tm_pass_way.specs.Calm.{Clear, StreamClear}
 
--- The image has hart h's first registers of case c in its tables from this address on, of which x31 is its private area.
+-- The image has hart h's first registers of case c in its tables from this address on, of which x31 is its private
+-- area.
 pub record RegisterTable (p : Program) (h c table : ℕ) : Type 0 where
   pub even : table % 8 ≡ 0
   pub low : tables_base ≤ table
@@ -25,11 +26,15 @@ pub record RegisterTable (p : Program) (h c table : ℕ) : Type 0 where
       → image_dword p (table + 8 * i) ≡ slice_index stream.regs (i + 1)
   pub area : image_dword p (table + 240) ≡ private_at h
 
--- Where the words that load them stand before the stream, they lead into it with its first registers, as the hart's way asks for it.
+-- Where the words that load them stand before the stream, they lead into it with its first registers, as the hart's
+-- way asks for it.
 abbrev pub RegistersAreLoaded : Program → Type 0
-RegistersAreLoaded p = Formed p → MasksFit p.cases p.masks → (h : ℕ) → h < harts p → (c k lo table : ℕ) → c < case_count p → k < passes p
+RegistersAreLoaded p = Formed p → MasksFit p.cases p.masks → (h : ℕ) → h < harts p → (c k lo table : ℕ)
+    → c < case_count p → k < passes p
     → RegisterTable p h c table → At (support_at p h) lo (load_registers table) → lo + 168 ≡ start_of p h c
-    → Clear p h lo (start_of p h c - 4) → StreamClear p h c → (limit : ℕ → ℕ) (s : State) → 42 ≤ limit (phase_at p c k + 1)
+    → Clear p h lo (start_of p h c - 4) → StreamClear p h c → (limit : ℕ → ℕ) (s : State)
+    → 42 ≤ limit (phase_at p c k + 1)
     → Hold p h lo (phase_at p c k + 1) c 0 (way_to p c k ++ Exit ∷ []) s → Told p h limit s.log
-    → Leads p h limit s (λ t. Hold p h (start_of p h c) (phase_at p c k + 1) c 42 (way_to p c k ++ Exit ∷ Enter c ∷ []) t
+    → Leads p h limit s (λ t. Hold p h (start_of p h c) (phase_at p c k + 1) c 42 (way_to p c k ++ Exit ∷ Enter c
+    ∷ []) t
     × Same p h s t × Told p h limit t.log)

@@ -11,10 +11,12 @@ use Rattle.tm_legal.specs.Tame.{Formed}
 use Rattle.tm_blocks_compare.specs.Runs.{verdict_of_all}
 use Rattle.tm_pass_way.specs.Parts.{IsFound}
 
--- Memory has the masks of a case at these addresses: hart h's registers' mask, and of each dword that it collects the eight bytes' masks.
+-- Memory has the masks of a case at these addresses: hart h's registers' mask, and of each dword that it collects the
+-- eight bytes' masks.
 pub record HasMasks (p : Program) (m : CaseMask) (h : ℕ) (mem : Table) (masks bytes : ℕ) : Type 0 where
   pub registers : mem masks ≡ slice_index m.regs h
-  pub fits : (j : ℕ) → j < length (owned p.cases h) → mem (bytes + (slice_index (owned p.cases h) j - windows_base)) < 2 ^ 64
+  pub fits : (j : ℕ) → j < length (owned p.cases h)
+      → mem (bytes + (slice_index (owned p.cases h) j - windows_base)) < 2 ^ 64
   pub dwords : (j l : ℕ) → j < length (owned p.cases h) → l < 8
       → byte_of (mem (bytes + (slice_index (owned p.cases h) j - windows_base))) l
       ≡ slice_index m.bytes (slice_index (owned p.cases h) j + l - windows_base)

@@ -27,8 +27,8 @@ compare_cost passes dwords = 27 + passes * (385 + 13 * dwords)
 abbrev pub mark_behind : Program → ℕ → List Mark
 mark_behind p c = if suc c == case_count p then Halt ∷ [] else []
 
--- The words that compare the passes of case c stand from lo to the store at last, behind which the next case begins or the halt mark is; and
--- the case's masks are in the image, in dwords that no store changes.
+-- The words that compare the passes of case c stand from lo to the store at last, behind which the next case begins
+-- or the halt mark is; and the case's masks are in the image, in dwords that no store changes.
 pub record CompareSite (p : Program) (m : CaseMask) (h c lo last masks bytes : ℕ) : Type 0 where
   pub code : At (support_at p h) lo (compare_all_but_last p.cases h (save_at h 0) masks bytes (verdict_at c h))
   pub long : lo + 4 * length (compare_all_but_last p.cases h (save_at h 0) masks bytes (verdict_at c h)) ≡ last
@@ -46,8 +46,10 @@ pub record CompareSite (p : Program) (m : CaseMask) (h c lo last masks bytes : �
 
 -- So the hart judges the case, as its way asks for it.
 abbrev pub CaseIsJudged : Program → Type 0
-CaseIsJudged p = Formed p → MasksFit p.cases p.masks → (h : ℕ) → h < harts p → (c lo last masks bytes : ℕ) (m : CaseMask)
-    → c < case_count p → slice_get p.masks.cases c ≡ Some m → CompareSite p m h c lo last masks bytes → (limit : ℕ → ℕ) (o : ℕ) (s : State)
+CaseIsJudged p = Formed p → MasksFit p.cases p.masks → (h : ℕ) → h < harts p
+    → (c lo last masks bytes : ℕ) (m : CaseMask)
+    → c < case_count p → slice_get p.masks.cases c ≡ Some m → CompareSite p m h c lo last masks bytes
+    → (limit : ℕ → ℕ) (o : ℕ) (s : State)
     → o + compare_cost (passes p) (length (owned p.cases h)) ≤ limit (phase_at p (suc c) 0)
     → Ready p h lo (phase_at p (suc c) 0) c o (way_to p (suc c) 0) s → Passes p h c (passes p) s → Told p h limit s.log
     → Leads p h limit s (λ t. Ready p h (last + 4) (phase_at p (suc c) 0) (suc c)

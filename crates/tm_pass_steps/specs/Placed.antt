@@ -112,13 +112,15 @@ abbrev pub BlocksMakeSteps : Program → Type 0
 BlocksMakeSteps p = Formed p → MasksFit p.cases p.masks → (h : ℕ) → h < harts p → (at : Places) → HartPlaced p h at
     → (limit : ℕ → ℕ) → Steps p h at (costs_of p h) limit
 
--- And a hart whose blocks stand so, and whose limits have room for them, keeps the course, writes its verdicts exactly, works within its
--- limits and doesn't get stuck.
+-- And a hart whose blocks stand so, and whose limits have room for them, keeps the course, writes its verdicts
+-- exactly, works within its limits and doesn't get stuck.
 abbrev pub PlacedHartKeeps : Program → Type 0
-PlacedHartKeeps p = Formed p → MasksFit p.cases p.masks → (h : ℕ) → h < harts p → (at : Places) → HartPlaced p h at → Halts p h at
+PlacedHartKeeps p = Formed p → MasksFit p.cases p.masks → (h : ℕ) → h < harts p → (at : Places) → HartPlaced p h at
+    → Halts p h at
     → (limit : ℕ → ℕ) → Rooms p (costs_of p h) limit → Keeps p h limit
 
 -- What the parts of its passes work makes up the limits of its phases, and the hart keeps that pace.
 abbrev pub PlacedHartKeepsPace : Program → Type 0
-PlacedHartKeepsPace p = Formed p → MasksFit p.cases p.masks → (h : ℕ) → h < harts p → (at : Places) → HartPlaced p h at → Halts p h at
+PlacedHartKeepsPace p = Formed p → MasksFit p.cases p.masks → (h : ℕ) → h < harts p → (at : Places)
+    → HartPlaced p h at → Halts p h at
     → Keeps p h (limit_at p (pace_of (costs_of p h))) × OnHalf p h (KeepsPace p h (pace_of (costs_of p h)))

@@ -16,10 +16,14 @@ use Rattle.tm_pass_way.specs.Facts.{Told}
 use Rattle.tm_pass_way.specs.Parts.{Hold, Saves, Leads}
 use Rattle.tm_pass_way.specs.Calm.{Clear}
 
--- In a run phase the words that save the registers do so as the hart's way asks for it; what some entry of the phase was stays so.
+-- In a run phase the words that save the registers do so as the hart's way asks for it; what some entry of the phase
+-- was stays so.
 abbrev pub RegistersAreSaved : Program → Type 0
-RegistersAreSaved p = Formed p → MasksFit p.cases p.masks → (h : ℕ) → h < harts p → (lo : ℕ) → At (support_at p h) lo save_registers
-    → Clear p h lo (lo + 120) → (limit : ℕ → ℕ) (q c o : ℕ) (ms : List Mark) (s : State) (test : Entry → Bool) → c ≤ case_count p
-    → round_before p q ≡ None → o + 30 ≤ limit q → Hold p h lo q c o ms s → any test (now_in (exit_of p h) s.log) ≡ true → Told p h limit s.log
+RegistersAreSaved p = Formed p → MasksFit p.cases p.masks → (h : ℕ) → h < harts p → (lo : ℕ)
+    → At (support_at p h) lo save_registers
+    → Clear p h lo (lo + 120) → (limit : ℕ → ℕ) (q c o : ℕ) (ms : List Mark) (s : State) (test : Entry → Bool)
+    → c ≤ case_count p
+    → round_before p q ≡ None → o + 30 ≤ limit q → Hold p h lo q c o ms s
+    → any test (now_in (exit_of p h) s.log) ≡ true → Told p h limit s.log
     → Leads p h limit s (λ t. Hold p h (lo + 120) q c (o + 30) ms t × Saves p h s t
     × (any test (now_in (exit_of p h) t.log) ≡ true) × Told p h limit t.log)

@@ -29,11 +29,13 @@ pub record FirstTable (p : Program) (c from : ℕ) : Type 0 where
 abbrev pub set_cost : ℕ → ℕ
 set_cost dwords = 69 + 4 * dwords
 
--- Where the words that set stand from lo on, they set what the hart collects to the case's first dwords, as its way asks for it.
+-- Where the words that set stand from lo on, they set what the hart collects to the case's first dwords, as its way
+-- asks for it.
 abbrev pub FirstIsSet : Program → Type 0
 FirstIsSet p = Formed p → MasksFit p.cases p.masks → (h : ℕ) → h < harts p → (c from lo : ℕ) → FirstTable p c from
     → At (support_at p h) lo (first_bytes p.cases h from)
-    → Clear p h lo (lo + 4 * length (first_bytes p.cases h from)) → (limit : ℕ → ℕ) (q d o : ℕ) (ms : List Mark) (s : State)
+    → Clear p h lo (lo + 4 * length (first_bytes p.cases h from))
+    → (limit : ℕ → ℕ) (q d o : ℕ) (ms : List Mark) (s : State)
     → q % 2 ≡ 0 → o + set_cost (length (owned p.cases h)) ≤ limit q → Ready p h lo q d o ms s → Told p h limit s.log
     → Leads p h limit s (λ t. Ready p h (lo + 4 * length (first_bytes p.cases h from)) q d (o + set_cost (length (owned p.cases h))) ms t
     × Same p h s t × AreSet p h c (now_in (exit_of p h) t.log) × Told p h limit t.log)

@@ -7,7 +7,8 @@ use Rattle.tm_runs.specs.World.{support_at}
 use Rattle.tm_pass_text.specs.Words.{call}
 use Rattle.tm_barrier.specs.Words.{meet, barrier}
 
--- The barrier of hart h stands from this address on, behind all its streams and its halt mark, and its last word at the exit mark.
+-- The barrier of hart h stands from this address on, behind all its streams and its halt mark, and its last word at
+-- the exit mark.
 pub record BarrierSite (p : Program) (h entry : ℕ) : Type 0 where
   pub code : At (support_at p h) entry (barrier h (harts p))
   pub exit : entry + 4 * length (meet h (harts p)) + 4 ≡ exit_of p h

@@ -20,7 +20,8 @@ pub record Plain (p : Program) (h place : ℕ) : Type 0 where
   pub exit : place ≢ exit_of p h
   pub halt : place ≢ halt_of p h
 
--- Words that count a pass stand from lo on, and lead back by so many bytes to where a pass begins, or to the word behind them.
+-- Words that count a pass stand from lo on, and lead back by so many bytes to where a pass begins, or to the word
+-- behind them.
 pub record TurnSite (p : Program) (h lo set back : ℕ) : Type 0 where
   pub code : At (support_at p h) lo (turn (passes p) back)
   pub some : 1 ≤ back

@@ -16,8 +16,8 @@ pub record Spread (p : Program) (base : ℕ → ℕ) (head : ℕ → ℕ → ℕ
   pub exit : (h : ℕ) → h < harts p → halt_of p h < exit_of p h
   pub next : (h : ℕ) → h < harts p → exit_of p h < base (suc h)
 
--- All marks are different addresses, and none is the text's first word, which lies in no stream; the streams don't overlap; and no hart's halt
--- mark lies in one of its streams.
+-- All marks are different addresses, and none is the text's first word, which lies in no stream; the streams don't
+-- overlap; and no hart's halt mark lies in one of its streams.
 pub record Apart (p : Program) : Type 0 where
   pub apart : AllPairs (λ a b. a ≢ b) (mark_addresses p)
   pub entry : All (λ a. a ≢ text_base) (mark_addresses p)

@@ -1,4 +1,5 @@
--- The words of each hart's program, and of all harts, put together of their blocks (this project's own). Of each hart, in order:
+-- The words of each hart's program, and of all harts, put together of their blocks (this project's own). Of each
+-- hart, in order:
 --
 --   gate      a hart with another number in x10 goes on to the word behind the last one
 --   opening   x31 = the private area
@@ -86,14 +87,16 @@ back_words b c n = before_size b c + n + length b.save + 1 + 6 + length b.collec
 unfoldable pub case_words : Blocks → (passes c : ℕ) → List ℕ → (at barrier : ℕ) → List ℕ
 case_words b passes c stream at barrier =
     words_of (case_before b c (barrier - (at + 4 * (1 + length (b.first c)))))
-    ++ (stream ++ words_of (case_behind b passes c (4 * back_words b c (length stream)) (barrier - (at + 4 * (before_size b c + length stream + length b.save)))))
+    ++ (stream
+    ++ words_of (case_behind b passes c (4 * back_words b c (length stream)) (barrier - (at + 4 * (before_size b c + length stream + length b.save)))))
 
 -- ---- all cases of a hart
 
 -- from case c on, of which the first begins at an address
 abbrev pub cases_words : Blocks → (passes c : ℕ) → List (List ℕ) → (at barrier : ℕ) → List ℕ
 cases_words b passes c [] at barrier = []
-cases_words b passes c (s ∷ ss) at barrier = case_words b passes c s at barrier ++ cases_words b passes (suc c) ss (at + 4 * case_size b c (length s)) barrier
+cases_words b passes c (s ∷ ss) at barrier = case_words b passes c s at barrier
+    ++ cases_words b passes (suc c) ss (at + 4 * case_size b c (length s)) barrier
 
 -- how many words the first k of these cases have
 abbrev pub skip : Blocks → ℕ → List (List ℕ) → ℕ → ℕ
@@ -129,7 +132,8 @@ streams_of cases h = map (λ (case : Case). words_at (slice_get case.streams h))
 -- n harts from hart h on
 abbrev pub text_words : (ℕ → Blocks) → Cases → (h n base : ℕ) → List ℕ
 text_words blocks cases h zero base = []
-text_words blocks cases h (suc n) base = hart_words (blocks h) cases.passes (streams_of cases h) h base ++ text_words blocks cases (suc h) n (base + 4 * hart_size (blocks h) (streams_of cases h))
+text_words blocks cases h (suc n) base = hart_words (blocks h) cases.passes (streams_of cases h) h base
+    ++ text_words blocks cases (suc h) n (base + 4 * hart_size (blocks h) (streams_of cases h))
 
 -- ---- places
 
@@ -149,11 +153,15 @@ head_of blocks cases h c = base_of blocks cases h + 4 * (opening_size + skip (bl
 pub record IsText (p : Program) (blocks : ℕ → Blocks) : Type 0 where
   pub text : p.text ≡ text_words blocks p.cases 0 (harts p) text_base
   pub some : (h : ℕ) → h < harts p → 1 ≤ length (blocks h).barrier
-  pub starts : (h c : ℕ) → h < harts p → c < case_count p → start_of p h c ≡ head_of blocks p.cases h c + 4 * before_size (blocks h) c
-  pub ends : (h c : ℕ) → h < harts p → c < case_count p → end_of p h c ≡ start_of p h c + 4 * length (slice_index_or (streams_of p.cases h) c [])
+  pub starts : (h c : ℕ) → h < harts p → c < case_count p
+      → start_of p h c ≡ head_of blocks p.cases h c + 4 * before_size (blocks h) c
+  pub ends : (h c : ℕ) → h < harts p → c < case_count p
+      → end_of p h c ≡ start_of p h c + 4 * length (slice_index_or (streams_of p.cases h) c [])
   pub halts : (h : ℕ) → h < harts p → halt_of p h ≡ head_of blocks p.cases h (case_count p)
   pub exits : (h : ℕ) → h < harts p → exit_of p h ≡ halt_of p h + 4 * length (blocks h).barrier
 
--- Where all streams have words, the text of a program is laid as the course asks, and no hart's halt mark lies in one of its streams.
+-- Where all streams have words, the text of a program is laid as the course asks, and no hart's halt mark lies in one
+-- of its streams.
 abbrev pub TextIsLaid : Program → Type 0
-TextIsLaid p = (blocks : ℕ → Blocks) → IsText p blocks → ((h c : ℕ) → h < harts p → c < case_count p → 1 ≤ length (slice_index_or (streams_of p.cases h) c [])) → Laid p
+TextIsLaid p = (blocks : ℕ → Blocks) → IsText p blocks
+    → ((h c : ℕ) → h < harts p → c < case_count p → 1 ≤ length (slice_index_or (streams_of p.cases h) c [])) → Laid p

@@ -35,7 +35,8 @@ abbrev pub IsOwn : (h a : ℕ) → Type 0
 IsOwn h a = (private_at h ≤ a) × (a + 8 ≤ private_at h + private_size)
 
 -- What a log tells between two parts of phase q.
-pub record Steady (p : Program) (h : ℕ) (limit : ℕ → ℕ) (q c work : ℕ) (ms : List Mark) (log : List Entry) : Type 0 where
+pub record Steady (p : Program) (h : ℕ) (limit : ℕ
+    → ℕ) (q c work : ℕ) (ms : List Mark) (log : List Entry) : Type 0 where
   pub phase : phase_in (exit_of p h) log ≡ q
   pub way : trail (arrivals p h) log ≡ ms
   pub silent : any (signals_in h) (now_in (exit_of p h) log) ≡ false
@@ -44,7 +45,8 @@ pub record Steady (p : Program) (h : ℕ) (limit : ℕ → ℕ) (q c work : ℕ)
   pub few : work_in p h q log ≤ work
   pub told : Told p h limit log
 
--- What a calm block says of the state behind it: where it is, and that x31, the count of exits and the fixed dwords are as they were.
+-- What a calm block says of the state behind it: where it is, and that x31, the count of exits and the fixed dwords
+-- are as they were.
 pub record LeavesTo (p : Program) (h place : ℕ) (s t : State) : Type 0 where
   pub pc : t.pc ≡ place
   pub base : get t.regs 31 ≡ get s.regs 31
@@ -54,9 +56,12 @@ pub record LeavesTo (p : Program) (h place : ℕ) (s t : State) : Type 0 where
 -- From s to t the log tells the same of end values.
 pub record Recalls (p : Program) (h : ℕ) (s t : State) : Type 0 where
   pub left : (c q : ℕ) → c < case_count p → left_in p h c q t.log ≡ left_in p h c q s.log
-  pub read : (q j i : ℕ) → j < length (owned p.cases h) → i < 8 → read_in p h q (slice_index (owned p.cases h) j + i) t.log ≡ read_in p h q (slice_index (owned p.cases h) j + i) s.log
+  pub read : (q j i : ℕ) → j < length (owned p.cases h) → i < 8
+      → read_in p h q (slice_index (owned p.cases h) j + i) t.log
+      ≡ read_in p h q (slice_index (owned p.cases h) j + i) s.log
 
--- Stream c of the hart has words, and the hart's other streams, its exit mark and its halt mark lie before or behind it.
+-- Stream c of the hart has words, and the hart's other streams, its exit mark and its halt mark lie before or behind
+-- it.
 pub record StreamClear (p : Program) (h c : ℕ) : Type 0 where
   pub some : start_of p h c < end_of p h c
   pub others : (d : ℕ) → d < case_count p → d ≢ c → (end_of p h c < start_of p h d) ⊎ (end_of p h d < start_of p h c)
@@ -64,8 +69,8 @@ pub record StreamClear (p : Program) (h c : ℕ) : Type 0 where
   pub exit : (exit_of p h < start_of p h c) ⊎ (end_of p h c < exit_of p h)
   pub halt : (halt_of p h < start_of p h c) ⊎ (end_of p h c < halt_of p h)
 
--- What the block of the first registers does, told at its end: all its steps but the last are calm, and the last comes to the stream's start with
--- fresh registers.
+-- What the block of the first registers does, told at its end: all its steps but the last are calm, and the last
+-- comes to the stream's start with fresh registers.
 pub record LoadsInto (p : Program) (h c lo : ℕ) (s t : State) : Type 0 where
   pub entries : List Entry
   pub last : Entry
@@ -74,12 +79,13 @@ pub record LoadsInto (p : Program) (h c lo : ℕ) (s t : State) : Type 0 where
   pub from : last.pc ≡ start_of p h c - 4
   pub to : last.next ≡ start_of p h c
   pub access : Uses IsBelow (IsOwn h) last.access
-  pub fresh : (stream : Stream) → stream_in p.cases c h ≡ Some stream → (r : ℕ) → 1 ≤ r → r < 32 → last.regs r ≡ slice_index stream.regs r
+  pub fresh : (stream : Stream) → stream_in p.cases c h ≡ Some stream → (r : ℕ) → 1 ≤ r → r < 32
+      → last.regs r ≡ slice_index stream.regs r
   pub leaves : LeavesTo p h (start_of p h c) s t
   pub memos : Memos p h s t
 
--- What the block that compares does, told at its end: all its steps but the last are calm, and the last writes what is found in the save areas to
--- the verdict cell.
+-- What the block that compares does, told at its end: all its steps but the last are calm, and the last writes what
+-- is found in the save areas to the verdict cell.
 pub record ComparesTo (p : Program) (h c : ℕ) (m : CaseMask) (lo hi place : ℕ) (s t : State) : Type 0 where
   pub entries : List Entry
   pub last : Entry
@@ -92,7 +98,8 @@ pub record ComparesTo (p : Program) (h c : ℕ) (m : CaseMask) (lo hi place : �
   pub found : IsFound p m h s.mem value
   pub leaves : LeavesTo p h place s t
 
--- What a calm block does whose last step leads elsewhere, told at its end: back to the first bytes, on to the comparison, or to the barrier.
+-- What a calm block does whose last step leads elsewhere, told at its end: back to the first bytes, on to the
+-- comparison, or to the barrier.
 pub record HopsTo (p : Program) (h lo hi place : ℕ) (s t : State) : Type 0 where
   pub entries : List Entry
   pub last : Entry

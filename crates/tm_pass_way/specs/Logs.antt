@@ -35,12 +35,14 @@ now_in exit log = steps_in exit (phase_in exit log) log
 -- the registers after the first step of phase q that leaves stream (h, c)
 abbrev pub left_in : Program → (h c q : ℕ) → List Entry → Option Table
 left_in p h c q [] = None
-left_in p h c q (e ∷ past) = or_else (left_in p h c q past) (if (phase_in (exit_of p h) past == q) && (inside p h c e.pc && not (inside p h c e.next)) then Some e.regs else None)
+left_in p h c q (e
+    ∷ past) = or_else (left_in p h c q past) (if (phase_in (exit_of p h) past == q) && (inside p h c e.pc && not (inside p h c e.next)) then Some e.regs else None)
 
 -- what the first read of b in phase q returned
 abbrev pub read_in : Program → (h q b : ℕ) → List Entry → Option ℕ
 read_in p h q b [] = None
-read_in p h q b (e ∷ past) = or_else (read_in p h q b past) (if phase_in (exit_of p h) past == q then got e.access b else None)
+read_in p h q b (e ∷ past) = or_else (read_in p h q b past) (if phase_in (exit_of p h) past == q then got e.access b
+    else None)
 
 -- an end value
 abbrev pub end_in : Program → (h c k : ℕ) → List Entry → Part → Option ℕ
@@ -49,7 +51,8 @@ end_in p h c k log (Byte b) = read_in p h (run_phase p c k + 1) b log
 
 -- dword i has the same checked parts at the end of pass k as at the end of pass 0
 abbrev pub SameIn : Program → CaseMask → (h c : ℕ) → List Entry → (k i : ℕ) → Type 0
-SameIn p m h c log k i = All (λ part. IsTrue (is_checked m h part) → end_in p h c k log part ≡ end_in p h c 0 log part) (parts p h i)
+SameIn p m h c log k i = All (λ part. IsTrue (is_checked m h part)
+    → end_in p h c k log part ≡ end_in p h c 0 log part) (parts p h i)
 
 -- the verdict
 pub data IsVerdictIn (p : Program) (m : CaseMask) (h c : ℕ) (log : List Entry) : ℕ → Type 0 where
@@ -87,4 +90,5 @@ abbrev pub work_in : Program → (h q : ℕ) → List Entry → ℕ
 work_in p h q [] = 0
 work_in p h q (e ∷ past) =
     if lately_at p h 4 (e ∷ past) then work_in p h q past
-    else (if phase_in (exit_of p h) past == q then one_outside (stream_at p h e.pc) (work_in p h q past) else work_in p h q past)
+    else (if phase_in (exit_of p h) past == q then one_outside (stream_at p h e.pc) (work_in p h q past)
+        else work_in p h q past)

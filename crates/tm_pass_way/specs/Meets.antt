@@ -1,5 +1,5 @@
--- What else a hart keeps on half runs (this project's own). The first three and the work of a phase stand in tm_meet's specs, `WritesLate`
--- in tm_quiet's.
+-- What else a hart keeps on half runs (this project's own). The first three and the work of a phase stand in
+-- tm_meet's specs, `WritesLate` in tm_quiet's.
 use Rattle.std.specs.Prelude.{◌≡◌, ◌≢◌, false, ℕ, suc, ◌+◌, ◌-◌, ◌/◌, ◌<◌, ◌≤◌, ◌==◌, List, [], ◌∷◌, slice_get, slice_index, Some, IsTrue, All, if◌then◌else◌}
 use Rattle.tm_table.specs.declared.state.Access.TheVariants.{Write}
 use Rattle.tm_table.specs.State.{Hart}
@@ -22,20 +22,26 @@ use Rattle.tm_stays.specs.Stays.{one_outside}
 use Rattle.tm_pass_way.specs.Parts.{Places, Costs, Turns, Rooms}
 
 abbrev pub SetsDwords : Program → ℕ → Hart → List Step → Type 0
-SetsDwords p h first = Always (λ past s. IsTrue (signals h s) → (c : ℕ) (case : Case) → case_of_phase p (suc (phase (exit_of p h) past)) ≡ Some c → slice_get p.cases.cases c ≡ Some case
-    → All (λ a. (i : ℕ) → i < 8 → last_write (a + i) (this_phase p h past) ≡ Some (byte_of (slice_index case.first ((a - windows_base) / 8)) i)) (owned p.cases h))
+SetsDwords p h first = Always (λ past s. IsTrue (signals h s) → (c : ℕ) (case : Case)
+    → case_of_phase p (suc (phase (exit_of p h) past)) ≡ Some c → slice_get p.cases.cases c ≡ Some case
+    → All (λ a. (i : ℕ) → i < 8 → last_write (a + i) (this_phase p h past)
+    ≡ Some (byte_of (slice_index case.first ((a - windows_base) / 8)) i)) (owned p.cases h))
 
 abbrev pub EntersBehindExit : Program → ℕ → Hart → List Step → Type 0
-EntersBehindExit p h first = Always (λ past s. (c : ℕ) → c < case_count p → IsTrue (comes_to p h (Enter c) (now first past).pc s.after.pc) → pc_of s ≢ exit_of p h)
+EntersBehindExit p h first = Always (λ past s. (c : ℕ) → c < case_count p
+    → IsTrue (comes_to p h (Enter c) (now first past).pc s.after.pc) → pc_of s ≢ exit_of p h)
 
 abbrev pub phase_work : Program → ℕ → Hart → ℕ → List Step → ℕ
 phase_work p h first q [] = 0
 phase_work p h first q (s ∷ past) =
     if idle_lately p h 4 (s ∷ past) then phase_work p h first q past
-    else (if phase (exit_of p h) past == q then one_outside (stream_at p h (now first past).pc) (phase_work p h first q past) else phase_work p h first q past)
+    else (if phase (exit_of p h) past == q
+        then one_outside (stream_at p h (now first past).pc) (phase_work p h first q past)
+        else phase_work p h first q past)
 
 abbrev pub WritesLate : Program → ℕ → Hart → List Step → Type 0
-WritesLate p h first = Always (λ past s. (c v : ℕ) → c < case_count p → access_of s ≡ Write (verdict_at c h) 8 v → run_phase p c (passes p - 1) < phase (exit_of p h) past)
+WritesLate p h first = Always (λ past s. (c v : ℕ) → c < case_count p → access_of s ≡ Write (verdict_at c h) 8 v
+    → run_phase p c (passes p - 1) < phase (exit_of p h) past)
 
 -- All that a hart's program owes on half runs.
 pub record Keeps (p : Program) (h : ℕ) (limit : ℕ → ℕ) : Type 0 where
@@ -55,5 +61,6 @@ pub record Halts (p : Program) (h : ℕ) (at : Places) : Type 0 where
 
 -- A hart whose parts do what is stated, and whose limits have room for them, keeps all of it.
 abbrev pub PartsKeep : Program → Type 0
-PartsKeep p = Formed p → MasksFit p.cases p.masks → (h : ℕ) → h < harts p → (at : Places) (cost : Costs) (limit : ℕ → ℕ) → Halts p h at
+PartsKeep p = Formed p → MasksFit p.cases p.masks → (h : ℕ) → h < harts p
+    → (at : Places) (cost : Costs) (limit : ℕ → ℕ) → Halts p h at
     → Rooms p cost limit → Turns p h at cost limit → Keeps p h limit

@@ -61,7 +61,8 @@ pub record Costs : Type 0 where
 abbrev pub turns : Program → (c k : ℕ) → ℕ
 turns p c k = c * passes p + k
 
--- the phase in which pass k of case c is set up; its run phase is the next, and that in which it is collected the one after
+-- the phase in which pass k of case c is set up; its run phase is the next, and that in which it is collected the one
+-- after
 abbrev pub phase_at : Program → (c k : ℕ) → ℕ
 phase_at p c k = 2 * turns p c k
 
@@ -75,8 +76,9 @@ way_to p c k = flat_map (λ d. few_passes d (passes p)) (count_from 0 c) ++ few_
 
 -- ---- what holds between two parts
 
--- The hart stands at a place, in phase q, with these marks behind it, and at most `work` work steps in this phase; verdicts were written on
--- the first c cases and on no other; x31 is the private area, in which the count of exits stands at 256.
+-- The hart stands at a place, in phase q, with these marks behind it, and at most `work` work steps in this phase;
+-- verdicts were written on the first c cases and on no other; x31 is the private area, in which the count of exits
+-- stands at 256.
 pub record Hold (p : Program) (h place q c work : ℕ) (ms : List Mark) (t : State) : Type 0 where
   pub pc : t.pc ≡ place
   pub base : get t.regs 31 ≡ private_at h
@@ -98,7 +100,8 @@ pub record Ready (p : Program) (h place q c work : ℕ) (ms : List Mark) (t : St
 
 -- ---- what a part leaves as it was
 
--- The private dwords that parts hand on to others are as they were: the registers, the pass counter, and the save areas.
+-- The private dwords that parts hand on to others are as they were: the registers, the pass counter, and the save
+-- areas.
 pub record Memos (p : Program) (h : ℕ) (s t : State) : Type 0 where
   pub registers : (i : ℕ) → i < 30 → t.mem (private_at h + 8 * i) ≡ s.mem (private_at h + 8 * i)
   pub counter : t.mem (private_at h + 264) ≡ s.mem (private_at h + 264)
@@ -107,13 +110,17 @@ pub record Memos (p : Program) (h : ℕ) (s t : State) : Type 0 where
 -- From s to t the end values that the log tells are the same, and so are these dwords.
 pub record Same (p : Program) (h : ℕ) (s t : State) : Type 0 where
   pub left : (c q : ℕ) → c < case_count p → left_in p h c q t.log ≡ left_in p h c q s.log
-  pub read : (q j i : ℕ) → j < length (owned p.cases h) → i < 8 → read_in p h q (slice_index (owned p.cases h) j + i) t.log ≡ read_in p h q (slice_index (owned p.cases h) j + i) s.log
+  pub read : (q j i : ℕ) → j < length (owned p.cases h) → i < 8
+      → read_in p h q (slice_index (owned p.cases h) j + i) t.log
+      ≡ read_in p h q (slice_index (owned p.cases h) j + i) s.log
   pub memos : Memos p h s t
 
 -- the same but for the pass counter, which is k
 pub record Counts (p : Program) (h k : ℕ) (s t : State) : Type 0 where
   pub left : (c q : ℕ) → c < case_count p → left_in p h c q t.log ≡ left_in p h c q s.log
-  pub read : (q j i : ℕ) → j < length (owned p.cases h) → i < 8 → read_in p h q (slice_index (owned p.cases h) j + i) t.log ≡ read_in p h q (slice_index (owned p.cases h) j + i) s.log
+  pub read : (q j i : ℕ) → j < length (owned p.cases h) → i < 8
+      → read_in p h q (slice_index (owned p.cases h) j + i) t.log
+      ≡ read_in p h q (slice_index (owned p.cases h) j + i) s.log
   pub area : (j i : ℕ) → j < passes p → i < saved p h → t.mem (save_at h j + 8 * i) ≡ s.mem (save_at h j + 8 * i)
   pub counter : t.mem (private_at h + 264) ≡ k
 
@@ -130,17 +137,21 @@ pub record Stayed (p : Program) (h c q : ℕ) (s t : State) : Type 0 where
 -- the registers are in the first dwords of the private area
 pub record Saves (p : Program) (h : ℕ) (s t : State) : Type 0 where
   pub left : (c q : ℕ) → c < case_count p → left_in p h c q t.log ≡ left_in p h c q s.log
-  pub read : (q j i : ℕ) → j < length (owned p.cases h) → i < 8 → read_in p h q (slice_index (owned p.cases h) j + i) t.log ≡ read_in p h q (slice_index (owned p.cases h) j + i) s.log
+  pub read : (q j i : ℕ) → j < length (owned p.cases h) → i < 8
+      → read_in p h q (slice_index (owned p.cases h) j + i) t.log
+      ≡ read_in p h q (slice_index (owned p.cases h) j + i) s.log
   pub area : (j i : ℕ) → j < passes p → i < saved p h → t.mem (save_at h j + 8 * i) ≡ s.mem (save_at h j + 8 * i)
   pub counter : t.mem (private_at h + 264) ≡ s.mem (private_at h + 264)
   pub saved : (i : ℕ) → i < 30 → t.mem (private_at h + 8 * i) ≡ get s.regs (i + 1)
 
--- The end state, with what the first reads in phase q returned, is in the save area of pass k; other areas are as they were.
+-- The end state, with what the first reads in phase q returned, is in the save area of pass k; other areas are as
+-- they were.
 pub record CollectsTo (p : Program) (h k q : ℕ) (s t : State) : Type 0 where
   pub left : (c j : ℕ) → c < case_count p → left_in p h c j t.log ≡ left_in p h c j s.log
   pub others : (r b : ℕ) → r ≢ q → read_in p h r b t.log ≡ read_in p h r b s.log
   pub read : (j i : ℕ) → j < length (owned p.cases h) → i < 8
-      → read_in p h q (slice_index (owned p.cases h) j + i) t.log ≡ or_else (read_in p h q (slice_index (owned p.cases h) j + i) s.log) (Some (byte_of (t.mem (save_at h k + 8 * (30 + j))) i))
+      → read_in p h q (slice_index (owned p.cases h) j + i) t.log
+      ≡ or_else (read_in p h q (slice_index (owned p.cases h) j + i) s.log) (Some (byte_of (t.mem (save_at h k + 8 * (30 + j))) i))
   pub dwords : (i : ℕ) → i < 30 → t.mem (save_at h k + 8 * i) ≡ s.mem (private_at h + 8 * i)
   pub area : (j i : ℕ) → j < k → i < saved p h → t.mem (save_at h j + 8 * i) ≡ s.mem (save_at h j + 8 * i)
   pub counter : t.mem (private_at h + 264) ≡ s.mem (private_at h + 264)
@@ -152,7 +163,9 @@ pub record PassTold (p : Program) (h c k : ℕ) (log : List Entry) (mem : Table)
   pub registers : Table
   pub told : left_in p h c (run_phase p c k) log ≡ Some registers
   pub saved : (i : ℕ) → i < 30 → mem (save_at h k + 8 * i) ≡ registers (i + 1)
-  pub read : (j i : ℕ) → j < length (owned p.cases h) → i < 8 → read_in p h (run_phase p c k + 1) (slice_index (owned p.cases h) j + i) log ≡ Some (byte_of (mem (save_at h k + 8 * (30 + j))) i)
+  pub read : (j i : ℕ) → j < length (owned p.cases h) → i < 8
+      → read_in p h (run_phase p c k + 1) (slice_index (owned p.cases h) j + i) log
+      ≡ Some (byte_of (mem (save_at h k + 8 * (30 + j))) i)
 
 -- the same of the registers of the pass that goes on, in the first dwords of the private area
 pub record RegistersTold (p : Program) (h c k : ℕ) (log : List Entry) (mem : Table) : Type 0 where
@@ -169,8 +182,10 @@ pub record Passes (p : Program) (h c k : ℕ) (t : State) : Type 0 where
 
 -- dword i has the same checked parts in the save areas of pass k and of pass 0
 pub record Alike (p : Program) (m : CaseMask) (h : ℕ) (mem : Table) (k i : ℕ) : Type 0 where
-  pub register : i < 30 → IsTrue (is_checked m h (Register (i + 1))) → mem (save_at h k + 8 * i) ≡ mem (save_at h 0 + 8 * i)
-  pub bytes : 30 ≤ i → (j : ℕ) → j < 8 → IsTrue (is_checked m h (Byte (slice_index (owned p.cases h) (i - 30) + j))) → byte_of (mem (save_at h k + 8 * i)) j ≡ byte_of (mem (save_at h 0 + 8 * i)) j
+  pub register : i < 30 → IsTrue (is_checked m h (Register (i + 1)))
+      → mem (save_at h k + 8 * i) ≡ mem (save_at h 0 + 8 * i)
+  pub bytes : 30 ≤ i → (j : ℕ) → j < 8 → IsTrue (is_checked m h (Byte (slice_index (owned p.cases h) (i - 30) + j)))
+      → byte_of (mem (save_at h k + 8 * i)) j ≡ byte_of (mem (save_at h 0 + 8 * i)) j
 
 -- what a comparison writes: 0, or the least pass that differs and in it the least dword
 pub data IsFound (p : Program) (m : CaseMask) (h : ℕ) (mem : Table) : ℕ → Type 0 where
@@ -196,42 +211,61 @@ pub record Opens (p : Program) (h : ℕ) (s : State) : Type 0 where
   pub log : s.log ≡ []
   pub told : s.mem (private_at h + 256) ≡ 0
 
--- What the runs of the parts do. Each is to be proved from the run law of its block, and from where its words lie. A premise `work + n ≤
--- limit q` says that the phase has room for them. `Told` of the state before is given, so that each part shows it of its own entries alone.
+-- What the runs of the parts do. Each is to be proved from the run law of its block, and from where its words lie. A
+-- premise `work + n ≤ limit q` says that the phase has room for them. `Told` of the state before is given, so that
+-- each part shows it of its own entries alone.
 pub record Turns (p : Program) (h : ℕ) (at : Places) (cost : Costs) (limit : ℕ → ℕ) : Type 0 where
   pub begin : (s : State) → Opens p h s → cost.begin ≤ limit 0
       → Leads p h limit s (λ t. Ready p h (at.head 0) 0 0 cost.begin [] t × Told p h limit t.log)
   pub reset : (c o : ℕ) (s : State) → c < case_count p → o + cost.reset ≤ limit (phase_at p c 0)
       → Ready p h (at.head c) (phase_at p c 0) c o (way_to p c 0) s → Told p h limit s.log
-      → Leads p h limit s (λ t. Ready p h (at.set c) (phase_at p c 0) c (o + cost.reset) (way_to p c 0) t × Counts p h 0 s t × Told p h limit t.log)
-  pub first : (c k o : ℕ) (s : State) → c < case_count p → k < passes p → o + cost.first + cost.meet ≤ limit (phase_at p c k)
+      → Leads p h limit s (λ t. Ready p h (at.set c) (phase_at p c 0) c (o + cost.reset) (way_to p c 0) t
+      × Counts p h 0 s t × Told p h limit t.log)
+  pub first : (c k o : ℕ) (s : State) → c < case_count p → k < passes p
+      → o + cost.first + cost.meet ≤ limit (phase_at p c k)
       → Ready p h (at.set c) (phase_at p c k) c o (way_to p c k) s → Told p h limit s.log
-      → Leads p h limit s (λ t. Hold p h (at.load c) (phase_at p c k + 1) c 0 (way_to p c k ++ Exit ∷ []) t × Same p h s t × (now_in (exit_of p h) t.log ≡ []) × Told p h limit t.log)
+      → Leads p h limit s (λ t. Hold p h (at.load c) (phase_at p c k + 1) c 0 (way_to p c k ++ Exit ∷ []) t
+      × Same p h s t × (now_in (exit_of p h) t.log ≡ []) × Told p h limit t.log)
   pub load : (c k : ℕ) (s : State) → c < case_count p → k < passes p → cost.load ≤ limit (phase_at p c k + 1)
       → Hold p h (at.load c) (phase_at p c k + 1) c 0 (way_to p c k ++ Exit ∷ []) s → Told p h limit s.log
-      → Leads p h limit s (λ t. Hold p h (start_of p h c) (phase_at p c k + 1) c cost.load (way_to p c k ++ Exit ∷ Enter c ∷ []) t × Same p h s t × Told p h limit t.log)
+      → Leads p h limit s (λ t. Hold p h (start_of p h c) (phase_at p c k + 1) c cost.load (way_to p c k ++ Exit
+      ∷ Enter c ∷ []) t × Same p h s t × Told p h limit t.log)
   pub stay : (c k o : ℕ) (s : State) → c < case_count p → k < passes p → o ≤ limit (phase_at p c k + 1)
-      → Hold p h (start_of p h c) (phase_at p c k + 1) c o (way_to p c k ++ Exit ∷ Enter c ∷ []) s → Told p h limit s.log
-      → Leads p h limit s (λ t. Hold p h (end_of p h c) (phase_at p c k + 1) c o (way_to p c k ++ Exit ∷ Enter c ∷ End c ∷ []) t × Stayed p h c (phase_at p c k + 1) s t × Told p h limit t.log)
-  pub save : (c k o : ℕ) (s : State) → c < case_count p → k < passes p → o + cost.save + cost.meet ≤ limit (phase_at p c k + 1)
-      → Hold p h (end_of p h c) (phase_at p c k + 1) c o (way_to p c k ++ Exit ∷ Enter c ∷ End c ∷ []) s → any (λ (e : Entry). e.next == end_of p h c) (now_in (exit_of p h) s.log) ≡ true → Told p h limit s.log
-      → Leads p h limit s (λ t. Hold p h (at.collect c) (phase_at p c (suc k)) c 0 (way_to p c k ++ pass_way c) t × Saves p h s t × (now_in (exit_of p h) t.log ≡ []) × Told p h limit t.log)
+      → Hold p h (start_of p h c) (phase_at p c k + 1) c o (way_to p c k ++ Exit ∷ Enter c ∷ []) s
+      → Told p h limit s.log
+      → Leads p h limit s (λ t. Hold p h (end_of p h c) (phase_at p c k + 1) c o (way_to p c k ++ Exit ∷ Enter c
+      ∷ End c ∷ []) t × Stayed p h c (phase_at p c k + 1) s t × Told p h limit t.log)
+  pub save : (c k o : ℕ) (s : State) → c < case_count p → k < passes p
+      → o + cost.save + cost.meet ≤ limit (phase_at p c k + 1)
+      → Hold p h (end_of p h c) (phase_at p c k + 1) c o (way_to p c k ++ Exit ∷ Enter c ∷ End c ∷ []) s
+      → any (λ (e : Entry). e.next == end_of p h c) (now_in (exit_of p h) s.log) ≡ true → Told p h limit s.log
+      → Leads p h limit s (λ t. Hold p h (at.collect c) (phase_at p c (suc k)) c 0 (way_to p c k ++ pass_way c) t
+      × Saves p h s t × (now_in (exit_of p h) t.log ≡ []) × Told p h limit t.log)
   pub collect : (c k : ℕ) (s : State) → c < case_count p → k < passes p → cost.collect ≤ limit (phase_at p c (suc k))
-      → Hold p h (at.collect c) (phase_at p c (suc k)) c 0 (way_to p c (suc k)) s → s.mem (private_at h + 264) ≡ k → now_in (exit_of p h) s.log ≡ [] → Told p h limit s.log
-      → Leads p h limit s (λ t. Ready p h (at.turn c) (phase_at p c (suc k)) c cost.collect (way_to p c (suc k)) t × CollectsTo p h k (phase_at p c (suc k)) s t × Told p h limit t.log)
+      → Hold p h (at.collect c) (phase_at p c (suc k)) c 0 (way_to p c (suc k)) s → s.mem (private_at h + 264) ≡ k
+      → now_in (exit_of p h) s.log ≡ [] → Told p h limit s.log
+      → Leads p h limit s (λ t. Ready p h (at.turn c) (phase_at p c (suc k)) c cost.collect (way_to p c (suc k)) t
+      × CollectsTo p h k (phase_at p c (suc k)) s t × Told p h limit t.log)
   pub turn : (c k o : ℕ) (s : State) → c < case_count p → k < passes p → o + cost.turn ≤ limit (phase_at p c (suc k))
-      → Ready p h (at.turn c) (phase_at p c (suc k)) c o (way_to p c (suc k)) s → s.mem (private_at h + 264) ≡ k → Told p h limit s.log
-      → Leads p h limit s (λ t. Ready p h (if suc k == passes p then at.compare c else at.set c) (phase_at p c (suc k)) c (o + cost.turn) (way_to p c (suc k)) t × Counts p h (suc k) s t × Told p h limit t.log)
-  pub compare : (c o : ℕ) (m : CaseMask) (s : State) → c < case_count p → slice_get p.masks.cases c ≡ Some m → o + cost.compare ≤ limit (phase_at p (suc c) 0)
-      → Ready p h (at.compare c) (phase_at p (suc c) 0) c o (way_to p (suc c) 0) s → Passes p h c (passes p) s → Told p h limit s.log
+      → Ready p h (at.turn c) (phase_at p c (suc k)) c o (way_to p c (suc k)) s → s.mem (private_at h + 264) ≡ k
+      → Told p h limit s.log
+      → Leads p h limit s (λ t. Ready p h (if suc k == passes p then at.compare c
+      else at.set c) (phase_at p c (suc k)) c (o + cost.turn) (way_to p c (suc k)) t × Counts p h (suc k) s t
+      × Told p h limit t.log)
+  pub compare : (c o : ℕ) (m : CaseMask) (s : State) → c < case_count p → slice_get p.masks.cases c ≡ Some m
+      → o + cost.compare ≤ limit (phase_at p (suc c) 0)
+      → Ready p h (at.compare c) (phase_at p (suc c) 0) c o (way_to p (suc c) 0) s → Passes p h c (passes p) s
+      → Told p h limit s.log
       → Leads p h limit s (λ t. Ready p h (at.head (suc c)) (phase_at p (suc c) 0) (suc c) (o + cost.compare) (way_to p (suc c) 0 ++ (if suc c == case_count p then Halt ∷ [] else [])) t × Told p h limit t.log)
 
 -- The limits have room for the parts of each phase.
 pub record Rooms (p : Program) (cost : Costs) (limit : ℕ → ℕ) : Type 0 where
   pub opening : cost.begin + cost.reset + cost.first + cost.meet ≤ limit 0
   pub run : (c k : ℕ) → c < case_count p → k < passes p → cost.load + cost.save + cost.meet ≤ limit (phase_at p c k + 1)
-  pub between : (c k : ℕ) → c < case_count p → suc k < passes p → cost.collect + cost.turn + cost.first + cost.meet ≤ limit (phase_at p c (suc k))
-  pub next : (c : ℕ) → suc c < case_count p → cost.collect + cost.turn + cost.compare + cost.reset + cost.first + cost.meet ≤ limit (phase_at p (suc c) 0)
+  pub between : (c k : ℕ) → c < case_count p → suc k < passes p
+      → cost.collect + cost.turn + cost.first + cost.meet ≤ limit (phase_at p c (suc k))
+  pub next : (c : ℕ) → suc c < case_count p
+      → cost.collect + cost.turn + cost.compare + cost.reset + cost.first + cost.meet ≤ limit (phase_at p (suc c) 0)
   pub last : (c : ℕ) → suc c ≡ case_count p → cost.collect + cost.turn + cost.compare ≤ limit (phase_at p (suc c) 0)
 
 -- ---- between cases and passes
@@ -239,7 +273,8 @@ pub record Rooms (p : Program) (cost : Costs) (limit : ℕ → ℕ) : Type 0 whe
 -- The hart is at the first word of case c, or, behind the last case, at halt.
 pub record AtHead (p : Program) (h : ℕ) (at : Places) (cost : Costs) (limit : ℕ → ℕ) (c : ℕ) (t : State) : Type 0 where
   pub work : ℕ
-  pub ready : Ready p h (at.head c) (phase_at p c 0) c work (way_to p c 0 ++ (if c == case_count p then Halt ∷ [] else [])) t
+  pub ready : Ready p h (at.head c) (phase_at p c 0) c work (way_to p c 0
+      ++ (if c == case_count p then Halt ∷ [] else [])) t
   pub told : Told p h limit t.log
   pub room : c < case_count p → work + cost.reset + cost.first + cost.meet ≤ limit (phase_at p c 0)
 
@@ -252,14 +287,16 @@ pub record AtSet (p : Program) (h : ℕ) (at : Places) (cost : Costs) (limit : �
   pub room : work + cost.first + cost.meet ≤ limit (phase_at p c k)
 
 -- It has collected pass k of case c.
-pub record AtTurn (p : Program) (h : ℕ) (at : Places) (cost : Costs) (limit : ℕ → ℕ) (c k : ℕ) (t : State) : Type 0 where
+pub record AtTurn (p : Program) (h : ℕ) (at : Places) (cost : Costs) (limit : ℕ
+    → ℕ) (c k : ℕ) (t : State) : Type 0 where
   pub ready : Ready p h (at.turn c) (phase_at p c (suc k)) c cost.collect (way_to p c (suc k)) t
   pub counter : t.mem (private_at h + 264) ≡ k
   pub each : (j : ℕ) → j < suc k → PassTold p h c j t.log t.mem
   pub told : Told p h limit t.log
 
 -- It comes to compare the passes of case c.
-pub record AtCompare (p : Program) (h : ℕ) (at : Places) (cost : Costs) (limit : ℕ → ℕ) (c : ℕ) (t : State) : Type 0 where
+pub record AtCompare (p : Program) (h : ℕ) (at : Places) (cost : Costs) (limit : ℕ
+    → ℕ) (c : ℕ) (t : State) : Type 0 where
   pub ready : Ready p h (at.compare c) (phase_at p (suc c) 0) c (cost.collect + cost.turn) (way_to p (suc c) 0) t
   pub passes : Passes p h c (passes p) t
   pub told : Told p h limit t.log
