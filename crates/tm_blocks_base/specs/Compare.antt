@@ -12,13 +12,13 @@ use Rattle.tm_blocks_base.specs.Blocks.{constant}
 abbrev pub register_check : (found r : ℕ) → List Instr
 register_check found r =
     addi 8 0 r ∷ addi 6 0 1 ∷ slli 6 6 r ∷ and 6 6 5 ∷ beq 6 0 16 ∷ ld 6 (8 * (r - 1)) 1 ∷ ld 7 (8 * (r - 1)) 2
-        ∷ bne 6 7 (4 * found) ∷ []
+    ∷ bne 6 7 (4 * found) ∷ []
 
 -- Collected dword j, of whose bytes the mask at x4 says which are checked.
 abbrev pub dword_check : (found j : ℕ) → List Instr
 dword_check found j =
     addi 8 0 (31 + j) ∷ ld 6 (8 * (30 + j)) 1 ∷ ld 7 (8 * (30 + j)) 2 ∷ xor 6 6 7 ∷ ld 7 (8 * j) 4 ∷ and 6 6 7
-        ∷ bne 6 0 (4 * found) ∷ []
+    ∷ bne 6 0 (4 * found) ∷ []
 
 -- Of 8 and 7 instructions for each, as many follow as there are registers and dwords left; behind the last dword
 -- stands one more instruction before the end.

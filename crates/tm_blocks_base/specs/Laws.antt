@@ -255,9 +255,9 @@ pub data Compares (first other masks bytes n a : ℕ) : Type 0 where
 unfoldable pub check_reads : Table → (first other bytes registers i : ℕ) → List Access
 check_reads mem first other bytes registers i =
     if nat_lt i 30 then (if registers / 2 ^ (i + 1) % 2 == 1 then Read (other + 8 * i) 8 (mem (other + 8 * i))
-        ∷ Read (first + 8 * i) 8 (mem (first + 8 * i)) ∷ [] else [])
+    ∷ Read (first + 8 * i) 8 (mem (first + 8 * i)) ∷ [] else [])
     else Read (bytes + 8 * (i - 30)) 8 (mem (bytes + 8 * (i - 30))) ∷ Read (other + 8 * i) 8 (mem (other + 8 * i))
-        ∷ Read (first + 8 * i) 8 (mem (first + 8 * i)) ∷ []
+    ∷ Read (first + 8 * i) 8 (mem (first + 8 * i)) ∷ []
 
 -- the reads of n checks from dword i on, up to the first that finds a difference, the newest first
 abbrev pub reads_until : (ℕ → Bool) → (ℕ → List Access) → (i n : ℕ) → List Access
@@ -272,7 +272,7 @@ differs_in mem first other masks bytes = differs (mem masks) (λ j. mem (bytes +
 abbrev pub compare_reads : Table → (first other masks bytes n : ℕ) → List Access
 compare_reads mem first other masks bytes n =
     reads_until (differs_in mem first other masks bytes) (check_reads mem first other bytes (mem masks)) 0 (30 + n)
-        ++ Read masks 8 (mem masks) ∷ []
+    ++ Read masks 8 (mem masks) ∷ []
 
 -- the verdict on pass k over the memory: dword i of a saved state is at its address plus 8 * i
 abbrev pub verdict_in : Table → (first other masks bytes k n : ℕ) → ℕ

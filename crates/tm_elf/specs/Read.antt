@@ -61,7 +61,7 @@ elf_of bytes =
     unless_fault (header_fault bytes) (
     unless_fault (segment_fault (bad_segment bytes)) (
     if has_plan bytes then (if has_symbols bytes then with_symbols bytes (symbols_in bytes) else Err (BadSymbol 0))
-        else Err NoPlan))
+    else Err NoPlan))
 
 -- parts whose numbers are in the ranges of their types (this project)
 pub record InRange (p : Parts) : Type 0 where

@@ -49,4 +49,4 @@ unfoldable pub section_names : List ℕ
 section_names =
     0 ∷ flat_map (λ name. name ++ 0 ∷ [])
     (codes ".text" ∷ codes ".tables" ∷ codes ".work" ∷ codes ".tmplan" ∷ codes ".symtab" ∷ codes ".strtab"
-        ∷ codes ".shstrtab" ∷ [])
+    ∷ codes ".shstrtab" ∷ [])

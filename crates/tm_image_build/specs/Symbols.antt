@@ -14,7 +14,7 @@ symbol name addr = record { name = name; addr = addr }
 abbrev pub stream_symbols : Program → ℕ → ℕ → List Symbol
 stream_symbols p h c =
     symbol (codes "tm_s_" ++ decimal h ++ codes "_"
-        ++ decimal c) (slice_index p.marks.starts (h * length p.cases.cases + c))
+    ++ decimal c) (slice_index p.marks.starts (h * length p.cases.cases + c))
     ∷ symbol (codes "tm_e_" ++ decimal h ++ codes "_"
     ++ decimal c) (slice_index p.marks.ends (h * length p.cases.cases + c)) ∷ []
 

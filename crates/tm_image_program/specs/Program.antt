@@ -33,8 +33,12 @@ pub record Names : Type 0 where
 
 -- one case; all first bytes are 0
 unfoldable pub case_of : Names → List ℕ → Case
-case_of names words = record { name = names.case; streams = record { words = words; regs = first_registers }
-    ∷ []; first = zero_dwords }
+case_of names words = record {
+  name = names.case;
+  streams = record { words = words; regs = first_registers }
+      ∷ [];
+  first = zero_dwords;
+}
 
 -- one hart, one case, two passes, and window 0, shared by all, with one line of 64 bytes
 unfoldable pub cases_of : Names → List ℕ → Cases

@@ -82,10 +82,10 @@ IsFine bs ps = (list_all may_stand bs ≡ true) × (list_all (λ s. nat_le s.1.1
 abbrev pub IsFirstOf : ℕ → List ℕ → List (TokenKind × Span) → LexFault → Type 0
 IsFirstOf n bs ps (BadByte pos b) =
     (p : ℕ) × (pos ≡ record { line = n; col = p + 1 }) × (b ≡ slice_index bs p) × (is_bad_at bs p ≡ true)
-        × IsFineBefore bs ps p
+    × IsFineBefore bs ps p
 IsFirstOf n bs ps (LongWord pos) =
     (p : ℕ) × (pos ≡ record { line = n; col = p + 1 }) × (is_long_at ps p ≡ true) × (is_bad_at bs p ≡ false)
-        × IsFineBefore bs ps p
+    × IsFineBefore bs ps p
 IsFirstOf n bs ps NoMemory = ⊥
 
 -- lines from a number and a place on have these tokens: all is fine, and each line has a token at each of its parts

@@ -91,4 +91,4 @@ work_in p h q [] = 0
 work_in p h q (e ∷ past) =
     if lately_at p h 4 (e ∷ past) then work_in p h q past
     else (if phase_in (exit_of p h) past == q then one_outside (stream_at p h e.pc) (work_in p h q past)
-        else work_in p h q past)
+    else work_in p h q past)

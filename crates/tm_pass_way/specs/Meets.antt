@@ -36,8 +36,8 @@ phase_work p h first q [] = 0
 phase_work p h first q (s ∷ past) =
     if idle_lately p h 4 (s ∷ past) then phase_work p h first q past
     else (if phase (exit_of p h) past == q
-        then one_outside (stream_at p h (now first past).pc) (phase_work p h first q past)
-        else phase_work p h first q past)
+    then one_outside (stream_at p h (now first past).pc) (phase_work p h first q past)
+    else phase_work p h first q past)
 
 abbrev pub WritesLate : Program → ℕ → Hart → List Step → Type 0
 WritesLate p h first = Always (λ past s. (c v : ℕ) → c < case_count p → access_of s ≡ Write (verdict_at c h) 8 v

@@ -36,7 +36,7 @@ limit_at p pace q =
     if q % 2 == 1 then pace.runs
     else (if q == 0 then 64 + pace.sets
     else pace.ends + (if q / 2 % passes p == 0 then pace.compares else 0) + (if q == 2 * (case_count p * passes p)
-        then 0 else pace.sets))
+    then 0 else pace.sets))
 
 -- These limits have room for the parts, and a hart that keeps them keeps the pace.
 pub record LimitsServe (p : Program) (cost : Costs) : Type 0 where

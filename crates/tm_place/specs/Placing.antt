@@ -21,4 +21,4 @@ hot_line seed c w (Some v) = choice (draw seed c 62 w 0) v.lines
 unfoldable pub hot_lines : (seed c : ℕ) → List Window → List ℕ
 hot_lines seed c windows =
     hot_line seed c 0 (numbered windows 0) ∷ hot_line seed c 1 (numbered windows 1)
-        ∷ hot_line seed c 2 (numbered windows 2) ∷ []
+    ∷ hot_line seed c 2 (numbered windows 2) ∷ []

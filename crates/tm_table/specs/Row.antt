@@ -136,8 +136,7 @@ unfoldable pub after : Effect → Hart → ℕ → ℕ → ℕ → Hart × Acces
 after (Gives value) hart rd i read = (record { pc = word64 (hart.pc + 4); x = put hart.x rd value }, Quiet)
 after (Loads addr width with_sign) hart rd i read = (record { pc = word64 (hart.pc + 4); x = put hart.x rd (loaded with_sign width read) }, Read addr width read)
 after (Stores addr width value) hart rd i read = (record { pc = word64 (hart.pc + 4); x = hart.x }, Write addr width (value % 2 ^ (8 * width)))
-after (Branches taken) hart rd i read = (record { pc = (if taken then word64 (hart.pc + i)
-    else word64 (hart.pc + 4)); x = hart.x }, Quiet)
+after (Branches taken) hart rd i read = (record { pc = (if taken then word64 (hart.pc + i) else word64 (hart.pc + 4)); x = hart.x }, Quiet)
 after (Jumps link target) hart rd i read = (record { pc = target; x = put hart.x rd link }, Quiet)
 
 -- an instruction's effect at a hart (RV64I 2.1)

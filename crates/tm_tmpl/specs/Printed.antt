@@ -34,7 +34,7 @@ abbrev pub slot_words : SlotText → List (List ℕ)
 slot_words (Emit asm) = codes "emit" ∷ asm ∷ []
 slot_words (Mix n alu load store branch) =
     codes "mix" ∷ decimal n ∷ codes "alu" ∷ decimal alu ∷ codes "load" ∷ decimal load ∷ codes "store"
-        ∷ decimal store ∷ codes "branch" ∷ decimal branch ∷ []
+    ∷ decimal store ∷ codes "branch" ∷ decimal branch ∷ []
 
 -- the words of a statement
 unfoldable pub words_of : Statement → List (List ℕ)

@@ -58,7 +58,7 @@ pieces_of (p, body whom) = opening p want.Statement (codes "body") ∷ (whom_pie
 pieces_of (p, slot (Emit a)) = opening p want.Statement (codes "emit") ∷ asm_line a ∷ the_end ∷ []
 pieces_of (p, slot (Mix n alu load store branch)) =
     opening p want.Statement (codes "mix") ∷ a_number n ∷ fixed want.Class (codes "alu") ∷ a_number alu
-        ∷ fixed want.Class (codes "load") ∷ a_number load
+    ∷ fixed want.Class (codes "load") ∷ a_number load
     ∷ fixed want.Class (codes "store") ∷ a_number store ∷ fixed want.Class (codes "branch") ∷ a_number branch
     ∷ the_end ∷ []
 

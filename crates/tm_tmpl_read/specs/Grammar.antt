@@ -106,11 +106,16 @@ pub record Parts : Type 0 where
 abbrev pub put : At → Parts → Parts
 put (p, template n) r = record r { made = record r.made { name = n; windows = r.windows_left } }
 put (p, passes n) r = record r { made = record r.made { passes = n; passes_at = p } }
-put (p, window w k n) r = record r { windows_left = (record { at = p; number = w; kind = k; lines = n })
-    ∷ r.windows_left }
+put (p, window w k n) r = record r {
+  windows_left = (record { at = p; number = w; kind = k; lines = n })
+      ∷ r.windows_left;
+}
 put (p, case_of n) r = record r { bodies_left = []; made = record r.made { cases = (record { at = p; name = n; bodies = r.bodies_left }) ∷ r.made.cases } }
-put (p, body s) r = record r { slots_left = []; bodies_left = (record { at = p; whom = s; slots = r.slots_left })
-    ∷ r.bodies_left }
+put (p, body s) r = record r {
+  slots_left = [];
+  bodies_left = (record { at = p; whom = s; slots = r.slots_left })
+      ∷ r.bodies_left;
+}
 put (p, slot s) r = record r { slots_left = (record { at = p; what = s }) ∷ r.slots_left }
 
 -- what statements make, the last one first

@@ -17,7 +17,7 @@ use Rattle.tm_world.specs.Writers.{run_phase}
 abbrev pub left_with : Program → ℕ → ℕ → ℕ → Hart → List Step → Option Hart
 left_with p h c q first = earliest (λ past s.
     if (phase (exit_of p h) past == q) && (inside p h c (now first past).pc && not (inside p h c s.after.pc))
-        then Some s.after else None)
+    then Some s.after else None)
 
 -- what the hart's first read of b in phase q returned
 abbrev pub first_read : Program → ℕ → ℕ → ℕ → List Step → Option ℕ

@@ -54,7 +54,7 @@ round_of_phase p q =
 abbrev pub case_of_phase : Program → ℕ → Option ℕ
 case_of_phase p q =
     if (q % 2 == 1) && nat_lt (q / 2) (round_count p * passes p) then Some (case_of_round p (q / 2 / passes p))
-        else None
+    else None
 
 -- In the run phase of a case a shared byte may be written by each hart with a store slot that covers it.
 abbrev pub may_write_running : Program → Option ℕ → ℕ → ℕ → Bool
