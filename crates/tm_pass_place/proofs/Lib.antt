@@ -1,2 +1,4 @@
 pub mod Fits
 pub mod Comparing
+pub mod Sizes
+pub mod Sites
