@@ -2,3 +2,4 @@ pub mod Fits
 pub mod Comparing
 pub mod Sizes
 pub mod Sites
+pub mod Cases

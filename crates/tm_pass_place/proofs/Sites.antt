@@ -78,7 +78,7 @@ module _ (p : Program) (shaped : AreShaped p.cases) (is : IsBuilt p) where
     pub ends-low : (c : ℕ) → c < C → heads h (suc c) ≤ halt_of p h
     ends-low c l = omega (arith, up (suc c) C (omega arith) (omega arith), is.halts h number)
 
-    barrier-is : barrier p B is some h ≡ halt_of p h + 4
+    pub barrier-is : barrier p B is some h ≡ halt_of p h + 4
     barrier-is = omega (arith, is.halts h number, ap (skip (B h) 0 (streams_of p.cases h)) (count p.cases shaped h))
 
     module _ (c : ℕ) (few : c < C) where
@@ -100,7 +100,7 @@ module _ (p : Program) (shaped : AreShaped p.cases) (is : IsBuilt p) where
       pub behind-clear : (lo hi : ℕ) → end_of p h c ≤ lo → hi < heads h (suc c) → Clear p h lo hi
       behind-clear lo hi l m = clear-behind p base heads spreads h number c lo hi few l m
 
-      code-before : At (support_at p h) (heads h c) (before p B is some h c)
+      pub code-before : At (support_at p h) (heads h c) (before p B is some h c)
       code-before =
           let place : text_base + 4 * head p B is some h c ≡ heads h c = omega arith in
           let fit = fits-before p.cases shaped h c number few (far-before p B is some h c) far-even (omega (arith, far-low)) in
@@ -111,7 +111,7 @@ module _ (p : Program) (shaped : AreShaped p.cases) (is : IsBuilt p) where
           (stands-code p h (before p B is some h c) (head p B is some h c) (all-fit (before p B is some h c) fit) (before-at p B is some h c number few)
           (λ j l. clear-outside p h (heads h c) (start_of p h c - 4) (text_base + 4 * (head p B is some h c + j)) free (omega arith) (omega arith)))
 
-      code-behind : At (support_at p h) (end_of p h c) (behind p B is some h c)
+      pub code-behind : At (support_at p h) (end_of p h c) (behind p B is some h c)
       code-behind =
           let k = head p B is some h c + before_size (B h) c + length (words h c) in
           let place : text_base + 4 * k ≡ end_of p h c = omega (arith, is.starts h c number few, is.ends h c number few) in
