@@ -3,3 +3,4 @@ pub mod Comparing
 pub mod Sizes
 pub mod Sites
 pub mod Cases
+pub mod Tables
