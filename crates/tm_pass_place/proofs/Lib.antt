@@ -4,3 +4,4 @@ pub mod Sizes
 pub mod Sites
 pub mod Cases
 pub mod Tables
+pub mod Placed
