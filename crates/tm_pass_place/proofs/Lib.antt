@@ -5,3 +5,4 @@ pub mod Sites
 pub mod Cases
 pub mod Tables
 pub mod Placed
+pub mod Sound
