@@ -1,28 +1,28 @@
 -- The parts of each case stand in their places.
-use Rattle.std.proofs.Common.{◌≡◌, ◌≢◌, ◌⊎◌, inl, inr, ℕ, zero, suc, ◌+◌, ◌-◌, ◌*◌, ◌%◌, ◌^◌, ◌<◌, ◌≤◌, List, [], ◌∷◌, ◌++◌, length, Option, None, Some, refl, sym, ap, ◌∙◌, subst, arith, length-append}
+use Rattle.std.proofs.Common.{◌≡◌, ◌≢◌, ◌⊎◌, inl, inr, ℕ, suc, ◌+◌, ◌-◌, ◌*◌, ◌<◌, ◌≤◌, List, [], ◌∷◌, ◌++◌, length, Option, refl, subst, arith, length-append}
 use Rattle.tm_table.specs.declared.instr.Instr.{Instr}
 use Rattle.tm_plan_cases.specs.declared.program.Program.{Program}
 use Rattle.tm_plan_cases.specs.Shaped.{AreShaped}
-use Rattle.tm_plan_map.specs.Map.{text_base, private_at, verdict_at, save_at}
-use Rattle.tm_world.specs.Place.{harts, case_count, passes, start_of, end_of, exit_of, halt_of}
+use Rattle.tm_plan_map.specs.Map.{text_base, verdict_at, save_at}
+use Rattle.tm_world.specs.Place.{harts, case_count, start_of, end_of, exit_of, halt_of}
 use Rattle.tm_runs.specs.Runs.{At}
 use Rattle.tm_runs.specs.World.{support_at}
 use Rattle.tm_runs.proofs.Tables.{at_front, at_next}
 use Rattle.tm_blocks_base.specs.Instrs.{sd}
 use Rattle.tm_blocks_base.specs.Blocks.{load_registers, save_registers}
-use Rattle.tm_blocks_base.proofs.Lengths.{length-load_registers, length-save_registers}
+use Rattle.tm_blocks_base.proofs.Lengths.{length-save_registers}
 use Rattle.tm_blocks_move.specs.Lines.{first_bytes, collect_all}
 use Rattle.tm_blocks_compare.specs.Words.{compare_all, compare_all_but_last, case_masks, case_bytes}
-use Rattle.tm_pass_text.specs.Words.{call, reset, aim, turn, before_size, behind_size, case_before, case_behind, back_words}
+use Rattle.tm_pass_text.specs.Words.{call, reset, aim, turn, case_before, case_behind, back_words}
 use Rattle.tm_pass_text.proofs.Laying.{barrier, far-before, far-behind}
 use Rattle.tm_pass_way.specs.Calm.{Clear, StreamClear}
 use Rattle.tm_pass_way.proofs.Clears.{stream-clear}
 use Rattle.tm_pass_steps.specs.Hart.{IsBuilt, registers_at, first_at}
 use Rattle.tm_pass_steps.specs.Sites.{CallSite}
-use Rattle.tm_pass_steps.specs.Turning.{Plain, TurnSite}
+use Rattle.tm_pass_steps.specs.Turning.{Plain}
 use Rattle.tm_pass_steps.specs.Placed.{ResetPlaced, SavePlaced, CollectPlaced, TurnPlaced}
 use Rattle.tm_pass_place.specs.Places.{first_long, collect_long}
-use Rattle.tm_pass_place.proofs.Sites.{C, B, words, some, base, heads, spreads, next, start-is, ends-low, up, barrier-is, before-clear, behind-clear, code-before, code-behind}
+use Rattle.tm_pass_place.proofs.Sites.{B, words, some, base, heads, spreads, next, start-is, ends-low, barrier-is, before-clear, behind-clear, code-before, code-behind}
 
 -- behind the first of clear words no mark is at one of them
 clear-plain : (p : Program) (h lo hi x : ℕ) → Clear p h lo hi → lo < x → x ≤ hi → Plain p h x

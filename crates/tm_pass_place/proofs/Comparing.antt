@@ -1,16 +1,16 @@
 -- The instructions that compare passes fit into their words, and how many there are.
-use Rattle.std.proofs.Common.{◌≡◌, ℕ, zero, suc, ◌+◌, ◌-◌, ◌*◌, ◌/◌, ◌%◌, ◌^◌, ◌<◌, ◌≤◌, Bool, true, false, ◌==◌, List, [], ◌∷◌, ◌++◌, length, refl, ap, arith, length-append}
+use Rattle.std.proofs.Common.{◌≡◌, ℕ, ◌+◌, ◌-◌, ◌*◌, ◌/◌, ◌^◌, ◌<◌, ◌≤◌, Bool, true, false, ◌==◌, List, [], ◌∷◌, ◌++◌, length, arith, length-append}
 use Rattle.std.specs.Prelude.{if◌then◌else◌}
 use Rattle.std.proofs.Math.Nat.{mul-le-mul_left}
 use Rattle.tm_table.specs.declared.instr.Instr.{Instr}
 use Rattle.tm_plan_cases.specs.declared.cases.Cases.{Cases}
 use Rattle.tm_plan_cases.specs.Shaped.{AreShaped}
-use Rattle.tm_blocks_base.specs.Instrs.{addi, ld, sd, beq, bne, jump, slli, add, xor, and, subi, bne_back}
+use Rattle.tm_blocks_base.specs.Instrs.{addi, ld, sd}
 use Rattle.tm_blocks_base.specs.Blocks.{constant}
 use Rattle.tm_blocks_base.proofs.Lengths.{length-constant}
 use Rattle.tm_blocks_base.proofs.Fitting.{addi_fits, slli_fits, add_fits, xor_fits, and_fits, ld_fits, sd_fits, beq_fits, bne_fits, jump_fits, subi_fits, bne_back_fits}
 use Rattle.tm_plan_owned.specs.Lines.{line_count, line_place}
-use Rattle.tm_plan_owned.proofs.Reach.{Reach, reach, line_most}
+use Rattle.tm_plan_owned.proofs.Reach.{reach, line_most}
 use Rattle.tm_blocks_compare.specs.Words.{register_loop, line_turn, window_check, own_check, last_check, next_check, first_check, pass_head, pass_body, pass_tail, one_pass, all_passes, closing, compare_all_but_last, compare_all}
 use Rattle.tm_blocks_compare.proofs.Lengths.{length-window, pass-short}
 use Rattle.tm_pass_place.proofs.Fits.{Fitting, Nil, Fit, fit-append, fit-constant}

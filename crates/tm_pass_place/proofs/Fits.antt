@@ -1,8 +1,7 @@
 -- The instructions of support code fit into their words.
-use Rattle.std.proofs.Common.{◌≡◌, ℕ, zero, suc, ◌+◌, ◌-◌, ◌*◌, ◌/◌, ◌%◌, ◌^◌, ◌<◌, ◌≤◌, Bool, true, false, ◌==◌, List, [], ◌∷◌, ◌++◌, length, map, flat_map, arith, rules, refl, subst}
+use Rattle.std.proofs.Common.{◌≡◌, ℕ, zero, suc, ◌+◌, ◌-◌, ◌*◌, ◌/◌, ◌%◌, ◌^◌, ◌<◌, ◌≤◌, Bool, true, false, ◌==◌, List, [], ◌∷◌, ◌++◌, map, flat_map, arith, rules}
 use Rattle.std.specs.Prelude.{if◌then◌else◌}
 use Rattle.std.proofs.lemmas.Int.{ints}
-use Rattle.std.proofs.Math.Nat.{mul-le-mul_left}
 use Rattle.tm_table.specs.declared.instr.Instr.{Instr}
 use Rattle.tm_table.specs.Words.{Fits}
 use Rattle.tm_base.specs.Lists.{count_from}
@@ -10,11 +9,11 @@ use Rattle.tm_plan_map.specs.Map.{windows_base}
 use Rattle.tm_plan_cases.specs.declared.cases.Cases.{Cases}
 use Rattle.tm_plan_cases.specs.Shaped.{AreShaped}
 use Rattle.tm_asm.specs.Sheet.{AllFit}
-use Rattle.tm_blocks_base.specs.Instrs.{addi, ld, sd, beq, bne, jump, jump_back, slli, add, xor, and, subi, bne_back, bltu_back, fence, go_to}
+use Rattle.tm_blocks_base.specs.Instrs.{addi, ld, sd}
 use Rattle.tm_blocks_base.specs.Blocks.{shift_in, constant, load_registers, save_registers, copy_dword, copy_dwords}
-use Rattle.tm_blocks_base.proofs.Fitting.{addi_fits, slli_fits, add_fits, xor_fits, and_fits, ld_fits, sd_fits, beq_fits, bne_fits, jump_fits, jump_back_fits, subi_fits, bne_back_fits, bltu_back_fits, go_to_fits, fence_fits}
-use Rattle.tm_plan_owned.specs.Lines.{line_count, line_place, three}
-use Rattle.tm_plan_owned.proofs.Reach.{Reach, reach, line_most, stride_most}
+use Rattle.tm_blocks_base.proofs.Fitting.{addi_fits, slli_fits, add_fits, ld_fits, sd_fits, beq_fits, jump_fits, jump_back_fits, subi_fits, bne_back_fits, bltu_back_fits, go_to_fits, fence_fits}
+use Rattle.tm_plan_owned.specs.Lines.{line_count, line_place}
+use Rattle.tm_plan_owned.proofs.Reach.{reach, line_most, stride_most}
 use Rattle.tm_blocks_move.specs.Words.{line_turn, lines_loop, move_lines}
 use Rattle.tm_blocks_move.specs.Lines.{half_stride, first_window, first_bytes, collect_window, collect_windows, collect_all}
 use Rattle.tm_barrier.specs.Words.{prepare, signal, wait, turn, waits, meet, barrier}

@@ -1,5 +1,5 @@
 -- A built text has each part of each hart's program in its place.
-use Rattle.std.proofs.Common.{◌≡◌, ◌≢◌, ◌⊎◌, inl, inr, ℕ, zero, suc, ◌+◌, ◌-◌, ◌*◌, ◌%◌, ◌^◌, ◌<◌, ◌≤◌, Bool, true, false, ◌==◌, eqb-true, List, [], ◌∷◌, ◌++◌, length, Option, Some, refl, sym, ap, ◌∙◌, subst, arith}
+use Rattle.std.proofs.Common.{◌≡◌, ◌⊎◌, inl, inr, ℕ, zero, suc, ◌+◌, ◌-◌, ◌*◌, ◌<◌, ◌≤◌, Bool, true, false, ◌==◌, eqb-true, List, [], ◌∷◌, ◌++◌, length, Option, Some, refl, sym, ap, ◌∙◌, subst, arith}
 use Rattle.std.specs.Prelude.{slice_get, if◌then◌else◌}
 use Rattle.std.proofs.lemmas.Bool.{cases_lt, eqb-false}
 use Rattle.tm_table.specs.declared.instr.Instr.{Instr}
@@ -11,7 +11,7 @@ use Rattle.tm_plan_cases.specs.Shaped.{IsProgram, IsTyped}
 use Rattle.tm_plan_cases.specs.Tables.{table_bytes}
 use Rattle.tm_plan_map.specs.Map.{text_base, private_at}
 use Rattle.tm_world.specs.Place.{harts, case_count, start_of, end_of, exit_of, halt_of}
-use Rattle.tm_world.specs.Marks.{Mark, Halt, arrivals}
+use Rattle.tm_world.specs.Marks.{Halt, arrivals}
 use Rattle.tm_runs.specs.Runs.{At}
 use Rattle.tm_runs.specs.World.{support_at}
 use Rattle.tm_runs.proofs.Arrivals.{Quiet, quiet-off, arrivals-none, arrivals-halt}
@@ -28,15 +28,15 @@ use Rattle.tm_pass_way.specs.Meets.{Halts}
 use Rattle.tm_pass_way.proofs.Clears.{clear-opening, halts}
 use Rattle.tm_pass_steps.specs.Hart.{IsBuilt, registers_at, first_at}
 use Rattle.tm_pass_steps.specs.Beginning.{GateSite}
-use Rattle.tm_pass_steps.specs.Judging.{CompareSite, mark_behind}
+use Rattle.tm_pass_steps.specs.Judging.{mark_behind}
 use Rattle.tm_pass_steps.specs.Placed.{HartPlaced, BeginPlaced, ComparePlaced}
 use Rattle.tm_pass_steps.proofs.Building.{barrier-placed}
 use Rattle.tm_pass_steps.proofs.Placing.{stands-code}
-use Rattle.tm_pass_place.specs.Places.{first_long, places_of}
+use Rattle.tm_pass_place.specs.Places.{places_of}
 use Rattle.tm_pass_place.specs.Placed.{HartsArePlaced}
 use Rattle.tm_pass_place.proofs.Fits.{all-fit}
 use Rattle.tm_pass_place.proofs.Sizes.{fits-opening, fits-barrier}
-use Rattle.tm_pass_place.proofs.Sites.{C, B, some, base, heads, spreads, up, ends-low, clear-outside, behind-clear}
+use Rattle.tm_pass_place.proofs.Sites.{B, some, base, heads, spreads, up, ends-low, clear-outside, behind-clear}
 use Rattle.tm_pass_place.proofs.Cases.{compare-from, but-last, reset-placed, first-code, first-clear, load-code, load-clear, load-to, call-site, streams-clear, save-placed, recall-site, collect-placed, turn-placed, compare-code, store-code, compare-to}
 use Rattle.tm_pass_place.proofs.Tables.{whole, first-table, register-table, mask-fixed, byte-fixed, has-masks}
 
@@ -56,7 +56,6 @@ get-some (x ∷ xs) zero l = (x, refl)
 get-some (x ∷ xs) (suc k) l = get-some xs k (omega arith)
 
 module _ (p : Program) (program : IsProgram p) (typed : IsTyped p) (is : IsBuilt p) (tables : p.tables ≡ table_bytes p.cases p.masks) (h : ℕ) (number : h < harts p) where
-
   abbrev b : ℕ → ℕ
   b = base_of (B p program.cases is) p.cases
 

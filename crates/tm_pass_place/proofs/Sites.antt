@@ -1,33 +1,27 @@
 -- Where the words of each part of a hart's program stand in a built text, and that its way from part to part is clear.
-use Rattle.std.proofs.Common.{◌≡◌, ◌≢◌, ◌⊎◌, inl, inr, ℕ, zero, suc, ◌+◌, ◌-◌, ◌*◌, ◌%◌, ◌^◌, ◌<◌, ◌≤◌, List, [], ◌∷◌, ◌++◌, length, None, Some, refl, sym, ap, ◌∙◌, subst, arith, length-append}
+use Rattle.std.proofs.Common.{◌≡◌, ◌≢◌, ◌⊎◌, inl, inr, ℕ, suc, ◌+◌, ◌-◌, ◌*◌, ◌%◌, ◌<◌, ◌≤◌, List, [], length, None, ap, subst, arith}
 use Rattle.std.specs.Prelude.{slice_index_or}
-use Rattle.tm_table.specs.declared.instr.Instr.{Instr}
 use Rattle.tm_plan_cases.specs.declared.program.Program.{Program}
 use Rattle.tm_plan_cases.specs.Shaped.{AreShaped}
-use Rattle.tm_plan_map.specs.Map.{text_base, private_at, verdict_at, save_at}
-use Rattle.tm_world.specs.Place.{harts, case_count, passes, start_of, end_of, exit_of, halt_of}
+use Rattle.tm_plan_map.specs.Map.{text_base}
+use Rattle.tm_world.specs.Place.{harts, case_count, start_of, end_of, halt_of}
 use Rattle.tm_world.specs.Kinds.{stream_at}
 use Rattle.tm_runs.specs.Runs.{At}
 use Rattle.tm_runs.specs.World.{support_at}
 use Rattle.tm_runs.proofs.Arrivals.{stream-none, inside-false}
-use Rattle.tm_runs.proofs.Tables.{at_front, at_next}
-use Rattle.tm_blocks_base.specs.Instrs.{sd}
-use Rattle.tm_blocks_base.specs.Blocks.{constant, load_registers, save_registers}
-use Rattle.tm_blocks_base.proofs.Lengths.{length-load_registers, length-save_registers}
-use Rattle.tm_blocks_move.specs.Lines.{first_bytes, collect_all}
-use Rattle.tm_blocks_compare.specs.Words.{compare_all, compare_all_but_last, case_masks, case_bytes}
-use Rattle.tm_pass_text.specs.Words.{Blocks, call, gate, reset, aim, turn, before_size, behind_size, case_size, case_before, case_behind, back_words, skip, opening_size, hart_size, streams_of, place_of, base_of, head_of}
+use Rattle.tm_blocks_base.proofs.Lengths.{length-load_registers}
+use Rattle.tm_pass_text.specs.Words.{Blocks, before_size, behind_size, back_words, skip, streams_of, base_of, head_of}
 use Rattle.tm_pass_text.specs.Spread.{Spread}
-use Rattle.tm_pass_text.proofs.Laying.{spread, head, barrier, far-before, far-behind, before, behind, before-at, behind-at, opening-at, skip-next}
+use Rattle.tm_pass_text.proofs.Laying.{spread, head, barrier, far-before, far-behind, before, behind, before-at, behind-at, skip-next}
 use Rattle.tm_pass_text.proofs.Spreads.{head-up}
 use Rattle.tm_pass_text.proofs.Stands.{length-before, length-behind}
-use Rattle.tm_pass_way.specs.Calm.{Clear, StreamClear}
-use Rattle.tm_pass_way.proofs.Clears.{stream-clear, clear-before, clear-behind, clear-opening}
-use Rattle.tm_pass_steps.specs.Hart.{blocks_of, IsBuilt, registers_at, first_at}
+use Rattle.tm_pass_way.specs.Calm.{Clear}
+use Rattle.tm_pass_way.proofs.Clears.{clear-before, clear-behind}
+use Rattle.tm_pass_steps.specs.Hart.{blocks_of, IsBuilt, registers_at}
 use Rattle.tm_pass_steps.proofs.Placing.{stands-code}
-use Rattle.tm_pass_place.specs.Places.{first_long, collect_long}
+use Rattle.tm_pass_place.specs.Places.{first_long}
 use Rattle.tm_pass_place.proofs.Fits.{all-fit}
-use Rattle.tm_pass_place.proofs.Sizes.{count, stream-size, short-case, fits-before, fits-behind, short-hart, fits-opening}
+use Rattle.tm_pass_place.proofs.Sizes.{count, stream-size, fits-before, fits-behind, short-hart}
 
 -- where words are clear, each of them is outside the streams and not at the halt mark
 pub clear-outside : (p : Program) (h lo hi x : ℕ) → Clear p h lo hi → lo ≤ x → x ≤ hi → (stream_at p h x ≡ None) × (x ≢ halt_of p h)

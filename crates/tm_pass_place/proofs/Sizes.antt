@@ -1,29 +1,25 @@
 -- How many words each part of a hart's program has, and that all of them fit.
-use Rattle.std.proofs.Common.{◌≡◌, ℕ, zero, suc, ◌+◌, ◌-◌, ◌*◌, ◌%◌, ◌^◌, ◌<◌, ◌≤◌, Bool, true, false, ◌==◌, List, [], ◌∷◌, ◌++◌, length, flat_map, refl, sym, ap, ◌∙◌, subst, arith, length-append}
+use Rattle.std.proofs.Common.{◌≡◌, ℕ, zero, suc, ◌+◌, ◌-◌, ◌*◌, ◌%◌, ◌^◌, ◌<◌, ◌≤◌, Bool, true, false, ◌==◌, List, [], ◌∷◌, ◌++◌, length, flat_map, ap, arith, length-append}
 use Rattle.std.specs.Prelude.{slice_get, slice_index_or, if◌then◌else◌}
 use Rattle.std.proofs.lemmas.List.{length-map}
 use Rattle.std.proofs.Math.Nat.{mul-le-mul_left}
-use Rattle.tm_table.specs.declared.instr.Instr.{Instr}
 use Rattle.tm_plan_cases.specs.declared.cases.Case.{Case}
 use Rattle.tm_plan_cases.specs.declared.cases.Cases.{Cases}
-use Rattle.tm_plan_cases.specs.declared.program.Program.{Program}
 use Rattle.tm_plan_cases.specs.Shaped.{AreShaped}
-use Rattle.tm_plan_map.specs.Map.{tables_base, table_at, private_at, save_at, verdict_at, text_base}
+use Rattle.tm_plan_map.specs.Map.{tables_base, table_at, private_at, save_at, verdict_at}
 use Rattle.tm_base.specs.Lists.{count_from}
-use Rattle.tm_world.specs.Place.{harts, case_count}
 use Rattle.tm_legal.proofs.Streams.{stream-of, shaped-stream}
 use Rattle.tm_blocks_base.specs.Instrs.{fence, go_to}
-use Rattle.tm_blocks_base.specs.Blocks.{constant, load_registers, save_registers}
+use Rattle.tm_blocks_base.specs.Blocks.{constant}
 use Rattle.tm_blocks_base.proofs.Lengths.{length-load_registers, length-save_registers}
-use Rattle.tm_blocks_move.specs.Lines.{first_bytes, collect_all}
 use Rattle.tm_blocks_move.proofs.Sizes.{length-first, length-collect}
-use Rattle.tm_blocks_compare.specs.Words.{compare_all, case_masks, case_bytes}
-use Rattle.tm_barrier.specs.Words.{prepare, signal, wait, turn, waits, meet, barrier}
-use Rattle.tm_pass_text.specs.Words.{Blocks, call, gate, aim, before_size, case_size, case_before, case_behind, back_words, skip, opening_size, hart_size, words_at, streams_of}
+use Rattle.tm_blocks_compare.specs.Words.{case_masks, case_bytes}
+use Rattle.tm_barrier.specs.Words.{prepare, wait, turn, waits, meet, barrier}
+use Rattle.tm_pass_text.specs.Words.{Blocks, gate, case_size, case_before, case_behind, back_words, hart_size, words_at, streams_of}
 use Rattle.tm_pass_text.proofs.Laying.{stream-words}
 use Rattle.tm_pass_text.proofs.Room.{hart-fits}
 use Rattle.tm_pass_steps.specs.Hart.{registers_at, first_at, blocks_of}
-use Rattle.tm_pass_place.proofs.Fits.{Fitting, Nil, Fit, fit-append, fit-constant, fit-loads, fit-saves, fit-first, fit-collect, fit-barrier, fit-call, fit-reset, fit-aim, fit-pass, fit-gate}
+use Rattle.tm_pass_place.proofs.Fits.{Fitting, fit-append, fit-constant, fit-loads, fit-saves, fit-first, fit-collect, fit-barrier, fit-call, fit-reset, fit-aim, fit-pass, fit-gate}
 use Rattle.tm_pass_place.proofs.Comparing.{fit-compare, compare-short}
 
 waits-short : (h a n : ℕ) → length (flat_map (turn h) (count_from a n)) ≤ 2 * n
@@ -140,7 +136,7 @@ module _ (cases : Cases) (shaped : AreShaped cases) where
       let a = shaped.harts in
       let b = shaped.count in
       let whole = hart-fits (B h) (ss h) (omega (arith, barrier-short h N))
-          (λ d s m e. let few : d < C = omega (arith, count h) in short-case h d l few (length s) (omega (arith, ap length e, (stream-size h d l few).1))) in
+      (λ d s m e. let few : d < C = omega (arith, count h) in short-case h d l few (length s) (omega (arith, ap length e, (stream-size h d l few).1))) in
       omega (arith, count h)
 
   pub fits-opening : (h : ℕ) → h < N → Fitting (gate h (4 * (hart_size (B h) (ss h) - 2)) ++ constant 31 (private_at h))

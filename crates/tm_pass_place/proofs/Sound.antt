@@ -1,6 +1,5 @@
 -- Built programs keep what makes them sound.
-use Rattle.std.proofs.Common.{◌≡◌, ℕ, zero, suc, ◌+◌, ◌-◌, ◌*◌, ◌<◌, ◌≤◌, List, length, sym, ap, ◌∙◌, subst, arith}
-use Rattle.std.proofs.Math.Nat.{mul-le-mul_left}
+use Rattle.std.proofs.Common.{◌≡◌, ℕ, ◌+◌, ◌*◌, ◌<◌, ◌≤◌, List, length, arith}
 use Rattle.tm_table.specs.State.{Hart}
 use Rattle.tm_plan_cases.specs.declared.program.Program.{Program}
 use Rattle.tm_plan_cases.specs.Collected.{owned}
@@ -11,14 +10,12 @@ use Rattle.tm_world.specs.Kinds.{first_of_hart}
 use Rattle.tm_world.specs.Run.{Step, own}
 use Rattle.tm_world.specs.Whole.{Laid}
 use Rattle.tm_legal.specs.Tame.{Formed}
-use Rattle.tm_meet.specs.First.{SetsFirst}
 use Rattle.tm_meet.proofs.Dwords.{dwords-set}
 use Rattle.tm_pace.specs.Pace.{Pace, KeepsPace, PaceFits}
 use Rattle.tm_sound.specs.Parts.{HartParts}
 use Rattle.tm_sound.proofs.Sound.{sound}
 use Rattle.tm_pass_text.proofs.Laying.{text-laid}
 use Rattle.tm_pass_way.specs.Pace.{KeepsPace as KeepsLimits, pace_of}
-use Rattle.tm_pass_way.specs.Parts.{Costs}
 use Rattle.tm_pass_steps.specs.Hart.{blocks_of, IsBuilt}
 use Rattle.tm_pass_steps.specs.Placed.{costs_of}
 use Rattle.tm_pass_steps.proofs.Placed.{placed-paces}

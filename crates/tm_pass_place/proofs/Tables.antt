@@ -1,15 +1,14 @@
 -- What the image of a program holds in the table of each case.
-use Rattle.std.proofs.Common.{◌≡◌, ℕ, zero, suc, ◌+◌, ◌-◌, ◌*◌, ◌%◌, ◌^◌, ◌<◌, ◌≤◌, true, List, [], ◌∷◌, ◌++◌, length, take, drop, Some, refl, sym, ap, ◌∙◌, subst, arith, append_assoc, length-append, length-drop}
+use Rattle.std.proofs.Common.{◌≡◌, ℕ, zero, suc, ◌+◌, ◌-◌, ◌*◌, ◌%◌, ◌<◌, ◌≤◌, true, List, [], ◌∷◌, ◌++◌, length, drop, Some, refl, sym, ap, ◌∙◌, arith, append_assoc, length-drop}
 use Rattle.std.specs.Prelude.{slice_get, slice_index}
 use Rattle.std.proofs.lemmas.List.{get_or_append_left, get_or-append-add, get_or-take, get_or-drop}
 use Rattle.std.proofs.Math.Nat.{mul-le-mul_left}
 use Rattle.std.proofs.lemmas.Option.{slice_get_within}
 use Rattle.tm_plan_cases.specs.declared.cases.Case.{Case}
-use Rattle.tm_plan_cases.specs.declared.cases.Cases.{Cases}
 use Rattle.tm_plan_cases.specs.declared.cases.Stream.{Stream}
 use Rattle.tm_plan_cases.specs.declared.masks.CaseMask.{CaseMask}
 use Rattle.tm_plan_cases.specs.declared.program.Program.{Program}
-use Rattle.tm_plan_map.specs.Map.{tables_base, table_at, private_at, windows_base, windows_size}
+use Rattle.tm_plan_map.specs.Map.{tables_base, table_at, windows_base, windows_size}
 use Rattle.tm_plan_cases.specs.Collected.{owned}
 use Rattle.tm_plan_cases.specs.Shaped.{IsProgram, IsTyped, IsShapedCase, IsShapedMask}
 use Rattle.tm_plan_cases.specs.Layout.{table_size, HasTables}
@@ -175,11 +174,11 @@ module _ (p : Program) (program : IsProgram p) (typed : IsTyped p) (tables : p.t
         let long : length (drop 1 s.regs) ≡ 31 = length-drop 1 s.regs ∙ omega (arith, typed.count c h case s here e) in
         image-dword p (table_at N c + 256 * h + 8 * i) (slice_index s.regs (i + 1)) sizes (typed.regs c h case s here e (i + 1))
         (λ b m.
-            let a : table_at N c + 256 * h + 8 * i + b ≡ table_at N c + 256 * h + (8 * i + b) = omega arith in
-            ap (image_byte p) a
-            ∙ (hart-byte s (8 * i + b) e (omega arith)
-            ∙ (byte-of-dwords (drop 1 s.regs) (dword_bytes (slice_index mask.regs h)) i b (omega arith) m
-            ∙ ap (λ (v : ℕ). byte_of v b) (index-drop s.regs i ∙ ap (slice_index s.regs) next))))
+        let a : table_at N c + 256 * h + 8 * i + b ≡ table_at N c + 256 * h + (8 * i + b) = omega arith in
+        ap (image_byte p) a
+        ∙ (hart-byte s (8 * i + b) e (omega arith)
+        ∙ (byte-of-dwords (drop 1 s.regs) (dword_bytes (slice_index mask.regs h)) i b (omega arith) m
+        ∙ ap (λ (v : ℕ). byte_of v b) (index-drop s.regs i ∙ ap (slice_index s.regs) next))))
 
     of-case : (s : Stream) → stream_in p.cases c h ≡ Some s → slice_get case.streams h ≡ Some s
     of-case s e =
@@ -213,10 +212,10 @@ module _ (p : Program) (program : IsProgram p) (typed : IsTyped p) (tables : p.t
         let n : length a ≡ 248 = length-dwords (drop 1 s.regs) ∙ omega (arith, length-drop 1 s.regs, typed.count c h case s here e) in
         image-dword p (table_at N c + 256 * h + 248) (slice_index mask.regs h) sizes (let b = typed.masks c mask there h in omega arith)
         (λ b m.
-            let x : table_at N c + 256 * h + 248 + b ≡ table_at N c + 256 * h + (248 + b) = omega arith in
-            ap (image_byte p) x
-            ∙ (hart-byte s (248 + b) e (omega arith)
-            ∙ (behind a (dword_bytes (slice_index mask.regs h)) 248 b n ∙ byte-of-dword (slice_index mask.regs h) b m)))
+        let x : table_at N c + 256 * h + 248 + b ≡ table_at N c + 256 * h + (248 + b) = omega arith in
+        ap (image_byte p) x
+        ∙ (hart-byte s (248 + b) e (omega arith)
+        ∙ (behind a (dword_bytes (slice_index mask.regs h)) 248 b n ∙ byte-of-dword (slice_index mask.regs h) b m)))
 
     pub mask-fixed : is_fixed_dword p (case_masks p.cases h c) ≡ true
     unfolding case_masks
