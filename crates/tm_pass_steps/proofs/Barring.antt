@@ -20,6 +20,7 @@ use Rattle.tm_runs.specs.Runs.{Each, Does}
 use Rattle.tm_runs.specs.Course.{trail, Story}
 use Rattle.tm_runs.proofs.Arrivals.{quiet-off, arrivals-none}
 use Rattle.tm_runs.proofs.Bytes.{within-false}
+use Rattle.tm_legal.proofs.Formed.{formed-sizes}
 use Rattle.tm_legal.specs.Tame.{Formed}
 use Rattle.tm_blocks_base.specs.Laws.{Uses}
 use Rattle.tm_barrier.specs.Words.{meet}
@@ -96,7 +97,7 @@ module _ (p : Program) (formed : Formed p) (fit : MasksFit p.cases p.masks) (h :
   Bars = Does entry hi (Meets h n cell)
 
   pub low : h < 16
-  low = let b = formed.sizes.harts in omega arith
+  low = let b = (formed-sizes formed).harts in omega arith
 
   cell-own : IsOwn h cell
   unfolding private_size
@@ -108,7 +109,7 @@ module _ (p : Program) (formed : Formed p) (fit : MasksFit p.cases p.masks) (h :
     where
       by : (a ≡ cell) ⊎ IsOtherFlag h n a → IsBelow a
       by (inl e) = let k = private-below h low in let c = cell-own in omega arith
-      by (inr f) = let k = private-below h low in let c = cell-own in let g = flag-low f.hart h (let b = formed.sizes.harts in omega (arith, f.below)) in omega (arith, f.is)
+      by (inr f) = let k = private-below h low in let c = cell-own in let g = flag-low f.hart h (let b = (formed-sizes formed).harts in omega (arith, f.below)) in omega (arith, f.is)
   uses (Write a width v) u = (u.0, by u.1)
     where
       by : (a ≡ cell) ⊎ (a ≡ flag_at h) → Signals h a

@@ -15,6 +15,7 @@ use Rattle.tm_runs.proofs.Compose.{keeps_after, keeps_now, takes_map, takes_then
 use Rattle.tm_runs.proofs.Bytes.{joined-lt}
 use Rattle.tm_runs.proofs.Places.{image-lt}
 use Rattle.tm_runs.proofs.Split.{takes_since, takes_count}
+use Rattle.tm_legal.proofs.Formed.{formed-sizes}
 use Rattle.tm_legal.specs.Tame.{Formed}
 use Rattle.tm_blocks_base.specs.Blocks.{constant}
 use Rattle.tm_blocks_base.proofs.Constant.{constant_runs}
@@ -33,7 +34,7 @@ area-few h l = omega arith
 
 image-few : (p : Program) → Formed p → (a : ℕ) → image_dword p a < 2 ^ 64
 unfolding image_dword
-image-few p formed a = joined-lt (λ i. image_byte p (a + i)) 8 (λ i. image-lt p (a + i) formed.sizes)
+image-few p formed a = joined-lt (λ i. image_byte p (a + i)) 8 (λ i. image-lt p (a + i) (formed-sizes formed))
 
 -- a step in some words is one in more words
 wider : (lo hi a b : ℕ) (A B : Access → Type 0) → a ≤ lo → hi ≤ b → ((x : Access) → A x → B x) → (log : List Entry) → Newest (Does lo hi A) log → Newest (Does a b B) log
@@ -48,7 +49,7 @@ module _ (p : Program) (formed : Formed p) (fit : MasksFit p.cases p.masks) (h :
   hi = base h + 56
 
   few : h < 16
-  few = let b = formed.sizes.harts in omega arith
+  few = let b = (formed-sizes formed).harts in omega arith
 
   calm : (x : Access) → IsQuiet x → IsCalm h x
   calm x q = subst (IsCalm h) (sym q) tt
@@ -104,7 +105,7 @@ module _ (p : Program) (formed : Formed p) (fit : MasksFit p.cases p.masks) (h :
   begins s opens room =
       keeps_after
       (takes_map (λ t g. g) (λ t g. (ready t g.0.0.0 g.0.0.1 g.0.1 g.2, g.1))
-      (takes_told (world_of p h) (world-low p h formed.sizes) (Told p h limit) (told-drop p h limit) (λ t g. (steady t g.0.1 g.1).told) (record { regs = opens.regs; mem = small }) (takes_count (takes_since runs))))
+      (takes_told (world_of p h) (world-low p h (formed-sizes formed)) (Told p h limit) (told-drop p h limit) (λ t g. (steady t g.0.1 g.1).told) (record { regs = opens.regs; mem = small }) (takes_count (takes_since runs))))
       (λ t g. keeps_now g)
     where
       runs : Takes (world_of p h) (Within text_base hi (IsCalm h)) (Begun s) (begin_cost (harts p)) s

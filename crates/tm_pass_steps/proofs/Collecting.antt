@@ -24,6 +24,7 @@ use Rattle.tm_runs.specs.World.{world_of, support_at, is_fixed_dword}
 use Rattle.tm_runs.proofs.Compose.{keeps_map, takes_map, takes_then, takes_more}
 use Rattle.tm_runs.proofs.Places.{fixed-place, guest-true}
 use Rattle.tm_runs.proofs.Worlds.{private-dword, own-private}
+use Rattle.tm_legal.proofs.Formed.{formed-sizes}
 use Rattle.tm_legal.specs.Tame.{Formed}
 use Rattle.tm_blocks_base.specs.Laws.{Uses, with_access, accesses}
 use Rattle.tm_blocks_move.specs.Laws.{Move, Moves, Among, line_moves, moved_accesses}
@@ -135,10 +136,10 @@ module _ (p : Program) (formed : Formed p) (fit : MasksFit p.cases p.masks) (h :
   b = private_at h
 
   few : h < 16
-  few = let s = formed.sizes.harts in omega arith
+  few = let s = (formed-sizes formed).harts in omega arith
 
   few-pass : k < 8
-  few-pass = let s = formed.cases.passes in omega arith
+  few-pass = let s = formed.program.cases.passes in omega arith
 
   pub save : ℕ
   save = save_at h k
@@ -330,7 +331,7 @@ module _ (p : Program) (formed : Formed p) (fit : MasksFit p.cases p.masks) (h :
     low-other i l = mem-other (b + i) (inl (let e = save-is in omega arith))
 
     fixed-other : (a : ℕ) → is_fixed_dword p a ≡ true → t.mem a ≡ s.mem a
-    fixed-other a e = mem-other a (inl (let f = fixed-place p a formed.sizes e in let z = (b-guest 0 (omega arith)).1 in let g = save-is in omega arith))
+    fixed-other a e = mem-other a (inl (let f = fixed-place p a (formed-sizes formed) e in let z = (b-guest 0 (omega arith)).1 in let g = save-is in omega arith))
 
     leaves : LeavesTo p h hi s t
     leaves = record {
@@ -448,7 +449,7 @@ module _ (p : Program) (formed : Formed p) (fit : MasksFit p.cases p.masks) (h :
       collecting : (u : State) → Aimed b k s u → Takes (world_of p h) (Within lo hi Takes-in) (Behind s) (97 + 4 * length dwords) u
       collecting u a =
           let pc : u.pc ≡ lo + 24 = omega (arith, a.pc, hold.pc) in
-          let law = collect_all_runs p.cases h (world_of p h) u b (save_at h k) formed.cases number (a.regs 31 (λ z. omega arith) (λ z. omega arith) ∙ hold.base) (a.save ∙ (sym save-is ∙ save-same)) save-few ((fits_in p h formed.sizes formed.cases number).collect k few-pass) (subst (λ (x : ℕ). At (support_at p h) x (collect_all p.cases h)) (sym pc) code) in
+          let law = collect_all_runs p.cases h (world_of p h) u b (save_at h k) formed.program.cases number (a.regs 31 (λ z. omega arith) (λ z. omega arith) ∙ hold.base) (a.save ∙ (sym save-is ∙ save-same)) save-few ((fits_in p h (formed-sizes formed) formed.program.cases number).collect k few-pass) (subst (λ (x : ℕ). At (support_at p h) x (collect_all p.cases h)) (sym pc) code) in
           let moved = subst (λ (m : List Move). Takes (world_of p h) (Within u.pc (u.pc + 4 * length (collect_all p.cases h)) (UsesMoves m)) (HasDone (world_of p h) (collect_all p.cases h) m u) (97 + 4 * length dwords) u) moves-are law in
           takes_map (λ t g. newest-to lo hi (UsesMoves (collect_moves sources save)) Takes-in uses-of t.log (widen lo (lo + 24) hi (UsesMoves (collect_moves sources save)) (omega arith) t.log g)) (λ t g. record { mid = u; aimed = a; done = g })
           (subst (λ (x : ℕ). Takes (world_of p h) (Within x (x + 4 * length (collect_all p.cases h)) (UsesMoves (collect_moves sources save))) (HasDone (world_of p h) (collect_all p.cases h) (collect_moves sources save) u) (97 + 4 * length dwords) u) pc moved)

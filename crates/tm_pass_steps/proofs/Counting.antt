@@ -13,6 +13,7 @@ use Rattle.tm_runs.proofs.Places.{fixed-place, guest-true}
 use Rattle.tm_runs.proofs.Steps.{step_sd, written}
 use Rattle.tm_runs.proofs.Tables.{put_same, put_other}
 use Rattle.tm_runs.proofs.Worlds.{not-fixed}
+use Rattle.tm_legal.proofs.Formed.{formed-sizes}
 use Rattle.tm_legal.specs.Tame.{Formed}
 use Rattle.tm_pass_text.specs.Words.{reset}
 use Rattle.tm_pass_way.specs.Facts.{Told}
@@ -37,18 +38,18 @@ unfolding guest_base guest_end
 counter-may p h l = let c = counter-places h l in (c.0, guest-true (private_at h + 264) (omega (arith, c.1)) (omega (arith, c.2)))
 
 pub counter-free : (p : Program) (h : ℕ) → Formed p → h < 16 → is_fixed_dword p (private_at h + 264) ≡ false
-counter-free p h formed l = not-fixed p (private_at h + 264) formed.sizes (let c = counter-places h l in omega (arith, c.1))
+counter-free p h formed l = not-fixed p (private_at h + 264) (formed-sizes formed) (let c = counter-places h l in omega (arith, c.1))
 
 pub area-above : (h k i : ℕ) → save_at h k + 8 * i ≢ private_at h + 264
 unfolding save_at
 area-above h k i z = omega arith
 
 pub fixed-below : (p : Program) (h a : ℕ) → Formed p → h < 16 → is_fixed_dword p a ≡ true → a ≢ private_at h + 264
-fixed-below p h a formed l e z = let f = fixed-place p a formed.sizes e in let c = counter-places h l in omega (arith, c.1)
+fixed-below p h a formed l e z = let f = fixed-place p a (formed-sizes formed) e in let c = counter-places h l in omega (arith, c.1)
 
 module _ (p : Program) (formed : Formed p) (fit : MasksFit p.cases p.masks) (h : ℕ) (number : h < harts p) (lo : ℕ) (code : At (support_at p h) lo (reset ∷ [])) (clear : Clear p h lo (lo + 4)) (limit : ℕ → ℕ) where
   few : h < 16
-  few = let b = formed.sizes.harts in omega arith
+  few = let b = (formed-sizes formed).harts in omega arith
 
   abbrev cell : ℕ
   cell = private_at h + 264

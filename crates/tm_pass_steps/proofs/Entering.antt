@@ -20,6 +20,7 @@ use Rattle.tm_runs.proofs.Places.{guest-true}
 use Rattle.tm_runs.proofs.Split.{takes_since}
 use Rattle.tm_runs.proofs.Tables.{at_front, at_next, get_put_other}
 use Rattle.tm_runs.proofs.Worlds.{table-dword, own-fixed}
+use Rattle.tm_legal.proofs.Formed.{formed-sizes}
 use Rattle.tm_legal.specs.Tame.{Formed}
 use Rattle.tm_blocks_base.specs.Instrs.{ld}
 use Rattle.tm_blocks_base.specs.Blocks.{load_registers, load_registers_but_last}
@@ -45,14 +46,14 @@ module _ (p : Program) (formed : Formed p) (fit : MasksFit p.cases p.masks) (h :
 
   small : (i : ℕ) → i < 31 → table + 8 * i + 8 ≤ windows_base
   unfolding tables_base windows_base
-  small i l = let a = places i l in let s = formed.sizes.tables in omega (arith, a.1)
+  small i l = let a = places i l in let s = (formed-sizes formed).tables in omega (arith, a.1)
 
   usable : Usable (world_of p h) table 31
   unfolding guest_base guest_end tables_base windows_base
   usable = record {
     aligned = site.even;
-    low = (let b = site.high in let s = formed.sizes.tables in omega arith);
-    guest = λ j l. let a = places j l in let s = formed.sizes.tables in guest-true (table + 8 * j) (omega (arith, a.0)) (omega (arith, a.1));
+    low = (let b = site.high in let s = (formed-sizes formed).tables in omega arith);
+    guest = λ j l. let a = places j l in let s = (formed-sizes formed).tables in guest-true (table + 8 * j) (omega (arith, a.0)) (omega (arith, a.1));
   }
 
   back : ReadsBack (world_of p h) table 31

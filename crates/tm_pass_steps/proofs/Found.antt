@@ -89,4 +89,4 @@ module _ (p : Program) (formed : Formed p) (h : ℕ) (m : CaseMask) (shaped : Is
 pub comparison-finds : (p : Program) → ComparisonFinds p
 comparison-finds p formed h m shaped mem masks bytes has =
     finds p formed h m shaped mem masks bytes has (verdict_of_all mem p.cases h (save_at h 0) masks bytes)
-    (names_least_of_all p.cases h (save_at h 0) masks bytes mem (let k = formed.cases.passes in omega arith) (is-mask p formed h m shaped mem masks bytes has))
+    (names_least_of_all p.cases h (save_at h 0) masks bytes mem (let k = formed.program.cases.passes in omega arith) (is-mask p formed h m shaped mem masks bytes has))

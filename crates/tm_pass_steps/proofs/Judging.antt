@@ -23,6 +23,7 @@ use Rattle.tm_runs.proofs.Split.{takes_since}
 use Rattle.tm_runs.proofs.Steps.{step_sd, written}
 use Rattle.tm_runs.proofs.Tables.{put_other}
 use Rattle.tm_runs.proofs.Worlds.{not-fixed}
+use Rattle.tm_legal.proofs.Formed.{formed-sizes}
 use Rattle.tm_legal.specs.Tame.{Formed}
 use Rattle.tm_blocks_base.specs.Instrs.{sd}
 use Rattle.tm_blocks_base.specs.Laws.{Nowhere, Uses}
@@ -66,10 +67,10 @@ module _ (p : Program) (formed : Formed p) (fit : MasksFit p.cases p.masks) (h :
   code = compare_all_but_last p.cases h (save_at h 0) masks bytes cell
 
   few : h < 16
-  few = let b = formed.sizes.harts in omega arith
+  few = let b = (formed-sizes formed).harts in omega arith
 
   few-cases : c < 32
-  few-cases = let b = formed.cases.count in omega arith
+  few-cases = let b = formed.program.cases.count in omega arith
 
   cell-place : (0x80C00000 ≤ cell) × (cell + 8 ≤ 0x81000000) × (cell % 8 ≡ 0) × (cell + 8 ≤ private_at h)
   unfolding verdict_at private_at
@@ -80,7 +81,7 @@ module _ (p : Program) (formed : Formed p) (fit : MasksFit p.cases p.masks) (h :
   cell-may = let a = cell-place in (a.2, guest-true cell (omega (arith, a.0)) (omega (arith, a.1)))
 
   cell-free : is_fixed_dword p cell ≡ false
-  cell-free = not-fixed p cell formed.sizes cell-place.0
+  cell-free = not-fixed p cell (formed-sizes formed) cell-place.0
 
   own-below : (a : ℕ) → IsTrue ((world_of p h).own a) → IsBelow a
   unfolding windows_base
@@ -88,7 +89,7 @@ module _ (p : Program) (formed : Formed p) (fit : MasksFit p.cases p.masks) (h :
     where
       by : (is_private_dword h a ≡ true) ⊎ (is_fixed_dword p a ≡ true) → a + 8 ≤ 2162688000
       by (inl x) = let r = within-parts (private_at h) private_size (a + 7) (private-bytes h a 7 x (omega arith)) in let l = below-windows h few in omega (arith, r.1)
-      by (inr x) = let f = fixed-place p a formed.sizes x in omega arith
+      by (inr x) = let f = fixed-place p a (formed-sizes formed) x in omega arith
 
   calm : (x : Access) → Uses (λ a. IsTrue ((world_of p h).own a)) Nowhere x → IsCalm h x
   calm Quiet u = tt
@@ -137,13 +138,13 @@ module _ (p : Program) (formed : Formed p) (fit : MasksFit p.cases p.masks) (h :
         pc = omega (arith, g.pc, ready.hold.pc, site.long);
         base = g.regs 31 (omega arith);
         exits = put_other u.mem cell (get u.regs 8) (private_at h + 256) (λ z. let a = cell-place.3 in omega arith) ∙ ap (λ (f : Table). f (private_at h + 256)) g.mem;
-        fixed = λ a e. put_other u.mem cell (get u.regs 8) a (λ z. let f = fixed-place p a formed.sizes e in let b = cell-place.0 in omega arith) ∙ ap (λ (f : Table). f a) g.mem;
+        fixed = λ a e. put_other u.mem cell (get u.regs 8) a (λ z. let f = fixed-place p a (formed-sizes formed) e in let b = cell-place.0 in omega arith) ∙ ap (λ (f : Table). f a) g.mem;
       };
     }
 
     runs : Takes (world_of p h) (λ t. Unit {0}) (ComparesTo p h c m lo last (last + 4) s) (compare_cost (passes p) (length (owned p.cases h))) s
     runs =
-        let law = compare_all_runs p.cases h (save_at h 0) masks bytes cell (world_of p h) s formed.cases number (let a = cell-place.1 in omega arith) site.takes (subst (λ (a : ℕ). At (support_at p h) a code) (sym ready.hold.pc) site.code) in
+        let law = compare_all_runs p.cases h (save_at h 0) masks bytes cell (world_of p h) s formed.program.cases number (let a = cell-place.1 in omega arith) site.takes (subst (λ (a : ℕ). At (support_at p h) a code) (sym ready.hold.pc) site.code) in
         takes_more _ (omega arith)
         (takes_then {k = 1} (takes_map (λ t g. tt) (λ t g. g) (takes_since law)) (λ u g.
         step_sd {w = world_of p h} cell refl (ap (support_at p h) (omega (arith, g.0.pc, ready.hold.pc, site.long)) ∙ site.store.0) (omega (arith, g.0.place, cell-place.1)) cell-may cell-free tt (Now (compares u g.0 g.1))))
@@ -151,5 +152,5 @@ module _ (p : Program) (formed : Formed p) (fit : MasksFit p.cases p.masks) (h :
 pub case-judged : (p : Program) → CaseIsJudged p
 case-judged p formed fit h number c lo last masks bytes m here mask site limit o s room ready passed told =
     compare-part p formed fit h number limit c lo last (last + 4) (compare_cost (passes p) (length (owned p.cases h))) o m here mask site.clear room (let x = site.long in omega arith) site.off site.starts site.halts (mark_behind p c) site.marks
-    (front p formed fit h number c lo last masks bytes m here mask site limit o s told ready.hold.way) (case-behind p c here (let k = formed.cases.passes in omega arith)) s ready passed told
+    (front p formed fit h number c lo last masks bytes m here mask site limit o s told ready.hold.way) (case-behind p c here (let k = formed.program.cases.passes in omega arith)) s ready passed told
     (runs p formed fit h number c lo last masks bytes m here mask site limit o s ready)

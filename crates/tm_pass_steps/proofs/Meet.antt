@@ -25,6 +25,7 @@ use Rattle.tm_runs.proofs.Compose.{keeps_after, keeps_then, keeps_map, keeps_now
 use Rattle.tm_runs.proofs.Places.{or-right}
 use Rattle.tm_runs.proofs.Steps.{step_jal, jumped}
 use Rattle.tm_runs.proofs.Tables.{get_put_zero, at_front, at_next}
+use Rattle.tm_legal.proofs.Formed.{formed-sizes}
 use Rattle.tm_legal.specs.Tame.{Formed}
 use Rattle.tm_blocks_base.specs.Instrs.{fence, go_to}
 use Rattle.tm_blocks_base.specs.Laws.{Uses}
@@ -91,7 +92,7 @@ unfolding save_at
 area-high h k i = omega arith
 
 few-phases : (p : Program) → Formed p → last_phase p < 4096
-few-phases p formed = let a = formed.cases.count in let b = formed.cases.passes in product (case_count p) (passes p) (omega arith) (omega arith)
+few-phases p formed = let a = formed.program.cases.count in let b = formed.program.cases.passes in product (case_count p) (passes p) (omega arith) (omega arith)
   where
     product : (C K : ℕ) → C ≤ 32 → K ≤ 8 → 2 * (C * K) < 4096
     product C K l m = let x : C * K ≤ 32 * K = grind arith in omega arith
@@ -113,10 +114,10 @@ module _ (p : Program) (formed : Formed p) (fit : MasksFit p.cases p.masks) (h :
   few-hart = low p formed fit h number limit entry site
 
   meeting : Meeting (world_of p h) h n cell
-  meeting = meeting_of p h formed.sizes number
+  meeting = meeting_of p h (formed-sizes formed) number
 
   place-low : place + 4 < 2 ^ 64
-  place-low = world-low p h formed.sizes place (call from.far) from.code
+  place-low = world-low p h (formed-sizes formed) place (call from.far) from.code
 
   -- ---- entries outside streams that read below the windows
 
@@ -153,7 +154,7 @@ module _ (p : Program) (formed : Formed p) (fit : MasksFit p.cases p.masks) (h :
 
   -- none of these reports
   mute : (d : ℕ) (e : Entry) → d < case_count p → Bars e → reports d h e ≡ false
-  mute d e l b = let a = formed.cases.count in writes-none h (verdict_at d h) 8 e.access (flags-below h d h few-hart) (inl (verdict-low d h h (omega arith) few-hart)) (uses-here e.access b.access)
+  mute d e l b = let a = formed.program.cases.count in writes-none h (verdict_at d h) 8 e.access (flags-below h d h few-hart) (inl (verdict-low d h h (omega arith) few-hart)) (uses-here e.access b.access)
 
   judged-all : (d : ℕ) → (es base : List Entry) → any (reports d h) base ≡ true → any (reports d h) (es ++ base) ≡ true
   judged-all d [] base e = e

@@ -22,6 +22,7 @@ use Rattle.tm_runs.proofs.Bytes.{within-false}
 use Rattle.tm_runs.proofs.Compose.{keeps_after, keeps_now, takes_map}
 use Rattle.tm_runs.proofs.Places.{or-right}
 use Rattle.tm_runs.proofs.Split.{takes_since, takes_count}
+use Rattle.tm_legal.proofs.Formed.{formed-sizes}
 use Rattle.tm_legal.specs.Tame.{Formed}
 use Rattle.tm_blocks_base.specs.Laws.{Uses}
 use Rattle.tm_pass_way.specs.Logs.{phase_in, now_in, left_in, read_in, reports, signals_in}
@@ -120,7 +121,7 @@ module _ (p : Program) (formed : Formed p) (fit : MasksFit p.cases p.masks) (h :
   mixed-part {Q = Q} {n = n} q c o place ms s hold runs tells leaves =
       keeps_after
       (takes_map (λ t g. g) (λ t g. (g.0.0.0, g.0.0.1, behind t g.0.0.0 g.0.0.1 g.0.1 g.2, g.1))
-      (takes_told (world_of p h) (world-low p h formed.sizes) (Told p h limit) (told-drop p h limit) (λ t g. (steady t g.0.0 g.0.1 g.1).0.told) (record { regs = hold.regs; mem = hold.mem }) (takes_count (takes_since runs))))
+      (takes_told (world_of p h) (world-low p h (formed-sizes formed)) (Told p h limit) (told-drop p h limit) (λ t g. (steady t g.0.0 g.0.1 g.1).0.told) (record { regs = hold.regs; mem = hold.mem }) (takes_count (takes_since runs))))
       (λ t g. keeps_now g)
     where
       steady : (t : State) → Q t → Since Acts s t → length t.log ≤ length s.log + n → Steady p h limit q c (o + n) ms t.log × IfSome (round_before p q) (λ d. Gathered p h (now_in exit t.log))

@@ -80,6 +80,6 @@ placed-keeps p formed fit h number at placed halts limit rooms =
 
 pub placed-paces : (p : Program) → PlacedHartKeepsPace p
 placed-paces p formed fit h number at placed halts =
-    let serve = limits-serve p (costs_of p h) (let b = formed.cases.harts in omega arith) (let k = formed.cases.passes in omega arith) in
+    let serve = limits-serve p (costs_of p h) (let b = formed.program.cases.harts in omega arith) (let k = formed.program.cases.passes in omega arith) in
     let keeps = placed-keeps p formed fit h number at placed halts (limit_at p (pace_of (costs_of p h))) serve.rooms in
     (keeps, λ r half. serve.keeps h (first_of_hart r h) (own h r.steps) (keeps.work r half))

@@ -16,6 +16,7 @@ use Rattle.tm_runs.specs.World.{world_of, support_at}
 use Rattle.tm_runs.proofs.Compose.{keeps_map, takes_map}
 use Rattle.tm_runs.proofs.Places.{fixed-place, guest-true}
 use Rattle.tm_runs.proofs.Worlds.{not-fixed}
+use Rattle.tm_legal.proofs.Formed.{formed-sizes}
 use Rattle.tm_legal.specs.Tame.{Formed}
 use Rattle.tm_blocks_base.specs.Blocks.{save_registers}
 use Rattle.tm_blocks_base.specs.Laws.{Among, Nowhere, Uses, Usable, Changeable, HasSaved, first_registers}
@@ -62,7 +63,7 @@ module _ (p : Program) (formed : Formed p) (fit : MasksFit p.cases p.masks) (h :
   b = private_at h
 
   few : h < 16
-  few = let s = formed.sizes.harts in omega arith
+  few = let s = (formed-sizes formed).harts in omega arith
 
   calm : (x : Access) → Uses Nowhere (Among b 30) x → IsCalm h x
   unfolding private_size
@@ -79,7 +80,7 @@ module _ (p : Program) (formed : Formed p) (fit : MasksFit p.cases p.masks) (h :
   }
 
   changeable : Changeable (world_of p h) b 30
-  changeable j l = not-fixed p (b + 8 * j) formed.sizes (private-places h j few l).1
+  changeable j l = not-fixed p (b + 8 * j) (formed-sizes formed) (private-places h j few l).1
 
   module _ (q c o : ℕ) (ms : List Mark) (s : State) (hold : Hold p h lo q c o ms s) where
     mem-other : (t : State) → HasSaved b s t → (a : ℕ) → ((i : ℕ) → i < 30 → a ≢ b + 8 * i) → t.mem a ≡ s.mem a
@@ -90,7 +91,7 @@ module _ (p : Program) (formed : Formed p) (fit : MasksFit p.cases p.masks) (h :
       pc = omega (arith, g.pc, hold.pc);
       base = ap (λ (f : Table). get f 31) g.regs;
       exits = mem-other t g (b + 256) (λ i l z. omega arith);
-      fixed = λ a e. mem-other t g a (λ i l z. let f = fixed-place p a formed.sizes e in let k = (private-places h i few l).1 in omega arith);
+      fixed = λ a e. mem-other t g a (λ i l z. let f = fixed-place p a (formed-sizes formed) e in let k = (private-places h i few l).1 in omega arith);
     }
 
     saves : (t : State) → HasSaved b s t → Since (Does lo (lo + 120) (IsCalm h)) s t → Saves p h s t

@@ -25,6 +25,7 @@ use Rattle.tm_runs.proofs.Compose.{keeps_map, takes_map}
 use Rattle.tm_runs.proofs.Places.{fixed-place}
 use Rattle.tm_runs.proofs.Tables.{put_other}
 use Rattle.tm_runs.proofs.Worlds.{table-dword, own-fixed}
+use Rattle.tm_legal.proofs.Formed.{formed-sizes}
 use Rattle.tm_legal.specs.Tame.{Formed}
 use Rattle.tm_blocks_base.specs.Laws.{Uses, with_access, accesses}
 use Rattle.tm_blocks_move.specs.Laws.{Move, Moves, Among, moved_accesses}
@@ -132,7 +133,7 @@ module _ (p : Program) (formed : Formed p) (fit : MasksFit p.cases p.masks) (h :
   moves = set_moves from dwords
 
   few : h < 16
-  few = let b = formed.sizes.harts in omega arith
+  few = let b = (formed-sizes formed).harts in omega arith
 
   -- what its words do: they read below the windows, and write dwords that the hart collects
   abbrev Sets : Access → Type 0
@@ -146,7 +147,7 @@ module _ (p : Program) (formed : Formed p) (fit : MasksFit p.cases p.masks) (h :
 
   below-all : from + 6144 ≤ windows_base
   unfolding tables_base windows_base windows_size
-  below-all = let t = table.high in let s = formed.sizes.tables in omega arith
+  below-all = let t = table.high in let s = (formed-sizes formed).tables in omega arith
 
   sets-of : (x : Access) → UsesMoves moves x → Sets x
   sets-of Quiet u = tt
@@ -159,16 +160,16 @@ module _ (p : Program) (formed : Formed p) (fit : MasksFit p.cases p.masks) (h :
 
   from-high : from + windows_size ≤ guest_end
   unfolding guest_end tables_base
-  from-high = let t = table.high in let s = formed.sizes.tables in omega arith
+  from-high = let t = table.high in let s = (formed-sizes formed).tables in omega arith
 
   from-few : from < 2 ^ 63
   unfolding tables_base
-  from-few = let t = table.high in let s = formed.sizes.tables in omega arith
+  from-few = let t = table.high in let s = (formed-sizes formed).tables in omega arith
 
   -- ---- each entry
 
   off-cell : (a e g v : ℕ) → Mine p.cases h a → e < case_count p → g < 16 → writes_in (verdict_at e g) 8 (Write a 8 v) ≡ false
-  off-cell a e g v m l k = let c = formed.cases.count in let x = verdict-low e g h (omega arith) k in let y = private-below h few in let z : verdict_at e g + 8 ≤ a = omega (arith, m.low) in grind (arith, nat_tests)
+  off-cell a e g v m l k = let c = formed.program.cases.count in let x = verdict-low e g h (omega arith) k in let y = private-below h few in let z : verdict_at e g + 8 ≤ a = omega (arith, m.low) in grind (arith, nat_tests)
 
   off-flag : (a v : ℕ) → Mine p.cases h a → writes_flag h (Write a 8 v) ≡ false
   off-flag a v m = let x = flag-low h h few in let y = private-below h few in let z : flag_at h + 8 ≤ a = omega (arith, m.low) in grind (arith, nat_tests)
@@ -203,7 +204,7 @@ module _ (p : Program) (formed : Formed p) (fit : MasksFit p.cases p.masks) (h :
       by (Read b width v) f u = calm (subst (Uses IsBelow (λ b. ⊥)) (sym f) u)
       by (Write b width v) f u =
           set-fact p formed fit h number past e b v (record { from = off p formed fit h number limit lo hi clear Sets e a; start = starts p formed fit h number limit lo hi clear Sets e a; halt = halts p formed fit h number limit lo hi clear Sets e a })
-          (f ∙ ap (λ (k : ℕ). Write b k v) u.0) u.1.low (λ i l. (mine-window p.cases h b i u.1 l, mine-bytes p.cases h b i formed.cases u.1 l)) (ap (λ (k : ℕ). k % 2) phase ∙ even) silent
+          (f ∙ ap (λ (k : ℕ). Write b k v) u.0) u.1.low (λ i l. (mine-window p.cases h b i u.1 l, mine-bytes p.cases h b i formed.program.cases u.1 l)) (ap (λ (k : ℕ). k % 2) phase ∙ even) silent
           (subst (λ (k : ℕ). IfSome (round_before p k) (λ x. Gathered p h (now_in exit past))) (sym phase) gathered)
 
   steady-all : (es past : List Entry) → Each Acts es → length es ≤ n → Steady p h limit q d o ms past → IfSome (round_before p q) (λ x. Gathered p h (now_in exit past))
@@ -232,14 +233,14 @@ module _ (p : Program) (formed : Formed p) (fit : MasksFit p.cases p.masks) (h :
     area-low : (k i : ℕ) → k < passes p → i < saved p h → save_at h k + 8 * i + 8 ≤ windows_base
     unfolding save_at
     area-low k i l m =
-        let a = formed.cases.passes in
+        let a = formed.program.cases.passes in
         let b = saves-few p h in
         let x = private-low (0x1000 + 0x2000 * k + 8 * i) (omega arith) in
         omega arith
 
     fixed-low : (a : ℕ) → is_fixed_dword p a ≡ true → a + 8 ≤ windows_base
     unfolding windows_base
-    fixed-low a e = let f = fixed-place p a formed.sizes e in omega arith
+    fixed-low a e = let f = fixed-place p a (formed-sizes formed) e in omega arith
 
     leaves : LeavesTo p h hi s t
     leaves = record {
@@ -315,7 +316,7 @@ module _ (p : Program) (formed : Formed p) (fit : MasksFit p.cases p.masks) (h :
     where
       runs : Takes (world_of p h) (Within lo hi (UsesMoves moves)) (HasDone (world_of p h) (first_bytes p.cases h from) moves s) n s
       runs =
-          let law = first_bytes_runs p.cases h from (world_of p h) s formed.cases number from-few ((fits_in p h formed.sizes formed.cases number).first from table.even from-low from-high) (subst (λ (a : ℕ). At (support_at p h) a (first_bytes p.cases h from)) (sym ready.hold.pc) code) in
+          let law = first_bytes_runs p.cases h from (world_of p h) s formed.program.cases number from-few ((fits_in p h (formed-sizes formed) formed.program.cases number).first from table.even from-low from-high) (subst (λ (a : ℕ). At (support_at p h) a (first_bytes p.cases h from)) (sym ready.hold.pc) code) in
           subst (λ (a : ℕ). Takes (world_of p h) (Within a (a + 4 * length (first_bytes p.cases h from)) (UsesMoves moves)) (HasDone (world_of p h) (first_bytes p.cases h from) moves s) n s) ready.hold.pc law
 
       ends : (t : State) → HasDone (world_of p h) (first_bytes p.cases h from) moves s t → (since : Since Acts s t) → length since.entries ≤ n → Steady p h limit q d (o + n) ms t.log × IfSome (round_before p q) (λ x. Gathered p h (now_in exit t.log))

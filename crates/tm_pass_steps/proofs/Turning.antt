@@ -16,6 +16,7 @@ use Rattle.tm_runs.proofs.Compose.{keeps_map}
 use Rattle.tm_runs.proofs.Steps.{step_ld, step_sd, step_addi, step_beq_taken, step_beq_on, step_jal, written, branched, jumped}
 use Rattle.tm_runs.proofs.Tables.{put_same, put_other}
 use Rattle.tm_runs.proofs.Worlds.{private-dword, own-private}
+use Rattle.tm_legal.proofs.Formed.{formed-sizes}
 use Rattle.tm_legal.specs.Tame.{Formed}
 use Rattle.tm_blocks_base.specs.Instrs.{addi, ld, sd, beq, jump_back}
 use Rattle.tm_pass_text.specs.Words.{turn}
@@ -31,7 +32,7 @@ use Rattle.tm_pass_steps.proofs.Counting.{counter-places, counter-own, counter-m
 module _ (p : Program) (formed : Formed p) (fit : MasksFit p.cases p.masks) (h : ℕ) (number : h < harts p) (lo set back : ℕ) (site : TurnSite p h lo set back) (limit : ℕ → ℕ) (q c k o : ℕ) (ms : List Mark) (s : State) (l : c ≤ case_count p) (pass : k < passes p) (room : o + 6 ≤ limit q)
     (ready : Ready p h lo q c o ms s) (count : s.mem (private_at h + 264) ≡ k) (told : Told p h limit s.log) where
   few : h < 16
-  few = let b = formed.sizes.harts in omega arith
+  few = let b = (formed-sizes formed).harts in omega arith
 
   abbrev cell : ℕ
   cell = private_at h + 264
@@ -40,7 +41,7 @@ module _ (p : Program) (formed : Formed p) (fit : MasksFit p.cases p.masks) (h :
   K = passes p
 
   few-passes : K ≤ 8
-  few-passes = let b = formed.cases.passes in omega arith
+  few-passes = let b = formed.program.cases.passes in omega arith
 
   here : s.pc ≡ lo
   here = ready.hold.pc

@@ -15,6 +15,7 @@ use Rattle.tm_world.specs.Course.{writes_in, reads_in, writes_shared, round_befo
 use Rattle.tm_runs.specs.Machine.{Entry}
 use Rattle.tm_runs.proofs.Bytes.{within-true}
 use Rattle.tm_runs.proofs.Places.{or-right}
+use Rattle.tm_legal.proofs.Formed.{formed-sizes}
 use Rattle.tm_legal.specs.Tame.{Formed}
 use Rattle.tm_legal.proofs.Streams.{case-of}
 use Rattle.tm_blocks_base.specs.Laws.{Uses}
@@ -65,7 +66,7 @@ module _ (p : Program) (formed : Formed p) (fit : MasksFit p.cases p.masks) (h :
   exit = exit_of p h
 
   few : h < 16
-  few = let b = formed.sizes.harts in omega arith
+  few = let b = (formed-sizes formed).harts in omega arith
 
   pub barrier-fact : (past : List Entry) (e : Entry) → Keeping p h past e → Uses IsBelow (Signals h) e.access → ((c : ℕ) → c < case_count p → e.next ≢ start_of p h c) → e.next ≢ halt_of p h
       → (e.pc ≡ exit → IfSome (round_before p (phase_in exit past)) (λ d. Gathered p h (now_in exit past)))
@@ -87,7 +88,7 @@ module _ (p : Program) (formed : Formed p) (fit : MasksFit p.cases p.masks) (h :
       covers b u = grind (arith, nat_tests)
 
       not-cell : (d g : ℕ) → d < case_count p → g < harts p → writes_in (verdict_at d g) 8 e.access ≡ false
-      not-cell d g l m = let a = formed.cases.count in let b = formed.sizes.harts in writes-none h (verdict_at d g) 8 e.access (flags-below h d g few) (inl (verdict-low d g h (omega arith) (omega arith))) access
+      not-cell d g l m = let a = formed.program.cases.count in let b = (formed-sizes formed).harts in writes-none h (verdict_at d g) 8 e.access (flags-below h d g few) (inl (verdict-low d g h (omega arith) (omega arith))) access
 
       not-shared : writes_shared p e.access ≡ false
       not-shared = any-none (λ w. writes_in (window_at w.number) (w.lines * p.cases.line) e.access) p.cases.windows (λ w.

@@ -25,6 +25,7 @@ use Rattle.tm_runs.proofs.Arrivals.{Quiet as Unmarked, quiet-off, arrivals-none}
 use Rattle.tm_runs.proofs.Bytes.{within-true, within-false}
 use Rattle.std.proofs.Math.Nat.{div-lt_iff_lt-mul}
 use Rattle.tm_runs.proofs.Places.{or-right}
+use Rattle.tm_legal.proofs.Formed.{formed-sizes}
 use Rattle.tm_legal.specs.Tame.{Formed}
 use Rattle.tm_legal.proofs.Streams.{case-of}
 use Rattle.tm_stays.specs.Stays.{one_outside}
@@ -127,7 +128,7 @@ module _ (p : Program) (formed : Formed p) (fit : MasksFit p.cases p.masks) (h :
   exit = exit_of p h
 
   low : h < 16
-  low = let s = formed.sizes.harts in omega arith
+  low = let s = (formed-sizes formed).harts in omega arith
 
   -- where an entry goes from and to, away from marks
   pub record Still (e : Entry) : Type 0 where
@@ -143,7 +144,7 @@ module _ (p : Program) (formed : Formed p) (fit : MasksFit p.cases p.masks) (h :
     pub access : IsCalm h e.access
 
   pub not-reports : (d g : ℕ) (e : Entry) → d < case_count p → g < harts p → IsCalm h e.access → writes_in (verdict_at d g) 8 e.access ≡ false
-  not-reports d g e l m s = let f = formed.cases.count in let k = formed.sizes.harts in writes-off h (verdict_at d g) 8 e.access (inl (verdict-low d g h (omega arith) (omega arith))) s
+  not-reports d g e l m s = let f = formed.program.cases.count in let k = (formed-sizes formed).harts in writes-off h (verdict_at d g) 8 e.access (inl (verdict-low d g h (omega arith) (omega arith))) s
 
   pub not-signals : (e : Entry) → IsCalm h e.access → signals_in h e ≡ false
   not-signals e s = flag-off h h e.access (flag-low h h low) s

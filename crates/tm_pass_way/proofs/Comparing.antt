@@ -20,6 +20,7 @@ use Rattle.tm_runs.specs.Course.{trail}
 use Rattle.tm_runs.proofs.Split.{takes_count}
 use Rattle.tm_runs.proofs.Places.{or-right}
 use Rattle.tm_runs.proofs.Compose.{keeps_after, keeps_now, takes_map}
+use Rattle.tm_legal.proofs.Formed.{formed-sizes}
 use Rattle.tm_legal.specs.Tame.{Formed}
 use Rattle.tm_pass_way.specs.Logs.{phase_in, now_in, reports, signals_in, work_in}
 use Rattle.tm_pass_way.specs.Facts.{Fact, Told, Gathered}
@@ -43,7 +44,7 @@ module _ (p : Program) (formed : Formed p) (fit : MasksFit p.cases p.masks) (h :
   exit = exit_of p h
 
   low : h < 16
-  low = let b = formed.sizes.harts in omega arith
+  low = let b = (formed-sizes formed).harts in omega arith
 
   module _ (s t : State) (ready : Ready p h lo q c o ms s) (passed : Passes p h c (passes p) s) (told : Told p h limit s.log) (a : ComparesTo p h c m lo hi place s t) (short : length t.log ≤ length s.log + n) (gathered : Gathered p h (now_in exit (a.entries ++ s.log))) where
     hold : Hold p h lo q c o ms s
@@ -136,7 +137,7 @@ module _ (p : Program) (formed : Formed p) (fit : MasksFit p.cases p.masks) (h :
   compare-part run s ready passed told runs =
       keeps_after
       (takes_map (λ t g. g) (λ t g. (there s t ready passed told g.0.0 g.0.1 (all g.0.0) g.2, g.1))
-      (takes_told (world_of p h) (world-low p h formed.sizes) (Told p h limit) (told-drop p h limit) (λ t g. subst (Told p h limit) (sym g.0.log) (tells s t ready passed told g.0 g.1 (all g.0))) (record { regs = ready.hold.regs; mem = ready.hold.mem }) (takes_count runs)))
+      (takes_told (world_of p h) (world-low p h (formed-sizes formed)) (Told p h limit) (told-drop p h limit) (λ t g. subst (Told p h limit) (sym g.0.log) (tells s t ready passed told g.0 g.1 (all g.0))) (record { regs = ready.hold.regs; mem = ready.hold.mem }) (takes_count runs)))
       (λ t g. keeps_now g)
     where
       all : {t : State} → (a : ComparesTo p h c m lo hi place s t) → Gathered p h (now_in exit (a.entries ++ s.log))

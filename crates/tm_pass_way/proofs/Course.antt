@@ -31,6 +31,7 @@ use Rattle.tm_runs.specs.Course.{trail, Story}
 use Rattle.tm_runs.proofs.Arrivals.{stream-none}
 use Rattle.tm_runs.proofs.Worlds.{stopped, image-private, private-dword}
 use Rattle.tm_runs.proofs.Paths.{always, told-log, goes-on, on-half, any-entries, phase-entries, stands, visited-trail}
+use Rattle.tm_legal.proofs.Formed.{formed-sizes}
 use Rattle.tm_legal.specs.Tame.{Formed}
 use Rattle.tm_pass_way.specs.Logs.{phase_in, steps_in, now_in, reports, signals_in, work_in}
 use Rattle.tm_pass_way.specs.Facts.{Fact, Told, Gathered, Gathering, Signalling, Leaving, Keeping, AreSet, last_in}
@@ -66,7 +67,7 @@ module _ (p : Program) (formed : Formed p) (fit : MasksFit p.cases p.masks) (h :
 
   count-zero : image_dword p (private_at h + 256) ≡ 0
   unfolding private_size
-  count-zero = image-private p h (private_at h + 256) formed.sizes (omega (arith, number, formed.sizes.harts)) (private-dword h (private_at h + 256) (omega arith) (omega arith))
+  count-zero = image-private p h (private_at h + 256) (formed-sizes formed) (omega (arith, number, (formed-sizes formed).harts)) (private-dword h (private_at h + 256) (omega arith) (omega arith))
 
   opens : (x : List ℕ) → IsOpening h x → Opens p h (start p x)
   opens x o = record {
@@ -83,7 +84,7 @@ module _ (p : Program) (formed : Formed p) (fit : MasksFit p.cases p.masks) (h :
       fits (suc r) = o.fits (suc r)
 
   way : (x : List ℕ) → IsOpening h x → KeepsRuns (world_of p h) Tells Ends (start p x)
-  way x o = whole p h at cost limit parts rooms (let s = formed.cases.passes.0 in omega arith) masks formed.cases.count.0 (start p x) (opens x o)
+  way x o = whole p h at cost limit parts rooms (let s = formed.program.cases.passes.0 in omega arith) masks formed.program.cases.count.0 (start p x) (opens x o)
 
   stops : (t : State) → Ends t → Stopped (world_of p h) t
   stops t d = stopped p h t (stream-none p h (halt_of p h) halts.outside) (d.ready.hold.pc ∙ halts.place)
@@ -91,7 +92,7 @@ module _ (p : Program) (formed : Formed p) (fit : MasksFit p.cases p.masks) (h :
   -- ---- what the log of each half run tells
 
   tells : (H : List Entry → Type 0) → H [] → ((log : List Entry) → Told p h limit log → H log) → (x : List ℕ) → IsOpening h x → (own : List Step) → HalfPath p h (first_state x) own → H (entries_of own)
-  tells H none f x o own path = told-log p h formed.sizes number x o Tells Ends (way x o) stops H none (λ t g. f t.log g) (λ t d. f t.log d.told) own path
+  tells H none f x o own path = told-log p h (formed-sizes formed) number x o Tells Ends (way x o) stops H none (λ t g. f t.log g) (λ t d. f t.log d.told) own path
 
   fact : (x : List ℕ) → IsOpening h x → (past : List Step) (s : Step) → HalfPath p h (first_state x) (s ∷ past) → Fact p h (entries_of past) (entry_of s)
   fact x o past s path = (tells (Story (Fact p h)) tt (λ log g. g.story) x o (s ∷ past) path).0
@@ -138,7 +139,7 @@ module _ (p : Program) (formed : Formed p) (fit : MasksFit p.cases p.masks) (h :
   late : OnHalf p h (WritesLate p h)
   late = stepwise (λ first past s. (c v : ℕ) → c < case_count p → access_of s ≡ Write (verdict_at c h) 8 v → run_phase p c (passes p - 1) < phase exit past)
       (λ x o past s path c v l e.
-      let some = formed.cases.passes.0 in
+      let some = formed.program.cases.passes.0 in
       let r = (fact x o past s path).verdict c h l number (ap (writes_in (verdict_at c h) 8) e ∙ covers (verdict_at c h) v) in
       let m = r.1.ended (passes p - 1) (omega arith) in
       subst (λ (q : ℕ). run_phase p c (passes p - 1) < q) (sym (phase-entries exit past)) m)
@@ -155,7 +156,7 @@ module _ (p : Program) (formed : Formed p) (fit : MasksFit p.cases p.masks) (h :
         record {
           value = f.1.value;
           once = any-entries (λ t. writes_in (verdict_at c h) 8 (access_of t)) (reports c h) (λ t. refl) past ∙ f.1.once;
-          late = subst (λ (q : ℕ). run_phase p c (passes p - 1) < q) (sym (phase-entries exit past)) (f.1.ended (passes p - 1) (let some = formed.cases.passes.0 in omega arith));
+          late = subst (λ (q : ℕ). run_phase p c (passes p - 1) < q) (sym (phase-entries exit past)) (f.1.ended (passes p - 1) (let some = formed.program.cases.passes.0 in omega arith));
           collected = λ k few. has-collected (run_phase p c k + 1) past (f.1.collected k few);
         },
       ))
@@ -249,7 +250,7 @@ module _ (p : Program) (formed : Formed p) (fit : MasksFit p.cases p.masks) (h :
       subst (λ (n : ℕ). n ≤ limit q) (sym (work-entries p h x q own path)) (tells (λ log. (r : ℕ) → work_in p h r log ≤ limit r) (λ r. omega arith) (λ log g. g.pace) x o own path q))
 
   next : OnHalf p h (GoesOn p h)
-  next = on-half p h (GoesOn p h) number (λ x o own path. goes-on p h formed.sizes number x o Tells Ends (way x o) stops (λ t d. d.ready.hold.pc ∙ halts.place) own path)
+  next = on-half p h (GoesOn p h) number (λ x o own path. goes-on p h (formed-sizes formed) number x o Tells Ends (way x o) stops (λ t d. d.ready.hold.pc ∙ halts.place) own path)
 
   -- ---- all of it
 

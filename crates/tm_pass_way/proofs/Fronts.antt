@@ -92,4 +92,4 @@ turn-stay p formed fit h number limit clear c k o s l m room hold told =
     let e : ms ++ End c ∷ [] ≡ way_to p c k ++ Exit ∷ Enter c ∷ End c ∷ [] = append_assoc (way_to p c k) (Exit ∷ Enter c ∷ []) (End c ∷ []) in
     let whole : IsFront (way_to p c k ++ Exit ∷ Enter c ∷ End c ∷ []) (whole_way p) = front-then (way_to p c k ++ Exit ∷ Enter c ∷ End c ∷ []) (Exit ∷ []) (whole_way p) (subst (λ (ls : List Mark). IsFront ls (whole_way p)) (sym (append_assoc (way_to p c k) (Exit ∷ Enter c ∷ End c ∷ []) (Exit ∷ []))) (pass-front p c k l m)) in
     subst (λ (ls : List Mark). Leads p h limit s (λ t. Hold p h (end_of p h c) (phase_at p c k + 1) c o ls t × Stayed p h c (phase_at p c k + 1) s t × Told p h limit t.log)) e
-    (stay p formed fit h number limit c l (clear c l) (phase_at p c k + 1) c o ms (none-before-run p (turns p c k)) (omega arith) room (subst (λ (ls : List Mark). IsFront ls (whole_way p)) (sym e) whole) s (let a = saves-few p h in omega arith) (let b = formed.cases.passes.1 in omega arith) hold told)
+    (stay p formed fit h number limit c l (clear c l) (phase_at p c k + 1) c o ms (none-before-run p (turns p c k)) (omega arith) room (subst (λ (ls : List Mark). IsFront ls (whole_way p)) (sym e) whole) s (let a = saves-few p h in omega arith) (let b = formed.program.cases.passes.1 in omega arith) hold told)

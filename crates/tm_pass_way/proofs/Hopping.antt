@@ -17,6 +17,7 @@ use Rattle.tm_runs.proofs.Arrivals.{inside-false}
 use Rattle.tm_runs.proofs.Split.{takes_count}
 use Rattle.tm_runs.proofs.Places.{or-right}
 use Rattle.tm_runs.proofs.Compose.{keeps_after, keeps_now, takes_map}
+use Rattle.tm_legal.proofs.Formed.{formed-sizes}
 use Rattle.tm_legal.specs.Tame.{Formed}
 use Rattle.tm_pass_way.specs.Logs.{phase_in, now_in, left_in, read_in}
 use Rattle.tm_pass_way.specs.Facts.{Told, Gathered}
@@ -103,5 +104,5 @@ module _ (p : Program) (formed : Formed p) (fit : MasksFit p.cases p.masks) (h :
   hop-part s ready told runs =
       keeps_after
       (takes_map (λ t g. g) (λ t g. (g.0.0.1, there s t ready told g.0.0.0 g.0.1 g.2, recalls s t ready told g.0.0.0 g.0.1, g.1))
-      (takes_told (world_of p h) (world-low p h formed.sizes) (Told p h limit) (told-drop p h limit) (λ t g. (steady s t ready told g.0.0 g.1).told) (record { regs = ready.hold.regs; mem = ready.hold.mem }) (takes_count runs)))
+      (takes_told (world_of p h) (world-low p h (formed-sizes formed)) (Told p h limit) (told-drop p h limit) (λ t g. (steady s t ready told g.0.0 g.1).told) (record { regs = ready.hold.regs; mem = ready.hold.mem }) (takes_count runs)))
       (λ t g. keeps_now g)

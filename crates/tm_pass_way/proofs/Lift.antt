@@ -24,6 +24,7 @@ use Rattle.tm_runs.proofs.Bytes.{within-false}
 use Rattle.tm_runs.proofs.Places.{word-place, or-right}
 use Rattle.tm_runs.proofs.Split.{takes_since, takes_count}
 use Rattle.tm_runs.proofs.Compose.{keeps_after, keeps_now, takes_map}
+use Rattle.tm_legal.proofs.Formed.{formed-sizes}
 use Rattle.tm_legal.specs.Tame.{Formed}
 use Rattle.tm_stays.specs.Stays.{one_outside}
 use Rattle.tm_pass_way.specs.Logs.{phase_in, now_in, left_in, read_in, lately_at, work_in}
@@ -125,7 +126,7 @@ module _ (p : Program) (formed : Formed p) (fit : MasksFit p.cases p.masks) (h :
   calm-part {Q = Q} {n = n} q c o place ms s l room ready told runs leaves =
       keeps_after
       (takes_map (λ t g. g) (λ t g. (g.0.0.0, behind t g.0.0.0 g.0.0.1 g.0.1 g.2, recalls s t g.0.0.1, g.1))
-      (takes_told (world_of p h) (world-low p h formed.sizes) (Told p h limit) (told-drop p h limit) (λ t g. (steady t g.0.1 g.1).told) small (takes_count (takes_since runs))))
+      (takes_told (world_of p h) (world-low p h (formed-sizes formed)) (Told p h limit) (told-drop p h limit) (λ t g. (steady t g.0.1 g.1).told) small (takes_count (takes_since runs))))
       (λ t g. keeps_now g)
     where
       hold : Hold p h lo q c o ms s

@@ -14,6 +14,7 @@ use Rattle.tm_runs.specs.World.{world_of}
 use Rattle.tm_runs.proofs.Arrivals.{quiet-off, arrivals-enter, enters, inside-false}
 use Rattle.tm_runs.proofs.Split.{takes_count}
 use Rattle.tm_runs.proofs.Compose.{keeps_after, keeps_now, takes_map}
+use Rattle.tm_legal.proofs.Formed.{formed-sizes}
 use Rattle.tm_legal.specs.Tame.{Formed}
 use Rattle.tm_pass_way.specs.Logs.{phase_in, left_in, read_in}
 use Rattle.tm_pass_way.specs.Facts.{Told}
@@ -119,5 +120,5 @@ module _ (p : Program) (formed : Formed p) (fit : MasksFit p.cases p.masks) (h :
       subst (λ (l : List Mark). Leads p h limit s (λ t. Hold p h (start_of p h c) q c n l t × Same p h s t × Told p h limit t.log)) e
       (keeps_after
       (takes_map (λ t g. g) (λ t g. (there s t hold told g.0.0 g.0.1 g.2, same s t hold told g.0.0 g.0.1, g.1))
-      (takes_told (world_of p h) (world-low p h formed.sizes) (Told p h limit) (told-drop p h limit) (λ t g. (steady s t hold told g.0 g.1).told) (record { regs = hold.regs; mem = hold.mem }) (takes_count runs)))
+      (takes_told (world_of p h) (world-low p h (formed-sizes formed)) (Told p h limit) (told-drop p h limit) (λ t g. (steady s t hold told g.0 g.1).told) (record { regs = hold.regs; mem = hold.mem }) (takes_count runs)))
       (λ t g. keeps_now g))

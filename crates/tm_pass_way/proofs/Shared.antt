@@ -16,6 +16,7 @@ use Rattle.tm_world.specs.Kinds.{writes_flag}
 use Rattle.tm_world.specs.Course.{writes_in, reads_in, writes_shared, round_before}
 use Rattle.tm_runs.specs.Machine.{Entry}
 use Rattle.tm_runs.proofs.Places.{or-right}
+use Rattle.tm_legal.proofs.Formed.{formed-sizes}
 use Rattle.tm_legal.specs.Tame.{Formed}
 use Rattle.tm_legal.proofs.Streams.{case-of}
 use Rattle.tm_pass_way.specs.Logs.{phase_in, now_in, signals_in}
@@ -68,13 +69,13 @@ module _ (p : Program) (formed : Formed p) (fit : MasksFit p.cases p.masks) (h :
     pub halt : e.next ≢ halt_of p h
 
   few : h < 16
-  few = let b = formed.sizes.harts in omega arith
+  few = let b = (formed-sizes formed).harts in omega arith
 
   cell-below : (d g : ℕ) → d < case_count p → g < harts p → verdict_at d g + 8 ≤ windows_base
-  cell-below d g l m = let a = formed.cases.count in let b = formed.sizes.harts in omega (arith, verdict-low d g h (omega arith) (omega arith), private-below h few)
+  cell-below d g l m = let a = formed.program.cases.count in let b = (formed-sizes formed).harts in omega (arith, verdict-low d g h (omega arith) (omega arith), private-below h few)
 
   some-pass : 1 ≤ passes p
-  some-pass = let k = formed.cases.passes.0 in omega arith
+  some-pass = let k = formed.program.cases.passes.0 in omega arith
 
   -- In an even phase the hart sets a dword of its lines, once it has collected, if there is something to collect.
   pub set-fact : (past : List Entry) (e : Entry) (a v : ℕ) → Away e → e.access ≡ Write a 8 v → windows_base ≤ a → ((i : ℕ) → i < 8 → (is_window (a + i) ≡ true) × (collector p.cases (a + i) ≡ h))

@@ -19,6 +19,7 @@ use Rattle.tm_world.specs.Course.{writes_in, reads_in, writes_shared, round_befo
 use Rattle.tm_runs.specs.Machine.{Entry, Table}
 use Rattle.tm_runs.proofs.Bytes.{within-true}
 use Rattle.tm_runs.proofs.Places.{or-right}
+use Rattle.tm_legal.proofs.Formed.{formed-sizes}
 use Rattle.tm_legal.specs.Tame.{Formed}
 use Rattle.tm_legal.proofs.Streams.{case-of}
 use Rattle.tm_pass_way.specs.Logs.{phase_in, now_in, reports, signals_in, IsVerdictIn}
@@ -121,7 +122,7 @@ module _ (p : Program) (formed : Formed p) (fit : MasksFit p.cases p.masks) (h :
         let f2 : slice_get p.masks.cases c ≡ Some n = ap (slice_get p.masks.cases) (sym s.0) ∙ f in
         let w : m ≡ n = some-same (sym mask ∙ f2) in
         subst (λ (x : ℕ). IsVerdictIn p n h x past u) (sym s.0) (subst (λ (x : CaseMask). IsVerdictIn p x h c past u) w (subst (λ (x : ℕ). IsVerdictIn p m h c past x) (value z)
-        (found-verdict p h c m past mem (let k = formed.cases.passes.0 in omega arith) told v finds)));
+        (found-verdict p h c m past mem (let k = formed.program.cases.passes.0 in omega arith) told v finds)));
     halt = λ z d l. by-halt d l (halts z) (cases_lt d c);
     halted = λ z. subst (λ (es : List Entry). IfSome (round_before p (phase_in exit (e ∷ past))) (λ d. Gathered p h es)) (sym (now-stays p formed fit h number past e from)) (all-more (round_before p (phase_in exit (e ∷ past))));
     writes = λ _. subst (Writes (λ b. IsTrue (may_write p (phase_in exit past) h b) × (phase_in exit past % 2 ≡ 1 → IsFalse (is_declared p.cases b)))) (sym is) (λ i l. (may-verdict (phase_in exit past) i l, λ _. undeclared p (verdict_at c h + i) (omega (arith, low-cell))));
@@ -131,13 +132,13 @@ module _ (p : Program) (formed : Formed p) (fit : MasksFit p.cases p.masks) (h :
   }
     where
       few : (c < 32) × (h < 16)
-      few = let a = formed.cases.count in let b = formed.sizes.harts in (omega arith, omega arith)
+      few = let a = formed.program.cases.count in let b = (formed-sizes formed).harts in (omega arith, omega arith)
 
       low-cell : verdict_at c h + 8 ≤ windows_base
       low-cell = cell-low c h few.0 few.1
 
       same : (d g : ℕ) → g < harts p → (nat_lt (verdict_at c h) (verdict_at d g + 8) && nat_lt (verdict_at d g) (verdict_at c h + 8)) ≡ true → (d ≡ c) × (g ≡ h)
-      same d g n f = let b = formed.sizes.harts in same-cell c d g h (omega arith) (omega arith) f
+      same d g n f = let b = (formed-sizes formed).harts in same-cell c d g h (omega arith) (omega arith) f
 
       some-same : {a b : CaseMask} → Some a ≡ Some b → a ≡ b
       some-same z = cc

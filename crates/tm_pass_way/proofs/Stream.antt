@@ -18,6 +18,7 @@ use Rattle.tm_runs.specs.Machine.{World, State, Entry, Strays, StreamAccess}
 use Rattle.tm_runs.specs.World.{world_of, bounds, bounds_at}
 use Rattle.tm_runs.proofs.Arrivals.{Quiet as Unmarked, quiet-off, quiet-in, ends, arrivals-none, arrivals-end, stream-some, inside-true, inside-false}
 use Rattle.tm_runs.proofs.Places.{within-parts}
+use Rattle.tm_legal.proofs.Formed.{formed-sizes}
 use Rattle.tm_legal.specs.Tame.{Formed}
 use Rattle.tm_legal.proofs.Streams.{case-of}
 use Rattle.tm_stays.specs.Stays.{one_outside}
@@ -71,7 +72,7 @@ module _ (p : Program) (formed : Formed p) (fit : MasksFit p.cases p.masks) (h :
   hi = end_of p h c
 
   low : h < 16
-  low = let s = formed.sizes.harts in omega arith
+  low = let s = (formed-sizes formed).harts in omega arith
 
   pub held : (a : ℕ) → lo ≤ a → a < hi → stream_at p h a ≡ Some c
   held a l m = stream-some p h c a here (inside-true p h c a l m) (λ d n. inside-false p h d a (by d (clear.others d (omega arith) (λ z. omega arith))))
@@ -111,8 +112,8 @@ module _ (p : Program) (formed : Formed p) (fit : MasksFit p.cases p.masks) (h :
 
   pub not-reports : (d g : ℕ) (e : Entry) → d < case_count p → g < harts p → Strolls e → writes_in (verdict_at d g) 8 e.access ≡ false
   not-reports d g e l m s =
-      let f = formed.cases.count in
-      let k = formed.sizes.harts in
+      let f = formed.program.cases.count in
+      let k = (formed-sizes formed).harts in
       not-writes (verdict_at d g) e.access (omega (arith, verdict-low d g h (omega arith) (omega arith), private-below h low)) s.access
 
   pub no-exit : (e : Entry) → Strolls e → (e.pc ≢ exit) × (e.next ≢ exit)

@@ -1,0 +1,26 @@
+// Laws over the definitions, each as the contract of a function that does nothing.
+ghost use Rattle.tm_pass_place.specs.Placed.{HartsArePlaced};
+ghost use Rattle.tm_pass_place.specs.Sound.{BuiltIsSound, BuiltKeeps};
+
+use tm_plan_cases::Program;
+
+/// A built text has all parts of each hart's program in their places.
+pub fn harts_are_placed(program: &Program)
+    ensures { HartsArePlaced program.now }
+{
+    let _ = program;
+}
+
+/// A built program is laid, and each of its harts keeps what makes it sound.
+pub fn built_keeps(program: &Program)
+    ensures { BuiltKeeps program.now }
+{
+    let _ = program;
+}
+
+/// A built program whose masks are the checked sets is sound.
+pub fn built_is_sound(program: &Program)
+    ensures { BuiltIsSound program.now }
+{
+    let _ = program;
+}
