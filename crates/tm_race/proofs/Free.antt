@@ -8,9 +8,9 @@ use Rattle.tm_plane.specs.Plane.{Bit}
 pub with-one : (word held r : ℕ) → r < 32 → (bit_and (held / 2 ^ r) 1 ≡ 1 → ⊥) → (j : ℕ) → Bit (bit_or word (1 * 2 ^ r % 2 ^ 32)) j ↔ (((j ≡ r) × (Bit held r → ⊥)) ⊎ Bit word j)
 with-one word held r small free j = elim (cases_eq j r) [
   | inl e ↦ (
-      (λ b. inl (e, λ h. free (shr_and_one held r ∙ h))),
-      (λ s. subst (λ (i : ℕ). Bit (bit_or word (1 * 2 ^ r % 2 ^ 32)) i) (sym e) (bit_at_set_same w32 word r small)),
-    )
+    (λ b. inl (e, λ h. free (shr_and_one held r ∙ h))),
+    (λ s. subst (λ (i : ℕ). Bit (bit_or word (1 * 2 ^ r % 2 ^ 32)) i) (sym e) (bit_at_set_same w32 word r small)),
+  )
   | inr n ↦
       let other : bit_at (bit_or word (1 * 2 ^ r % 2 ^ 32)) j ≡ bit_at word j = bit_at_set_other w32 word r small j n in
       ((λ b. inr (sym other ∙ b)), (λ s. elim s [ inl e ↦ absurd (n e.0) | inr b ↦ other ∙ b ]))

@@ -1,4 +1,4 @@
-use Rattle.std.proofs.Common.{◌≡◌, ℕ, List, arith, subst}
+use Rattle.std.proofs.Common.{◌≡◌, ℕ, arith, subst}
 use Rattle.tm_race.specs.Masks.{EachIs, mark_of}
 use Rattle.tm_race.proofs.Growing.{none-yet, one-more}
 use Rattle.tm_race.proofs.bytes.byte_marks.Goals as goal

@@ -1,6 +1,6 @@
 use Rattle.std.proofs.Common.{◌≡◌, ℕ, length, arith, subst, ap}
 use Rattle.tm_race.specs.Masks.{EachIs, IsMask}
-use Rattle.tm_race.proofs.Growing.{none-yet, one-more}
+use Rattle.tm_race.proofs.Growing.{one-more}
 use Rattle.tm_race.proofs.Tracked.{are-checked, masks-fit}
 use Rattle.tm_race.proofs.masks.track.Goals as goal
 
