@@ -1,11 +1,12 @@
 -- Masks as they come to be: one hart after another, then one byte after another (this project's own).
-use Rattle.std.specs.Prelude.{◌≡◌, ◌⊎◌, ◌↔◌, ℕ, ◌+◌, ◌/◌, ◌%◌, ◌^◌, ◌<◌, ◌≤◌, ◌&&◌, not, List, length, slice_index_or, Some, IsTrue, IsFalse, if◌then◌else◌}
+use Rattle.std.specs.Prelude.{◌≡◌, ◌⊎◌, ◌↔◌, ℕ, ◌+◌, ◌/◌, ◌%◌, ◌^◌, ◌<◌, ◌≤◌, ◌&&◌, not, List, length, slice_get, slice_index_or, Some, IsTrue, IsFalse, if◌then◌else◌}
 use Rattle.tm_plan_cases.specs.declared.cases.Cases.{Cases}
+use Rattle.tm_plan_cases.specs.declared.cases.Case.{Case}
 use Rattle.tm_plan_cases.specs.declared.cases.Stream.{Stream}
 use Rattle.tm_plan_cases.specs.declared.masks.CaseMask.{CaseMask}
 use Rattle.tm_plan_cases.specs.Collected.{is_declared}
 use Rattle.tm_plan_map.specs.Map.{windows_base}
-use Rattle.tm_world.specs.Writers.{may_store, stream_in}
+use Rattle.tm_world.specs.Writers.{may_store, some_store_to, stream_in}
 use Rattle.tm_world.specs.Slots.{slots_in, another_may_store}
 use Rattle.tm_world.specs.Trails.{RaceDependent}
 use Rattle.tm_world.specs.Checked.{IsCheckedRegister, IsCheckedByte}
@@ -15,6 +16,14 @@ use Rattle.tm_plane.specs.Plane.{in_plane}
 pub record EachIs {A : Type 0} (P : ℕ → A → Type 0) (n : ℕ) (xs : List A) : Type 0 where
   pub count : length xs ≡ n
   pub each : (k : ℕ) (d : A) → k < n → P k (slice_index_or xs k d)
+
+-- The plane has exactly the bytes to which hart h of the case has a store slot.
+pub record IsStores (case : Case) (h : ℕ) (plane : List ℕ) : Type 0 where
+  pub exact : (b : ℕ) → in_plane plane b ≡ some_store_to b (slice_get case.streams h)
+
+-- one such plane for each hart
+abbrev pub AreStores : Case → List (List ℕ) → Type 0
+AreStores case planes = EachIs (IsStores case) (length case.streams) planes
 
 -- The word's bits say which registers of hart h are checked in case c.
 pub record IsRegisterWord (cases : Cases) (c h word : ℕ) : Type 0 where

@@ -4,6 +4,7 @@
 mod bytes;
 mod harts;
 mod masks;
+mod planes;
 mod registers;
 
 pub use masks::track;

@@ -5,7 +5,8 @@ ghost use Rattle.tm_world.specs.Checked.{AreChecked};
 ghost use Rattle.tm_race.specs.Masks.{IsMask};
 
 use crate::bytes::byte_marks;
-use crate::harts::over_hart;
+use crate::harts::{case_of, over_hart};
+use crate::planes::store_planes;
 use std::alloc::Global;
 use tm_base::{List, NoMemory, Words};
 use tm_plan_cases::{CaseMask, Cases, Masks};
@@ -16,10 +17,11 @@ fn case_mask(alloc: Global, cases: &Cases, c: usize) -> Result<CaseMask, NoMemor
     requires case { c < length cases.now.cases }
     ensures { IfOk result (λ m. IsMask cases.now c m) }
 {
+    let planes = store_planes(alloc, case_of(cases, c))?;
     let mut regs = Words::new(alloc);
     let mut spoil = [0u64; 96];
     for h in 0..cases.harts {
-        let word = over_hart(&mut spoil, cases, c, h);
+        let word = over_hart(&mut spoil, cases, planes.as_slice(), c, h);
         regs.push(word)?;
     }
     let bytes = byte_marks(alloc, cases, &spoil)?;

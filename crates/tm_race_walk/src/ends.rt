@@ -1,15 +1,13 @@
 // What depends at the end of a hart's stream.
-ghost use Rattle.tm_world.specs.Writers.{some_store_to};
 ghost use Rattle.std.specs.Prelude.{◌≡◌, ◌==◌, ◌||◌, ◌&&◌, not, ◌<◌, ◌≤◌, ℕ, length, slice_get, Some};
 ghost use Rattle.tm_plan_cases.specs.declared.cases.Stream.{Stream as TheStream};
 ghost use Rattle.tm_plane.specs.Plane.{in_plane};
 ghost use Rattle.tm_race_walk.specs.Shapes.{IsOfShaped, another_in, own_in};
 ghost use Rattle.tm_race_walk.specs.Taints.{StandsAt};
 
-use crate::stores::{store_plane, stream_of};
+use crate::stores::stream_of;
 use crate::walking::Taint;
 use tm_plan_cases::{Case, Stream};
-use tm_plane::union;
 
 // How many slots a stream has.
 fn slots_of(stream: &Stream) -> u32
@@ -19,34 +17,8 @@ fn slots_of(stream: &Stream) -> u32
     stream.words.as_slice().len() as u32
 }
 
-// Bytes with the stores of hart g, if it isn't h.
-fn with_other(out: &[u64; 96], case: &Case, h: u32, g: u32) -> [u64; 96]
-    requires case { IsOfShaped case.now }
-    requires hart { g < length case.now.streams }
-    ensures { (b : ℕ) → in_plane result b
-        ≡ (in_plane out.now b || (not (g == h) && some_store_to b (slice_get case.now.streams g))) }
-{
-    if g == h {
-        return *out;
-    }
-    union(out, &store_plane(case, g))
-}
-
-/// The bytes with another may-writer than hart `h`.
-pub fn others_of(case: &Case, h: u32) -> [u64; 96]
-    requires case { IsOfShaped case.now }
-    requires few { length case.now.streams ≤ 8 }
-    ensures { (b : ℕ) → in_plane result b ≡ another_in case.now h b }
-{
-    let count = case.streams.as_slice().len() as u32;
-    let mut out = [0u64; 96];
-    for g in 0..count {
-        out = with_other(&out, case, h, g);
-    }
-    out
-}
-
-/// What depends at the end of hart `h`'s stream.
+/// What depends at the end of hart `h`'s stream. `h` is below the number of streams, and the case is one of shaped
+/// cases. `others` are the bytes with another may-writer, and `own` those whose only may-writer is `h`.
 pub fn end_of(case: &Case, h: u32, others: &[u64; 96], own: &[u64; 96]) -> Taint
     requires case { IsOfShaped case.now }
     requires hart { h < length case.now.streams }

@@ -7,6 +7,6 @@ mod slots;
 mod stores;
 mod walking;
 
-pub use ends::{end_of, others_of};
+pub use ends::end_of;
 pub use stores::{may_write, store_plane};
 pub use walking::Taint;

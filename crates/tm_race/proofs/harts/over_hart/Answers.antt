@@ -9,5 +9,5 @@ returns-clause-word c =
 pub returns-clause-spoil : goal.returns-clause-spoil
 returns-clause-spoil c =
     spoil-more c.args.cases.now c.args.c c.args.h c.case_of-case.result.now c.requires.shaped c.case_of-case.ensures c.end_of-end.result c.end_of-end.ensures
-    c.store_plane-mine.result c.others_of-others.result c.store_plane-mine.ensures c.others_of-others.ensures
+    c.plane_of-mine.result.now c.others_of-others.result c.plane_of-mine.ensures c.others_of-others.ensures
     c.args.spoil.now c.spoiled.result c.requires.spoil c.spoiled.ensures

@@ -6,7 +6,7 @@ use Rattle.tm_plan_cases.proofs.Counted.{counted}
 use Rattle.tm_world.specs.Writers.{some_store_to}
 use Rattle.tm_plane.specs.Plane.{in_plane}
 use Rattle.tm_race_walk.proofs.Moving.{none-zero, any-snoc}
-use Rattle.tm_race_walk.proofs.ends.others_of.Goals as goal
+use Rattle.tm_race.proofs.planes.others_of.Goals as goal
 
 next : (test : ℕ → Bool) (k : ℕ) (old new : Bool) → old ≡ any test (count_from 0 k) → new ≡ (old || test k) → new ≡ any test (count_from 0 (k + 1))
 next test k old new o e =
