@@ -1,6 +1,5 @@
 // The bytes of the windows that are checked in a case.
-ghost use Rattle.std.specs.Prelude.{◌≡◌, ◌<◌, ◌+◌, ◌&&◌, not, ℕ, All, IfOk};
-ghost use Rattle.tm_plan_map.specs.Map.{windows_base};
+ghost use Rattle.std.specs.Prelude.{◌≡◌, ◌<◌, ◌&&◌, not, All, IfOk};
 ghost use Rattle.tm_plan_cases.specs.Collected.{is_declared as declared};
 ghost use Rattle.tm_plan_cases.specs.Shaped.{IsShapedWindow};
 ghost use Rattle.tm_plane.specs.Plane.{in_plane};

@@ -1,5 +1,5 @@
 // What one hart's stream of a case leaves unchecked.
-ghost use Rattle.std.specs.Prelude.{◌≡◌, ◌<◌, ◌+◌, ℕ, length, slice_get, Some};
+ghost use Rattle.std.specs.Prelude.{◌≡◌, ◌<◌, ◌+◌, length, slice_get, Some};
 ghost use Rattle.tm_plan_cases.specs.declared.cases.Case.{Case as TheCase};
 ghost use Rattle.tm_plan_cases.specs.Shaped.{AreShaped};
 ghost use Rattle.tm_race.specs.Masks.{AreStores, IsRegisterWord, IsSpoil};

@@ -1,5 +1,5 @@
 // What depends at the end of a hart's stream.
-ghost use Rattle.std.specs.Prelude.{◌≡◌, ◌==◌, ◌||◌, ◌&&◌, not, ◌<◌, ◌≤◌, ℕ, length, slice_get, Some};
+ghost use Rattle.std.specs.Prelude.{◌≡◌, ◌<◌, ◌≤◌, ℕ, length, slice_get, Some};
 ghost use Rattle.tm_plan_cases.specs.declared.cases.Stream.{Stream as TheStream};
 ghost use Rattle.tm_plane.specs.Plane.{in_plane};
 ghost use Rattle.tm_race_walk.specs.Shapes.{IsOfShaped, another_in, own_in};
