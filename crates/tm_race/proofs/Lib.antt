@@ -1,6 +1,4 @@
-pub mod Trails
-pub mod OneSlot
-pub mod Shaping
-pub mod Telling
-pub mod Moving
-pub mod Forwarding
+mod Growing
+mod Free
+mod Calm
+mod Tracked

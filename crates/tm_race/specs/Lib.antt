@@ -1,4 +1,1 @@
-pub mod Forward
-pub mod Slots
-pub mod Shapes
-pub mod Taints
+pub mod Masks

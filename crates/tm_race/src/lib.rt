@@ -1,10 +1,11 @@
-//! Race tracking: which registers and bytes depend on a race.
+//! Race tracking: what of each case depends on no race, and is checked.
 #![tactic(auto)]
 
-mod ops;
-mod slots;
-mod stores;
-mod walking;
+mod bytes;
+mod harts;
+mod masks;
+mod planes;
+mod registers;
 
-pub use stores::{may_write, store_plane};
-pub use walking::Taint;
+pub use masks::track;
+pub use tm_race_walk::{Taint, may_write, store_plane};

@@ -2,8 +2,6 @@
 ghost use Rattle.std.specs.Prelude.{◌≡◌, ◌++◌, ◌*◌, ◌+◌, ◌<◌, ◌≤◌, ◌^◌, OnOk, All, ◌∷◌, [], filter, length};
 ghost use Rattle.std.specs.List.{flat_map};
 ghost use Rattle.tm_plan_map.specs.Map.{windows_base};
-ghost use Rattle.tm_plan_cases.specs.Collected.{declares as window_declares, is_declared as declared};
-ghost use Rattle.tm_base.specs.Lists.{any};
 ghost use Rattle.tm_plan_cases.specs.Shaped.{IsShapedWindow};
 ghost use Rattle.tm_report.specs.Listing.{bytes_line, dword_bits as bits_at, dword_entries, dword_entry};
 ghost use Rattle.tm_report.specs.Listing.{is_listed as listed, unchecked_bits as bits_of};
@@ -12,30 +10,11 @@ use crate::entries::put_entries;
 use std::alloc::Global;
 use tm_base::{Bytes, NoMemory, push_hex};
 use tm_plan_cases::Cases;
-use tm_plan_map::{Window, window_base};
+use tm_plan_map::window_base;
+use tm_plane::is_declared;
 
 // How many dwords the three windows have.
 const DWORDS: usize = 768;
-
-// Whether an address is in a declared line of a window.
-#[tactic(auto, unfolding(tm_plan_map::specs::Map::window_at, tm_plan_map::specs::Map::windows_base))]
-fn declares(line: u32, addr: u64, window: &Window) -> bool
-    requires { IsShapedWindow line window.now }
-    ensures { result ≡ window_declares line addr window.now }
-{
-    let base = window_base(window.number);
-    base <= addr && addr < base + u64::from(window.lines * line)
-}
-
-fn any_declares(line: u32, addr: u64, windows: &[Window]) -> bool
-    requires { All (IsShapedWindow line) windows.now }
-    ensures { result ≡ any (window_declares line addr) windows.now }
-{
-    let [window, more @ ..] = windows else {
-        return false;
-    };
-    declares(line, addr, window) || any_declares(line, addr, more)
-}
 
 // One bit for each byte, from the lowest on, which is set where the byte is 0.
 fn unchecked_bits(bytes: &[u8]) -> u64
@@ -60,14 +39,6 @@ fn dword_bits(bytes: &[u8], number: usize) -> u64
 {
     let place = 8 * number;
     unchecked_bits(&bytes[place..place + 8])
-}
-
-#[tactic(auto, unfolding(tm_plan_cases::specs::Collected::is_declared))]
-fn is_declared(cases: &Cases, addr: u64) -> bool
-    requires { All (IsShapedWindow cases.now.line) cases.now.windows }
-    ensures { result ≡ declared cases.now addr }
-{
-    any_declares(cases.line, addr, cases.windows.as_slice())
 }
 
 // The address of a dword by its number.

@@ -1,0 +1,4 @@
+pub mod Forward
+pub mod Slots
+pub mod Shapes
+pub mod Taints
