@@ -11,8 +11,8 @@ use Rattle.tm_sound.specs.Parts.{HartParts}
 use Rattle.tm_pass_steps.specs.Hart.{IsBuilt}
 
 -- A program whose text is built of the blocks and whose tables are those of its cases and masks is laid as the course
--- asks, and each of its harts keeps on half runs its course, its first dwords, its verdicts and a pace within its bound,
--- and doesn't get stuck.
+-- asks, and each of its harts keeps on half runs its course, its first dwords, its verdicts and a pace within its
+-- bound, and doesn't get stuck.
 pub record Keeps (p : Program) : Type 0 where
   pub laid : Laid p
   pub each : (h : ℕ) → h < harts p → HartParts p h
