@@ -6,3 +6,4 @@ pub mod Cases
 pub mod Tables
 pub mod Placed
 pub mod Sound
+pub mod Built

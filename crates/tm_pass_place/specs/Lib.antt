@@ -1,3 +1,4 @@
 pub mod Places
 pub mod Placed
 pub mod Sound
+pub mod Built

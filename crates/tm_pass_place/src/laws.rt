@@ -1,8 +1,9 @@
 // Laws over the definitions, each as the contract of a function that does nothing.
+ghost use Rattle.tm_pass_place.specs.Built.{CasesAreBuilt};
 ghost use Rattle.tm_pass_place.specs.Placed.{HartsArePlaced};
 ghost use Rattle.tm_pass_place.specs.Sound.{BuiltIsSound, BuiltKeeps};
 
-use tm_plan_cases::Program;
+use tm_plan_cases::{Cases, Masks, Program};
 
 /// A built text has all parts of each hart's program in their places.
 pub fn harts_are_placed(program: &Program)
@@ -23,4 +24,12 @@ pub fn built_is_sound(program: &Program)
     ensures { BuiltIsSound program.now }
 {
     let _ = program;
+}
+
+/// Shaped cases and masks that fit them have a built program.
+pub fn cases_are_built(cases: &Cases, masks: &Masks)
+    ensures { CasesAreBuilt cases.now masks.now }
+{
+    let _ = cases;
+    let _ = masks;
 }
