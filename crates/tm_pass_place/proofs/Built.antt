@@ -15,7 +15,7 @@ use Rattle.tm_barrier.specs.Words.{prepare, meet, barrier}
 use Rattle.tm_pass_text.specs.Words.{hart_size, hart_words, streams_of, text_words}
 use Rattle.tm_pass_text.proofs.Stands.{length-hart}
 use Rattle.tm_pass_steps.specs.Hart.{blocks_of, IsBuilt}
-use Rattle.tm_pass_place.specs.Built.{start_in, end_in, halt_in, built, CasesAreBuilt}
+use Rattle.tm_pass_place.specs.Built.{start_in, end_in, halt_in, exit_in, built, CasesAreBuilt}
 use Rattle.tm_pass_place.proofs.Sizes.{short-hart}
 
 -- ---- lists by number
@@ -88,7 +88,7 @@ module _ (cases : Cases) (masks : Masks) (shaped : AreShaped cases) (fit : Masks
         masks = fit;
         starts = length-grid (start_in cases) (length cases.cases) 0 cases.harts;
         ends = length-grid (end_in cases) (length cases.cases) 0 cases.harts;
-        exits = length-line (λ h. halt_in cases h + 4 * length (blocks_of cases h).barrier) 0 cases.harts;
+        exits = length-line (exit_in cases) 0 cases.harts;
         halts = length-line (halt_in cases) 0 cases.harts;
         text = (text-some 0 cases.harts text_base a.0, (let t = text-short 0 cases.harts text_base (omega arith) in omega arith));
         tables = omega (arith, tables);
@@ -108,8 +108,7 @@ module _ (cases : Cases) (masks : Masks) (shaped : AreShaped cases) (fit : Masks
             e ∙ ap (λ (a : ℕ). a + 4 * length (slice_index_or (streams_of cases h) c [])) (sym s);
         halts = λ h l. map-at (halt_in cases) 0 cases.harts h l ∙ ap (halt_in cases) (zero-on h);
         exits = λ h l.
-            let far : ℕ → ℕ = λ g. halt_in cases g + 4 * length (blocks_of cases g).barrier in
-            let e = map-at far 0 cases.harts h l ∙ ap far (zero-on h) in
+            let e = map-at (exit_in cases) 0 cases.harts h l ∙ ap (exit_in cases) (zero-on h) in
             let s = map-at (halt_in cases) 0 cases.harts h l ∙ ap (halt_in cases) (zero-on h) in
             e ∙ ap (λ (a : ℕ). a + 4 * length (blocks_of cases h).barrier) (sym s);
       }

@@ -23,6 +23,10 @@ end_in cases h c = start_in cases h c + 4 * length (slice_index_or (streams_of c
 abbrev pub halt_in : Cases → ℕ → ℕ
 halt_in cases h = head_of (blocks_of cases) cases h (length cases.cases)
 
+-- and its exit mark
+abbrev pub exit_in : Cases → ℕ → ℕ
+exit_in cases h = halt_in cases h + 4 * length (blocks_of cases h).barrier
+
 -- a number for each hart and case, hart by hart
 abbrev pub by_case : Cases → (ℕ → ℕ → ℕ) → List ℕ
 by_case cases f = flat_map (λ h. map (f h) (count_from 0 (length cases.cases))) (count_from 0 cases.harts)
@@ -35,7 +39,7 @@ built cases masks = record {
   marks = record {
     starts = by_case cases (start_in cases);
     ends = by_case cases (end_in cases);
-    exits = map (λ h. halt_in cases h + 4 * length (blocks_of cases h).barrier) (count_from 0 cases.harts);
+    exits = map (exit_in cases) (count_from 0 cases.harts);
     halts = map (halt_in cases) (count_from 0 cases.harts);
   };
   text = text_words (blocks_of cases) cases 0 cases.harts text_base;
