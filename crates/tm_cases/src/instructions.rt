@@ -7,19 +7,24 @@ use crate::show::{number, put, small};
 use std::alloc::Global;
 use tm_asm_line::{parse_line, print_line};
 use tm_base::{Bytes, NoMemory, push_decimal, push_hex};
-use tm_table::{Access, Cpu, Instr, decode, encode, exec as step, needs_read};
+use tm_table::{Access, Cpu, Instr, decode, encode, exec as step, fits, needs_read};
 
 /// A line: its word, what that is decoded to and printed as, and the fields.
 pub fn line(alloc: Global, text: &[u8], out: &mut Bytes) -> Result<(), NoMemory> {
     match parse_line(text) {
-        Ok(i) => {
-            let code = encode(i);
-            put(out, format!(in alloc; "{code:#010x} "))?;
-            put_word(code, out)?;
-            put_fields(i, out)
-        }
+        Ok(i) => put_line(alloc, i, out),
         Err(fault) => put(out, format!(in alloc; "{fault:?}")),
     }
+}
+
+fn put_line(alloc: Global, i: Instr, out: &mut Bytes) -> Result<(), NoMemory> {
+    if !fits(i) {
+        return out.append(b"doesn't fit");
+    }
+    let code = encode(i);
+    put(out, format!(in alloc; "{code:#010x} "))?;
+    put_word(code, out)?;
+    put_fields(i, out)
 }
 
 fn put_fields(i: Instr, out: &mut Bytes) -> Result<(), NoMemory> {
@@ -108,7 +113,9 @@ pub fn exec(alloc: Global, rest: &str, out: &mut Bytes) -> Result<(), NoMemory> 
 fn put_step(alloc: Global, i: Instr, at: Before, out: &mut Bytes) -> Result<(), NoMemory>
     requires { Fits i }
 {
-    let mut cpu = Cpu::new(at.pc, at.x);
+    let mut x = at.x;
+    x[0] = 0;
+    let mut cpu = Cpu::new(at.pc, x);
     let old = cpu.x;
     let asked = needs_read(&cpu, i);
     let access = step(&mut cpu, i, given(asked, at.read));

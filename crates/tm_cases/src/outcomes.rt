@@ -17,15 +17,14 @@ pub fn calls(alloc: Global, options: &str, name: &str) -> Result<List<u64>, NoMe
 
 /// What stands behind an option's `=`, empty where it isn't there.
 pub fn option<'a>(options: &'a str, name: &str) -> &'a str {
-    let mut found = "";
     for word in options.split(' ') {
         if let Some((key, value)) = word.split_once('=') {
             if key == name {
-                found = value;
+                return value;
             }
         }
     }
-    found
+    ""
 }
 
 /// A desk that holds the files, and of which these calls fail.
