@@ -1,8 +1,7 @@
 -- The words of plain code.
-use Rattle.std.proofs.Common.{◌≡◌, ℕ, ◌+◌, List, [], ◌∷◌, ◌++◌, length, Option, refl, sym, ap, ◌∙◌, subst, arith}
+use Rattle.std.proofs.Common.{◌≡◌, ℕ, List, [], ◌∷◌, length, Option, refl, sym, ap, ◌∙◌, subst, arith}
 use Rattle.tm_table.specs.declared.instr.Instr.{Instr}
 use Rattle.tm_table.specs.Words.{word_of}
-use Rattle.tm_asm.specs.declared.code.Item.{Item}
 use Rattle.tm_asm.specs.Sheet.{Sheet, AllPlaced, instrs, plain, puts}
 use Rattle.tm_asm.specs.Sheet as sheet
 use Rattle.tm_blocks_base.specs.Instrs.{words_of}

@@ -1,4 +1,4 @@
-use Rattle.std.proofs.Common.{◌≡◌, ℕ, length, sym, ap, ◌∙◌, subst, ◌≤◌}
+use Rattle.std.proofs.Common.{ℕ, sym, ap, ◌∙◌, subst, ◌≤◌}
 use Rattle.tm_asm.specs.Sheet.{Sheet, puts}
 use Rattle.tm_blocks_compare.specs.Words.{compare_case}
 use Rattle.tm_pass_code.proofs.Blank.{plain-length}

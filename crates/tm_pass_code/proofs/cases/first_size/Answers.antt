@@ -1,4 +1,4 @@
-use Rattle.std.proofs.Common.{◌≡◌, ℕ, length, sym, ap, ◌∙◌, subst, ◌≤◌}
+use Rattle.std.proofs.Common.{ℕ, length, sym, ap, ◌∙◌, subst, ◌≤◌}
 use Rattle.tm_asm.specs.Sheet.{Sheet, puts}
 use Rattle.tm_blocks_move.specs.Lines.{first_bytes}
 use Rattle.tm_pass_steps.specs.Hart.{first_at}
