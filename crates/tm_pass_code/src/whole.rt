@@ -1,8 +1,7 @@
 // The words of one case with its stream.
-ghost use Rattle.std.specs.Prelude.{◌≡◌, ◌+◌, ◌-◌, ◌*◌, ◌%◌, ◌^◌, ◌<◌, ◌≤◌, ◌++◌, length, OnOk, IfOk};
+ghost use Rattle.std.specs.Prelude.{◌≡◌, ◌+◌, ◌-◌, ◌%◌, ◌^◌, ◌<◌, ◌≤◌, ◌++◌, length, OnOk};
 ghost use Rattle.tm_plan_cases.specs.Shaped.{AreShaped};
-ghost use Rattle.tm_pass_text.specs.Words.{case_words};
-ghost use Rattle.tm_pass_steps.specs.Hart.{blocks_of};
+ghost use Rattle.tm_pass_code.specs.Plain.{words_of_case};
 
 use crate::cases::{append_before, append_behind, collect_size, first_size};
 use std::alloc::Global;
@@ -28,7 +27,7 @@ pub fn append_case(
     requires aligned { (at % 4 ≡ 0) × (barrier % 4 ≡ 0) }
     requires near { barrier ≤ at + 524288 }
     requires low { at < 2 ^ 33 }
-    ensures { OnOk result (out.new ≡ out.old ++ case_words (blocks_of cases.now h) cases.now.passes c stream.now at barrier) }
+    ensures { OnOk result (out.new ≡ out.old ++ words_of_case cases.now h c stream.now at barrier) }
 {
     let n = stream.len() as u64;
     let first = first_size(alloc, cases, h, c)?;
