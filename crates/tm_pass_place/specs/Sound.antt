@@ -17,6 +17,7 @@ pub record Keeps (p : Program) : Type 0 where
   pub laid : Laid p
   pub each : (h : ℕ) → h < harts p → HartParts p h
 
+-- a built program with the format's tables keeps all that
 abbrev pub BuiltKeeps : Program → Type 0
 BuiltKeeps p = IsProgram p → IsTyped p → IsBuilt p → p.tables ≡ table_bytes p.cases p.masks → Keeps p
 

@@ -27,6 +27,8 @@ use Rattle.tm_pass_steps.specs.Turning.{TurnSite}
 use Rattle.tm_pass_steps.specs.Entering.{RegisterTable}
 use Rattle.tm_pass_steps.specs.Judging.{CompareSite, compare_cost}
 
+-- The beginning of hart h's program: the gates of the harts before it, and its own with the base of its private area,
+-- up to its first case.
 pub record BeginPlaced (p : Program) (h head : ℕ) : Type 0 where
   pub base : ℕ → ℕ
   pub far : ℕ → ℕ
@@ -34,11 +36,13 @@ pub record BeginPlaced (p : Program) (h head : ℕ) : Type 0 where
   pub clear : Clear p h text_base (base h + 56)
   pub to : base h + 56 ≡ head
 
+-- At the head of a case the counter of passes is set to 0.
 pub record ResetPlaced (p : Program) (h head set : ℕ) : Type 0 where
   pub code : At (support_at p h) head (reset ∷ [])
   pub clear : Clear p h head (head + 4)
   pub to : head + 4 ≡ set
 
+-- The first bytes are written from a table of the case's first dwords, up to the call of the barrier.
 pub record FirstPlaced (p : Program) (h c set call : ℕ) : Type 0 where
   pub from : ℕ
   pub table : FirstTable p c from
@@ -46,6 +50,7 @@ pub record FirstPlaced (p : Program) (h c set call : ℕ) : Type 0 where
   pub clear : Clear p h set (set + 4 * length (first_bytes p.cases h from))
   pub to : set + 4 * length (first_bytes p.cases h from) ≡ call
 
+-- The registers are loaded from a table of the stream's first registers, up to the stream's start.
 pub record LoadPlaced (p : Program) (h c load : ℕ) : Type 0 where
   pub table : ℕ
   pub registers : RegisterTable p h c table
@@ -53,22 +58,26 @@ pub record LoadPlaced (p : Program) (h c load : ℕ) : Type 0 where
   pub to : load + 168 ≡ start_of p h c
   pub clear : Clear p h load (start_of p h c - 4)
 
+-- Behind the stream's end the registers are saved, up to the second call of the barrier.
 pub record SavePlaced (p : Program) (h c recall : ℕ) : Type 0 where
   pub code : At (support_at p h) (end_of p h c) save_registers
   pub clear : Clear p h (end_of p h c) (end_of p h c + 120)
   pub to : end_of p h c + 120 ≡ recall
 
+-- The save area of the pass is aimed at, and the end state is collected.
 pub record CollectPlaced (p : Program) (h collect turn : ℕ) : Type 0 where
   pub aims : At (support_at p h) collect aim
   pub code : At (support_at p h) (collect + 24) (collect_all p.cases h)
   pub clear : Clear p h collect (collect + 24 + 4 * length (collect_all p.cases h))
   pub to : collect + 24 + 4 * length (collect_all p.cases h) ≡ turn
 
+-- The counter goes up by one: back to the first bytes, or on to the comparison.
 pub record TurnPlaced (p : Program) (h turn set compare : ℕ) : Type 0 where
   pub back : ℕ
   pub site : TurnSite p h turn set back
   pub to : turn + 24 ≡ compare
 
+-- The passes are compared under the case's masks, and the verdict is written, up to the next case or the halt mark.
 pub record ComparePlaced (p : Program) (m : CaseMask) (h c compare next : ℕ) : Type 0 where
   pub last : ℕ
   pub masks : ℕ

@@ -30,6 +30,7 @@ pub record TurnSite (p : Program) (h lo set back : ℕ) : Type 0 where
   pub first : Plain p h set
   pub behind : Plain p h (lo + 24)
 
+-- The counter goes up by one, and the hart goes back for the next pass, or on behind the last.
 abbrev pub PassTurns : Program → Type 0
 PassTurns p = Formed p → MasksFit p.cases p.masks → (h : ℕ) → h < harts p → (lo set back : ℕ) → TurnSite p h lo set back
     → (limit : ℕ → ℕ) (q c k o : ℕ) (ms : List Mark) (s : State) → c ≤ case_count p → k < passes p → o + 6 ≤ limit q

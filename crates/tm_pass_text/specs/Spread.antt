@@ -25,5 +25,6 @@ pub record Apart (p : Program) : Type 0 where
   pub streams : AllPairs (λ (a : ℕ × ℕ) (b : ℕ × ℕ). (a.1 ≤ b.0) ⊎ (b.1 ≤ a.0)) (stream_ranges p)
   pub halted : (h c : ℕ) → h < harts p → c < case_count p → inside p h c (halt_of p h) ≡ false
 
+-- Marks that are spread so are apart.
 abbrev pub SpreadIsApart : Program → Type 0
 SpreadIsApart p = (base : ℕ → ℕ) (head : ℕ → ℕ → ℕ) → Spread p base head → Apart p

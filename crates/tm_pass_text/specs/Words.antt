@@ -40,9 +40,11 @@ call n = record { op = Jal; rd = 1; rs1 = 0; rs2 = 0; imm = pos n }
 abbrev pub gate : (h n : ℕ) → List Instr
 gate h n = addi 1 0 h ∷ beq 1 10 8 ∷ jump n ∷ []
 
+-- the counter of passes becomes 0
 abbrev pub reset : Instr
 reset = sd 0 264 31
 
+-- x9 becomes the address of the save area of the pass
 abbrev pub aim : List Instr
 aim = ld 9 264 31 ∷ slli 9 9 13 ∷ add 9 9 31 ∷ addi 1 0 1 ∷ slli 1 1 12 ∷ add 9 9 1 ∷ []
 
@@ -65,9 +67,11 @@ pub record Blocks : Type 0 where
 abbrev pub before_size : Blocks → ℕ → ℕ
 before_size b c = 2 + length (b.first c) + length (b.load c)
 
+-- how many words stand behind a case's stream
 abbrev pub behind_size : Blocks → ℕ → ℕ
 behind_size b c = 13 + length b.save + length b.collect + length (b.compare c)
 
+-- how many words a case has, with a stream of n
 abbrev pub case_size : Blocks → (c n : ℕ) → ℕ
 case_size b c n = before_size b c + n + behind_size b c
 
@@ -110,9 +114,12 @@ skip b c (s ∷ ss) (suc k) = case_size b c (length s) + skip b (suc c) ss k
 abbrev pub opening_size : ℕ
 opening_size = 14
 
+-- how many words a hart's program has
 abbrev pub hart_size : Blocks → List (List ℕ) → ℕ
 hart_size b ss = opening_size + skip b 0 ss (length ss) + 1 + length b.barrier
 
+-- the words of hart h's program at an address: its gate and the base of its private area, its cases, the halt mark, and
+-- its barrier
 unfoldable pub hart_words : Blocks → (passes : ℕ) → List (List ℕ) → (h base : ℕ) → List ℕ
 hart_words b passes ss h base =
     words_of (gate h (4 * (hart_size b ss - 2)) ++ constant 31 (private_at h))
@@ -126,6 +133,7 @@ abbrev pub words_at : Option Stream → List ℕ
 words_at None = []
 words_at (Some s) = s.words
 
+-- the words of hart h's streams, case by case
 abbrev pub streams_of : Cases → ℕ → List (List ℕ)
 streams_of cases h = map (λ (case : Case). words_at (slice_get case.streams h)) cases.cases
 
@@ -142,6 +150,7 @@ abbrev pub place_of : (ℕ → Blocks) → Cases → ℕ → ℕ
 place_of blocks cases zero = 0
 place_of blocks cases (suc h) = place_of blocks cases h + hart_size (blocks h) (streams_of cases h)
 
+-- where hart h's program begins
 abbrev pub base_of : (ℕ → Blocks) → Cases → ℕ → ℕ
 base_of blocks cases h = text_base + 4 * place_of blocks cases h
 

@@ -30,11 +30,13 @@ pub record Signalling (p : Program) (h q : ℕ) (past : List Entry) (e : Entry) 
   pub ended : IfSome (case_of_phase p q) (λ c. IsTrue (any (λ (t : Entry). t.next == end_of p h c) (now_in (exit_of p h) past)))
   pub more : q ≢ last_phase p
 
+-- The hart leaves phase q, told of its log: it has signalled in it, and has since got at least q + 1 from each other flag.
 pub record Leaving (p : Program) (h q : ℕ) (past : List Entry) : Type 0 where
   pub signalled : any (signals_in h) (now_in (exit_of p h) past) ≡ true
   pub met : (g : ℕ) → g < harts p → g ≢ h
       → any (λ (t : Entry). gets (flag_at g) (q + 1) t.access) (front_to (signals_in h) past) ≡ true
 
+-- An entry keeps the barrier, told of the log before it.
 pub record Keeping (p : Program) (h : ℕ) (past : List Entry) (e : Entry) : Type 0 where
   pub signal : IsTrue (signals_in h e) → Signalling p h (phase_in (exit_of p h) past) past e
   pub still : any (signals_in h) (now_in (exit_of p h) past) ≡ true → IsStill p h e.access

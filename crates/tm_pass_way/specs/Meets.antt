@@ -21,16 +21,19 @@ use Rattle.tm_legal.specs.Tame.{Formed}
 use Rattle.tm_stays.specs.Stays.{one_outside}
 use Rattle.tm_pass_way.specs.Parts.{Places, Costs, Turns, Rooms}
 
+-- Where the hart signals before a run phase, it has written the case's first dwords to all dwords that it collects.
 abbrev pub SetsDwords : Program → ℕ → Hart → List Step → Type 0
 SetsDwords p h first = Always (λ past s. IsTrue (signals h s) → (c : ℕ) (case : Case)
     → case_of_phase p (suc (phase (exit_of p h) past)) ≡ Some c → slice_get p.cases.cases c ≡ Some case
     → All (λ a. (i : ℕ) → i < 8 → last_write (a + i) (this_phase p h past)
     ≡ Some (byte_of (slice_index case.first ((a - windows_base) / 8)) i)) (owned p.cases h))
 
+-- The step with which the hart comes into a stream isn't the one at its exit mark.
 abbrev pub EntersBehindExit : Program → ℕ → Hart → List Step → Type 0
 EntersBehindExit p h first = Always (λ past s. (c : ℕ) → c < case_count p
     → IsTrue (comes_to p h (Enter c) (now first past).pc s.after.pc) → pc_of s ≢ exit_of p h)
 
+-- how many of the hart's work steps outside its streams are of phase q
 abbrev pub phase_work : Program → ℕ → Hart → ℕ → List Step → ℕ
 phase_work p h first q [] = 0
 phase_work p h first q (s ∷ past) =
@@ -39,6 +42,7 @@ phase_work p h first q (s ∷ past) =
     then one_outside (stream_at p h (now first past).pc) (phase_work p h first q past)
     else phase_work p h first q past)
 
+-- A verdict is written behind the run phase of the case's last pass.
 abbrev pub WritesLate : Program → ℕ → Hart → List Step → Type 0
 WritesLate p h first = Always (λ past s. (c v : ℕ) → c < case_count p → access_of s ≡ Write (verdict_at c h) 8 v
     → run_phase p c (passes p - 1) < phase (exit_of p h) past)

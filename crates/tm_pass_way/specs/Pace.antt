@@ -9,12 +9,14 @@ use Rattle.tm_world.specs.Writers.{run_phase}
 use Rattle.tm_pass_way.specs.Meets.{phase_work}
 use Rattle.tm_pass_way.specs.Parts.{Costs, Rooms}
 
+-- At most so much work outside streams: to set up a pass, to run it, to end it, and to compare the passes of a case.
 pub record Pace : Type 0 where
   pub sets : ℕ
   pub runs : ℕ
   pub ends : ℕ
   pub compares : ℕ
 
+-- The hart works no more than that in each phase.
 pub record KeepsPace (p : Program) (h : ℕ) (pace : Pace) (first : Hart) (own : List Step) : Type 0 where
   pub begin : phase_work p h first 0 own ≤ 64 + pace.sets
   pub run : (c k : ℕ) → c < case_count p → k < passes p → phase_work p h first (run_phase p c k) own ≤ pace.runs
@@ -44,5 +46,6 @@ pub record LimitsServe (p : Program) (cost : Costs) : Type 0 where
   pub keeps : (h : ℕ) (first : Hart) (own : List Step)
       → ((q : ℕ) → phase_work p h first q own ≤ limit_at p (pace_of cost) q) → KeepsPace p h (pace_of cost) first own
 
+-- Limits by phase that are made of costs serve each part.
 abbrev pub LimitsAreServed : Program → Type 0
 LimitsAreServed p = (cost : Costs) → cost.begin ≤ 64 → 2 ≤ passes p → LimitsServe p cost

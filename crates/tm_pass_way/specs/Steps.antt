@@ -22,6 +22,7 @@ pub data Calls (p : Program) (at : Places) : ℕ → ℕ → Type 0 where
   Before : (c : ℕ) → c < case_count p → Calls p at (at.call c) (at.load c)
   Behind : (c : ℕ) → c < case_count p → Calls p at (at.recall c) (at.collect c)
 
+-- What each part of hart h's program does, from where it begins to where the next one does, and at what cost.
 pub record Steps (p : Program) (h : ℕ) (at : Places) (cost : Costs) (limit : ℕ → ℕ) : Type 0 where
   pub begin : (s : State) → Opens p h s → cost.begin ≤ limit 0
       → Leads p h limit s (λ t. Ready p h (at.head 0) 0 0 cost.begin [] t × Told p h limit t.log)
