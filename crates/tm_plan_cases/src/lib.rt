@@ -10,7 +10,7 @@ mod program;
 
 pub use bytes::tables;
 pub use cases::{Case, Cases, Stream};
-pub use journal::{Event, Journal};
+pub use journal::Event;
 pub use masks::{CaseMask, Masks};
 pub use program::{Marks, Program};
 pub use tm_plan_map::{

@@ -35,6 +35,11 @@ pub registers : (i : Instr) → Fits i → HasRegisters i
 unfolding Fits
 registers i h = has_registers (row_of i.op).layout i h
 
+pub target : (i : Instr) → Fits i → i.rd < 32
+target i h = (registers i h).rd
+
+pub ruleset targets = (target)
+
 pub put-other : (x : List ℕ) (r n : ℕ) → r ≢ 0 → put x r n ≡ slice_set x r n
 unfolding put
 put-other x zero n h = absurd (h refl)

@@ -11,4 +11,4 @@ mod table;
 pub use coding::{decode, encode, fits};
 pub use instr::{Instr, Op};
 pub use state::{Access, Cpu};
-pub use step::{exec, needs_read};
+pub use step::{Action, action_at, apply, exec, needs_read};

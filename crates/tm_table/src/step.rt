@@ -67,9 +67,10 @@ pub fn exec(cpu: &mut Cpu, i: Instr, read: Option<u64>) -> Access
 }
 
 /// What the instruction does at this hart.
-fn action_at(cpu: &Cpu, i: Instr) -> Action
+pub fn action_at(cpu: &Cpu, i: Instr) -> Action
     requires { Fits i }
-    ensures { effect_by result ≡ effect_at (hart_of cpu.now) i }
+    ensures effect { effect_by result ≡ effect_at (hart_of cpu.now) i }
+    ensures width { HasWidth (effect_by result) }
 {
     let a = cpu.x[i.rs1 as usize];
     let b = cpu.x[i.rs2 as usize];
@@ -161,9 +162,9 @@ fn store(addr: u64, width: u8, value: u64) -> Action
 }
 
 /// Makes the step of an action, where `read` is the bytes that a load reads.
-#[tactic(auto, unfolding(crate::specs::Row::after))]
-fn apply(cpu: &mut Cpu, action: Action, i: Instr, read: u64) -> Access
-    requires rd { i.rd < 32 }
+#[tactic(auto, unfolding(crate::specs::Row::after), using(crate::proofs::Steps::targets))]
+pub fn apply(cpu: &mut Cpu, action: Action, i: Instr, read: u64) -> Access
+    requires fits { Fits i }
     requires width { HasWidth (effect_by action) }
     ensures state { hart_of cpu.new
         ≡ (after (effect_by action) (hart_of cpu.old) i.rd (low 64 i.imm) read).0 }

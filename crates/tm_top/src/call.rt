@@ -8,7 +8,7 @@ ghost use Rattle.tm_top_owed.specs.Steps.{Stopped};
 use crate::build::build_command;
 use std::alloc::Global;
 use tm_desk::{Desk, Sink};
-use tm_plan_cases::Journal;
+use tm_plan_journal::Journal;
 use tm_top_list::list_command;
 use tm_top_owed::{CommandWords, Stop, read_words, tell_stop, tell_usage};
 
