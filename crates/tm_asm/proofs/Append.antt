@@ -178,7 +178,8 @@ unfolding puts
 puts-then s a b =
     ap (λ (l : List Item). record { items = l; places = s.places }) (append_assoc s.items (plain a) (plain b) ∙ ap (λ (l : List Item). s.items ++ l) (sym (plain-append a b)))
 
-plain-instrs : (ps : List (Option ℕ)) (at : ℕ) (is : List Instr) → instrs ps at (plain is) ≡ is
+-- plain instructions are laid as they stand, whatever the labels
+pub plain-instrs : (ps : List (Option ℕ)) (at : ℕ) (is : List Instr) → instrs ps at (plain is) ≡ is
 plain-instrs ps at [] = refl
 plain-instrs ps at (i ∷ is) = ap (λ (l : List Instr). i ∷ l) (plain-instrs ps (at + 1) is)
 

@@ -1,17 +1,16 @@
 -- Registers and dwords of a state, the accesses of a log, and steps inside a range of words.
-use Rattle.std.proofs.Common.{◌≡◌, ◌≢◌, ℕ, zero, suc, ◌+◌, ◌*◌, ◌^◌, ◌<◌, ◌≤◌, Bool, true, false, List, [], ◌∷◌, ◌++◌, length, map, refl, sym, ap, ap₂, ◌∙◌, arith, subst}
-use Rattle.std.specs.Prelude.{nat_eq, if◌then◌else◌, slice_index, IsTrue}
+use Rattle.std.proofs.Common.{◌≡◌, ◌≢◌, ℕ, suc, ◌+◌, ◌*◌, ◌^◌, ◌<◌, ◌≤◌, Bool, true, false, List, [], ◌∷◌, length, refl, sym, ◌∙◌, arith, subst}
+use Rattle.std.specs.Prelude.{nat_eq}
 use Rattle.std.proofs.lemmas.Bool.{eqb-true, eqb-false}
 use Rattle.tm_table.specs.declared.instr.Instr.{Instr}
 use Rattle.tm_table.specs.declared.state.Access.{Access}
 use Rattle.tm_table.specs.declared.state.Access.TheVariants.{Quiet, Read, Write}
-use Rattle.tm_base.specs.Lists.{count_from}
 use Rattle.tm_runs.specs.Machine.{World, State, Table, put, get, computes, loaded, MayAccess}
 use Rattle.tm_runs.specs.Runs.{Within, IsQuiet}
 use Rattle.tm_runs.proofs.Compose.{within_map}
 use Rattle.tm_runs.proofs.Steps.{branched}
 use Rattle.tm_runs.proofs.Tables.{put_other, get_put_fits}
-use Rattle.tm_blocks_base.specs.Laws.{Uses, Usable, Changeable, stored_all}
+use Rattle.tm_blocks_base.specs.Laws.{Uses, Usable, stored_all}
 
 -- every register has 64 bits
 abbrev pub Fit : Table → Type 0
@@ -56,38 +55,6 @@ pub stored-other : (vs : List ℕ) (mem : Table) (b j x : ℕ) → ((i : ℕ) �
 stored-other [] mem b j x h = refl
 stored-other (v ∷ vs) mem b j x h =
     stored-other vs (put mem (b + 8 * j) v) b (suc j) x (λ i p q. h i (omega arith) (omega arith)) ∙ put_other mem (b + 8 * j) v x (h j (omega arith) (omega arith))
-
--- the same stores, counted from another dword
-pub stored-shift : (vs : List ℕ) (mem : Table) (b c i j : ℕ) → b + 8 * j ≡ c + 8 * i → stored_all mem b j vs ≡ stored_all mem c i vs
-stored-shift [] mem b c i j e = refl
-stored-shift (v ∷ vs) mem b c i j e =
-    stored-shift vs (put mem (b + 8 * j) v) b c (suc i) (suc j) (omega arith) ∙ ap (λ (x : ℕ). stored_all (put mem x v) c (suc i) vs) e
-
-pub stored-append : (us vs : List ℕ) (mem : Table) (b j : ℕ) → stored_all mem b j (us ++ vs) ≡ stored_all (stored_all mem b j us) b (j + length us) vs
-stored-append [] vs mem b j = stored-shift vs mem b b (j + 0) j (omega arith)
-stored-append (u ∷ us) vs mem b j =
-    stored-append us vs (put mem (b + 8 * j) u) b (suc j) ∙ stored-shift vs (stored_all mem b j (u ∷ us)) b b (j + suc (length us)) (suc j + length us) (omega arith)
-
--- a list by its elements
-pub list_by : (f : ℕ → ℕ) (vs : List ℕ) (j n : ℕ) → length vs ≡ n → ((i l : ℕ) → l ≡ j + i → i < n → slice_index vs i ≡ f l) → vs ≡ map f (count_from j n)
-list_by f [] j zero e h = refl
-list_by f [] j (suc n) e h = absurd (omega arith)
-list_by f (v ∷ vs) j zero e h = absurd (omega arith)
-list_by f (v ∷ vs) j (suc n) e h = ap₂ (λ (x : ℕ) (xs : List ℕ). x ∷ xs) (h 0 j (omega arith) (omega arith)) (list_by f vs (suc j) n (omega arith) (λ i l p q. h (suc i) l (omega arith) (omega arith)))
-
--- the first and the last of a row of dwords
-pub usable_front : {w : World} {a : ℕ} (m n : ℕ) → Usable w a (m + n) → Usable w a m
-usable_front m n u = record { aligned = u.aligned; low = omega (arith, u.low); guest = λ j l. u.guest j (omega arith) }
-
-pub usable_back : {w : World} {a : ℕ} (m n b : ℕ) → b ≡ a + 8 * m → Usable w a (m + n) → Usable w b n
-usable_back {w = w} {a = a} m n b e u = record {
-  aligned = omega (arith, u.aligned);
-  low = omega (arith, u.low);
-  guest = λ j l. subst (λ (x : ℕ). IsTrue (w.guest x)) (omega arith) (u.guest (m + j) (omega arith));
-}
-
-pub changeable_back : (w : World) (a m n b : ℕ) → b ≡ a + 8 * m → Changeable w a (m + n) → Changeable w b n
-changeable_back w a m n b e c = λ j l. subst (λ (x : ℕ). w.fixed x ≡ false) (omega arith) (c (m + j) (omega arith))
 
 -- nothing is read or written where no access is made
 pub quiet_uses : (lo hi : ℕ) (R W : ℕ → Type 0) (t : State) → Within lo hi IsQuiet t → Within lo hi (Uses R W) t

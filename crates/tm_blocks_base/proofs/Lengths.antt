@@ -1,10 +1,9 @@
 -- How many instructions the blocks have.
-use Rattle.std.proofs.Common.{◌≡◌, ℕ, zero, suc, ◌+◌, ◌-◌, ◌*◌, List, [], ◌∷◌, ◌++◌, length, flat_map, refl, ap, arith, length-append}
+use Rattle.std.proofs.Common.{◌≡◌, ℕ, zero, suc, ◌+◌, ◌*◌, List, [], ◌∷◌, ◌++◌, length, flat_map, refl, ap, arith, length-append}
 use Rattle.tm_table.specs.declared.instr.Instr.{Instr}
 use Rattle.tm_base.specs.Lists.{count_from}
-use Rattle.tm_blocks_base.specs.Instrs.{ld, sd, words_of}
-use Rattle.tm_blocks_base.specs.Blocks.{constant, load_registers, load_registers_but_last, save_registers, copy_dword, copy_dwords, copy, collect}
-use Rattle.tm_blocks_base.specs.Compare.{dword_check, register_checks, dword_checks, checks, compare, compare_but_last}
+use Rattle.tm_blocks_base.specs.Instrs.{ld, words_of}
+use Rattle.tm_blocks_base.specs.Blocks.{constant, load_registers, load_registers_but_last, save_registers, copy_dword, copy_dwords}
 
 pub length-words_of : (code : List Instr) → length (words_of code) ≡ length code
 length-words_of [] = refl
@@ -43,35 +42,3 @@ length-save_registers = refl
 pub length-copy_dwords : (from a to b n : ℕ) → length (copy_dwords from a to b n) ≡ 2 * n
 unfolding copy_dwords
 length-copy_dwords from a to b n = let e : length (flat_map (copy_dword from a to b) (count_from 0 n)) ≡ n * 2 = length-blocks (copy_dword from a to b) 2 (λ j. refl) 0 n in omega (arith, e)
-
-pub length-copy : (from to n : ℕ) → length (copy from to n) ≡ 22 + 2 * n
-unfolding copy
-length-copy from to n = simp (length-append, length-constant, length-copy_dwords) refl
-
-pub length-collect : (shared save n : ℕ) → length (collect shared save n) ≡ 82 + 2 * n
-unfolding collect
-length-collect shared save n = simp (length-append, length-constant, length-copy_dwords) (omega arith)
-
-pub length-register_checks : (n : ℕ) → length (register_checks n) ≡ 240
-unfolding register_checks
-length-register_checks n = refl
-
-pub length-dword_checks : (n : ℕ) → length (dword_checks n) ≡ 7 * n
-unfolding dword_checks
-length-dword_checks n = let e : length (flat_map (λ j. dword_check (7 * (n - (j + 1)) + 2) j) (count_from 0 n)) ≡ n * 7 = length-blocks (λ j. dword_check (7 * (n - (j + 1)) + 2) j) 7 (λ j. refl) 0 n in omega (arith, e)
-
-pub length-checks : (n : ℕ) → length (checks n) ≡ 241 + 7 * n
-unfolding checks
-length-checks n = simp (length-append, length-register_checks, length-dword_checks) (omega arith)
-
-pub length-compare : (first other masks bytes cell k n : ℕ) → length (compare first other masks bytes cell k n) ≡ 302 + 7 * n
-unfolding compare
-length-compare first other masks bytes cell k n = simp (length-append, length-constant, length-checks) (omega arith)
-
-pub length-compare_but_last : (first other masks bytes cell k n : ℕ) → length (compare_but_last first other masks bytes cell k n) ≡ 301 + 7 * n
-unfolding compare_but_last
-length-compare_but_last first other masks bytes cell k n = simp (length-append, length-constant, length-checks) (omega arith)
-
-pub compare_parts : (first other masks bytes cell k n : ℕ) → compare first other masks bytes cell k n ≡ compare_but_last first other masks bytes cell k n ++ sd 8 0 7 ∷ []
-unfolding compare compare_but_last
-compare_parts first other masks bytes cell k n = refl

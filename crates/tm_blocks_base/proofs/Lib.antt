@@ -3,11 +3,8 @@ pub mod Lists
 pub mod Lengths
 pub mod Dwords
 pub mod Constant
-pub mod Copy
-pub mod Collect
 pub mod Registers
 pub mod Verdicts
-pub mod Checks
-pub mod Whole
+pub mod Stored
 pub mod Masks
 pub mod Pointwise

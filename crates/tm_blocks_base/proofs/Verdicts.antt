@@ -1,11 +1,9 @@
 -- The verdict's number: what differs, and that it names the least that does.
-use Rattle.std.proofs.Common.{◌≡◌, ◌≢◌, ℕ, zero, suc, ◌+◌, ◌-◌, ◌*◌, ◌/◌, ◌%◌, ◌^◌, ◌<◌, ◌≤◌, ◌⊎◌, inl, inr, Bool, true, false, true≢false, not, List, ◌++◌, refl, sym, ap, ap₂, ◌∙◌, arith, subst, eq-eqb, ne_eqb}
+use Rattle.std.proofs.Common.{◌≡◌, ◌≢◌, ℕ, zero, suc, ◌+◌, ◌-◌, ◌*◌, ◌/◌, ◌%◌, ◌^◌, ◌<◌, ◌≤◌, ◌⊎◌, inl, inr, Bool, true, false, true≢false, not, refl, sym, ap, ap₂, ◌∙◌, arith, subst, eq-eqb, ne_eqb}
 use Rattle.std.specs.Prelude.{bit_and, bit_xor, ◌==◌, ◌&&◌, if◌then◌else◌}
 use Rattle.std.proofs.lemmas.Bool.{cases_lt, lt-ltb, le-ltb}
 use Rattle.std.proofs.lemmas.Nat.{and_comm, pow_pos}
 use Rattle.std.proofs.lemmas.Nat.Bits.{and_pow}
-use Rattle.tm_table.specs.declared.state.Access.{Access}
-use Rattle.tm_blocks_base.specs.Laws.{reads_until}
 use Rattle.tm_blocks_base.specs.Verdict.{differs, first_from, above, verdict_number, IsNumber, agree, differ}
 
 module _ (M : ℕ) (mask a b : ℕ → ℕ) where
@@ -64,28 +62,6 @@ module _ (M : ℕ) (mask a b : ℕ → ℕ) where
 
   pub register_other : (i : ℕ) → i < 30 → bit_and (2 ^ suc i) M ≢ 0 → a i ≢ b i → differs M mask a b i ≡ true
   register_other i l h e = register i l ∙ ap₂ (λ (c d : Bool). c && not d) (bit_on i h) (ne_eqb _ _ e)
-
--- what comes first
-pub first_here : (test : ℕ → Bool) (i n : ℕ) → test i ≡ true → first_from test i (suc n) ≡ suc i
-first_here test i n e = ap (λ (c : Bool). if c then suc i else first_from test (suc i) n) e
-
-pub first_later : (test : ℕ → Bool) (i n : ℕ) → test i ≡ false → first_from test i (suc n) ≡ first_from test (suc i) n
-first_later test i n e = ap (λ (c : Bool). if c then suc i else first_from test (suc i) n) e
-
--- the reads up to it
-pub reads_here : (test : ℕ → Bool) (one : ℕ → List Access) (i n : ℕ) → test i ≡ true → reads_until test one i (suc n) ≡ one i
-reads_here test one i n e = ap (λ (c : Bool). if c then one i else reads_until test one (suc i) n ++ one i) e
-
-pub reads_later : (test : ℕ → Bool) (one : ℕ → List Access) (i n : ℕ) → test i ≡ false → reads_until test one i (suc n) ≡ reads_until test one (suc i) n ++ one i
-reads_later test one i n e = ap (λ (c : Bool). if c then one i else reads_until test one (suc i) n ++ one i) e
-
-pub first_small : (test : ℕ → Bool) (i n : ℕ) → first_from test i n ≤ i + n
-first_small test i zero = omega arith
-first_small test i (suc n) = by (test i) (first_small test (suc i) n)
-  where
-    by : (c : Bool) → first_from test (suc i) n ≤ suc i + n → (if c then suc i else first_from test (suc i) n) ≤ i + suc n
-    by true h = omega arith
-    by false h = omega arith
 
 -- the test fails
 abbrev Fails : (ℕ → Bool) → ℕ → Type 0

@@ -32,12 +32,3 @@ copy_dword from a to b j = ld 3 (8 * (a + j)) from ∷ sd 3 (8 * (b + j)) to ∷
 -- n dwords, one after another
 unfoldable pub copy_dwords : (from a to b n : ℕ) → List Instr
 copy_dwords from a to b n = flat_map (copy_dword from a to b) (count_from 0 n)
-
--- n dwords at one address go to another; it changes x1 to x3 alone
-unfoldable pub copy : (from to n : ℕ) → List Instr
-copy from to n = constant 1 from ++ constant 2 to ++ copy_dwords 1 0 2 0 n
-
--- dwords 0 to 29 at x31, and then n dwords at an address, go to the save area at an address; it changes x1, x3 and x9
--- alone
-unfoldable pub collect : (shared save n : ℕ) → List Instr
-collect shared save n = constant 9 save ++ copy_dwords 31 0 9 0 30 ++ constant 1 shared ++ copy_dwords 1 0 9 30 n

@@ -2,16 +2,14 @@
 -- hart in any world, in any state at the part's first word: it comes, in so many steps, to the address behind the
 -- last, never back to the first, and each step until then makes the accesses alone that are named; what holds then
 -- says how the state differs from the one before, and which accesses were made.
-use Rattle.std.specs.Prelude.{◌≡◌, ◌≢◌, ℕ, zero, suc, ◌+◌, ◌-◌, ◌*◌, ◌/◌, ◌%◌, ◌^◌, ◌<◌, ◌≤◌, ◌⊎◌, List, [], ◌∷◌, ◌++◌, length, slice_index, map, Bool, false, nat_lt, ◌==◌, if◌then◌else◌, IsTrue}
+use Rattle.std.specs.Prelude.{◌≡◌, ℕ, suc, ◌+◌, ◌*◌, ◌%◌, ◌^◌, ◌<◌, ◌≤◌, List, [], ◌∷◌, ◌++◌, map, false, IsTrue}
 use Rattle.tm_table.specs.declared.state.Access.{Access}
 use Rattle.tm_table.specs.declared.state.Access.TheVariants.{Quiet, Read, Write}
 use Rattle.tm_base.specs.Lists.{count_from}
 use Rattle.tm_runs.specs.Machine.{Table, Entry, State, World, put, get, loaded, moved}
 use Rattle.tm_runs.specs.Runs.{Takes, At, Within, IsQuiet}
 use Rattle.tm_blocks_base.specs.Instrs.{ld, sd}
-use Rattle.tm_blocks_base.specs.Blocks.{constant, load_registers, load_registers_but_last, save_registers, copy, collect}
-use Rattle.tm_blocks_base.specs.Compare.{compare, compare_but_last}
-use Rattle.tm_blocks_base.specs.Verdict.{differs, verdict_number}
+use Rattle.tm_blocks_base.specs.Blocks.{constant, load_registers, load_registers_but_last, save_registers}
 
 -- ---- accesses
 
@@ -35,12 +33,6 @@ reads a j (v ∷ vs) = reads a (suc j) vs ++ Read (a + 8 * j) 8 v ∷ []
 abbrev pub writes : (b j : ℕ) → List ℕ → List Access
 writes b j [] = []
 writes b j (v ∷ vs) = writes b (suc j) vs ++ Write (b + 8 * j) 8 v ∷ []
-
--- a read of each of these values, from dword j at a on, each followed by its write, from dword j at b on, the newest
--- first
-abbrev pub copies : (a b j : ℕ) → List ℕ → List Access
-copies a b j [] = []
-copies a b j (v ∷ vs) = copies a b (suc j) vs ++ Write (b + 8 * j) 8 v ∷ Read (a + 8 * j) 8 v ∷ []
 
 -- P holds of each access
 abbrev pub EachAccess : (Access → Type 0) → List Access → Type 0
@@ -78,10 +70,6 @@ ReadsBack w a n = (j : ℕ) → j < n → IsTrue (w.own (a + 8 * j))
 -- n dwords from a on can be changed by stores
 abbrev pub Changeable : World → (a n : ℕ) → Type 0
 Changeable w a n = (j : ℕ) → j < n → w.fixed (a + 8 * j) ≡ false
-
--- m dwords from a on and n dwords from b on have none in common
-abbrev pub Disjoint : (a m b n : ℕ) → Type 0
-Disjoint a m b n = (a + 8 * m ≤ b) ⊎ (b + 8 * n ≤ a)
 
 -- n dwords from a on
 abbrev pub dwords : Table → (a n : ℕ) → List ℕ
@@ -178,124 +166,7 @@ SaveRegistersRuns = (w : World) (s : State) (b : ℕ) → get s.regs 31 ≡ b �
     → At w.text s.pc save_registers
     → Takes w (Within s.pc (s.pc + 120) (Uses Nowhere (Among b 30))) (HasSaved b s) 30 s
 
--- ---- copying
-
--- what was read at n dwords from a on, in order: what the memory had where it reads back
-pub record WasRead (w : World) (mem : Table) (a n : ℕ) (values : List ℕ) : Type 0 where
-  pub count : length values ≡ n
-  pub small : (j : ℕ) → j < n → slice_index values j < 2 ^ 64
-  pub own : (j : ℕ) → j < n → IsTrue (w.own (a + 8 * j)) → slice_index values j ≡ mem (a + 8 * j)
-
--- n dwords from one address on were read, and these values written from another on; x1 and x2 are the addresses
-pub record HasCopied (w : World) (from to n : ℕ) (s t : State) : Type 0 where
-  pub values : List ℕ
-  pub read : WasRead w s.mem from n values
-  pub pc : t.pc ≡ s.pc + 4 * (22 + 2 * n)
-  pub source : get t.regs 1 ≡ from
-  pub target : get t.regs 2 ≡ to
-  pub regs : (r : ℕ) → r ≢ 1 → r ≢ 2 → r ≢ 3 → get t.regs r ≡ get s.regs r
-  pub mem : t.mem ≡ stored_all s.mem to 0 values
-  pub accesses : accesses t.log ≡ copies from to 0 values ++ accesses s.log
-  pub fits : RegistersFit s → RegistersFit t
-
--- 22 steps and 2 a dword, which read from the one address on and write from the other on
-abbrev pub CopyRuns : (from to n : ℕ) → Type 0
-CopyRuns from to n = (w : World) (s : State) → Usable w from n → Usable w to n → Changeable w to n
-    → Disjoint from n to n → At w.text s.pc (copy from to n)
-    → Takes w (Within s.pc (s.pc + 4 * (22 + 2 * n)) (Uses (Among from n) (Among to n))) (HasCopied w from to n s) (22 + 2 * n) s
-
--- ---- collecting
-
--- The 30 dwords at b went to the first 30 from save on, and n dwords read from shared on to those behind.
-pub record HasCollected (w : World) (b shared save n : ℕ) (s t : State) : Type 0 where
-  pub values : List ℕ
-  pub count : length values ≡ n
-  pub small : (j : ℕ) → j < n → slice_index values j < 2 ^ 64
-  pub pc : t.pc ≡ s.pc + 4 * (82 + 2 * n)
-  pub regs : (r : ℕ) → r ≢ 1 → r ≢ 3 → r ≢ 9 → get t.regs r ≡ get s.regs r
-  pub mem : t.mem ≡ stored_all s.mem save 0 (dwords s.mem b 30 ++ values)
-  pub accesses : accesses t.log ≡ copies shared (save + 240) 0 values ++ copies b save 0 (dwords s.mem b 30)
-      ++ accesses s.log
-  pub fits : RegistersFit s → RegistersFit t
-
--- an address of the 30 dwords at b, or of the n shared ones
-abbrev pub Collects : (b shared n a : ℕ) → Type 0
-Collects b shared n a = Among b 30 a ⊎ Among shared n a
-
--- 82 steps and 2 a dword, which read the dwords at x31 and the shared ones, and write from save on
-abbrev pub CollectRuns : (shared save n : ℕ) → Type 0
-CollectRuns shared save n = (w : World) (s : State) (b : ℕ) → get s.regs 31 ≡ b
-    → Usable w b 30 → ReadsBack w b 30 → Usable w shared n → Usable w save (30 + n) → Changeable w save (30 + n)
-    → Disjoint b 30 save 30
-    → At w.text s.pc (collect shared save n)
-    → Takes w (Within s.pc (s.pc + 4 * (82 + 2 * n)) (Uses (Collects b shared n) (Among save (30 + n)))) (HasCollected w b shared save n s) (82 + 2 * n) s
-
--- ---- comparing
-
--- what is compared may be accessed, and reads back
-pub record Comparable (w : World) (first other masks bytes n : ℕ) : Type 0 where
-  pub first_usable : Usable w first (30 + n)
-  pub first_back : ReadsBack w first (30 + n)
-  pub other_usable : Usable w other (30 + n)
-  pub other_back : ReadsBack w other (30 + n)
-  pub mask_usable : Usable w masks 1
-  pub mask_back : ReadsBack w masks 1
-  pub bytes_usable : Usable w bytes n
-  pub bytes_back : ReadsBack w bytes n
-
--- an address of what is compared
-pub data Compares (first other masks bytes n a : ℕ) : Type 0 where
-  First : Among first (30 + n) a → Compares first other masks bytes n a
-  Other : Among other (30 + n) a → Compares first other masks bytes n a
-  Mask : a ≡ masks → Compares first other masks bytes n a
-  Bytes : Among bytes n a → Compares first other masks bytes n a
-
--- the reads of dword i's check, the newest first: of a register that is checked, the two saved values; of a collected
--- dword, the two and then its mask
-unfoldable pub check_reads : Table → (first other bytes registers i : ℕ) → List Access
-check_reads mem first other bytes registers i =
-    if nat_lt i 30 then (if registers / 2 ^ (i + 1) % 2 == 1 then Read (other + 8 * i) 8 (mem (other + 8 * i))
-    ∷ Read (first + 8 * i) 8 (mem (first + 8 * i)) ∷ [] else [])
-    else Read (bytes + 8 * (i - 30)) 8 (mem (bytes + 8 * (i - 30))) ∷ Read (other + 8 * i) 8 (mem (other + 8 * i))
-    ∷ Read (first + 8 * i) 8 (mem (first + 8 * i)) ∷ []
-
--- the reads of n checks from dword i on, up to the first that finds a difference, the newest first
-abbrev pub reads_until : (ℕ → Bool) → (ℕ → List Access) → (i n : ℕ) → List Access
-reads_until test one i zero = []
-reads_until test one i (suc n) = if test i then one i else reads_until test one (suc i) n ++ one i
-
--- which dwords of two saved states differ
-abbrev pub differs_in : Table → (first other masks bytes : ℕ) → ℕ → Bool
-differs_in mem first other masks bytes = differs (mem masks) (λ j. mem (bytes + 8 * j)) (λ i. mem (first + 8 * i)) (λ i. mem (other + 8 * i))
-
--- all reads of a comparison, the newest first; the first is that of the registers' mask
-abbrev pub compare_reads : Table → (first other masks bytes n : ℕ) → List Access
-compare_reads mem first other masks bytes n =
-    reads_until (differs_in mem first other masks bytes) (check_reads mem first other bytes (mem masks)) 0 (30 + n)
-    ++ Read masks 8 (mem masks) ∷ []
-
--- the verdict on pass k over the memory: dword i of a saved state is at its address plus 8 * i
-abbrev pub verdict_in : Table → (first other masks bytes k n : ℕ) → ℕ
-verdict_in mem first other masks bytes k n = verdict_number (mem masks) (λ j. mem (bytes + 8 * j)) (λ i. mem (first + 8 * i)) (λ i. mem (other + 8 * i)) k n
-
--- x8 is the verdict, and x7 the cell's address; nothing was written
-pub record HasVerdict (first other masks bytes cell k n : ℕ) (s t : State) : Type 0 where
-  pub pc : t.pc ≡ s.pc + 4 * (301 + 7 * n)
-  pub place : get t.regs 7 ≡ cell
-  pub number : get t.regs 8 ≡ verdict_in s.mem first other masks bytes k n
-  pub regs : (r : ℕ) → r ≢ 1 → r ≢ 2 → (r < 4) ⊎ (8 < r) → get t.regs r ≡ get s.regs r
-  pub mem : t.mem ≡ s.mem
-  pub read : List Access
-  pub only : EachAccess (Uses (Compares first other masks bytes n) Nowhere) read
-  pub exact : read ≡ compare_reads s.mem first other masks bytes n
-  pub accesses : accesses t.log ≡ read ++ accesses s.log
-  pub fits : RegistersFit s → RegistersFit t
-
--- up to 301 steps and 7 a dword, which read what is compared and write nothing
-abbrev pub CompareButLastRuns : (first other masks bytes cell k n : ℕ) → Type 0
-CompareButLastRuns first other masks bytes cell k n = (w : World) (s : State)
-    → Comparable w first other masks bytes n → At w.text s.pc (compare_but_last first other masks bytes cell k n)
-    → Takes w (Within s.pc (s.pc + 4 * (301 + 7 * n)) (Uses (Compares first other masks bytes n) Nowhere)) (HasVerdict first other masks bytes cell k n s) (301 + 7 * n) s
+-- ---- the store of a number
 
 -- the state after the store of x8 at an address
 abbrev pub after_verdict : (cell : ℕ) → State → State
@@ -306,21 +177,3 @@ abbrev pub LastStoreRuns : (cell : ℕ) → Type 0
 LastStoreRuns cell = (w : World) (s : State) → Usable w cell 1 → Changeable w cell 1
     → At w.text s.pc (sd 8 0 7 ∷ []) → get s.regs 7 ≡ cell
     → Takes w (λ t. t ≡ after_verdict cell s) (λ t. t ≡ after_verdict cell s) 1 s
-
--- the verdict was written to the cell, by the last access and by no other
-pub record HasCompared (first other masks bytes cell k n : ℕ) (s t : State) : Type 0 where
-  pub pc : t.pc ≡ s.pc + 4 * (302 + 7 * n)
-  pub regs : (r : ℕ) → r ≢ 1 → r ≢ 2 → (r < 4) ⊎ (8 < r) → get t.regs r ≡ get s.regs r
-  pub mem : t.mem ≡ put s.mem cell (verdict_in s.mem first other masks bytes k n)
-  pub read : List Access
-  pub only : EachAccess (Uses (Compares first other masks bytes n) Nowhere) read
-  pub exact : read ≡ compare_reads s.mem first other masks bytes n
-  pub accesses : accesses t.log ≡ Write cell 8 (verdict_in s.mem first other masks bytes k n) ∷ read ++ accesses s.log
-  pub fits : RegistersFit s → RegistersFit t
-
--- up to 302 steps and 7 a dword, of which the last alone writes
-abbrev pub CompareRuns : (first other masks bytes cell k n : ℕ) → Type 0
-CompareRuns first other masks bytes cell k n = (w : World) (s : State) → Comparable w first other masks bytes n
-    → Usable w cell 1 → Changeable w cell 1
-    → At w.text s.pc (compare first other masks bytes cell k n)
-    → Takes w (Within s.pc (s.pc + 4 * (302 + 7 * n)) (Uses (Compares first other masks bytes n) (Among cell 1))) (HasCompared first other masks bytes cell k n s) (302 + 7 * n) s

@@ -1,6 +1,5 @@
 //! Parts of support code as words of labelled code: the instructions, and blocks that set, load and save registers.
-//! Their words and laws are those of `tm_blocks_base`, whose calls append the same blocks to plain words, for programs of
-//! one hart; the calls here take their place where labels are needed, for programs of many harts.
+//! Their words and laws are those of `tm_blocks_base`.
 #![tactic(auto)]
 
 mod blocks;

@@ -10,5 +10,4 @@ pub mod Phases
 pub mod Settling
 pub mod Half
 pub mod Tame
-pub mod Alone
 pub mod Sound

@@ -1,11 +1,13 @@
 -- Hart by hart: a hart's own steps, as a run of their own.
-use Rattle.std.proofs.Common.{◌≡◌, ◌≢◌, ℕ, ◌<◌, List, [], ◌∷◌, Bool, ◌⊎◌, inl, inr, refl, sym, ap, ◌∙◌, subst, eq-eqb, ne_eqb}
-use Rattle.std.specs.Prelude.{if◌then◌else◌}
+use Rattle.std.proofs.Common.{◌≡◌, ◌≢◌, ℕ, ◌+◌, ◌<◌, List, [], ◌∷◌, Bool, Option, ◌⊎◌, inl, inr, refl, sym, ap, ◌∙◌, subst, eq-eqb, ne_eqb}
+use Rattle.std.specs.Prelude.{if◌then◌else◌, IfSome}
 use Rattle.std.proofs.lemmas.Bool.{cases_eq}
+use Rattle.tm_table.specs.declared.state.Access.{Access}
+use Rattle.tm_table.specs.declared.state.Access.TheVariants.{Quiet, Read, Write}
 use Rattle.tm_table.specs.State.{Hart}
 use Rattle.tm_plan_cases.specs.declared.program.Program.{Program}
-use Rattle.tm_world.specs.Place.{harts}
-use Rattle.tm_world.specs.Run.{Step, Always, own, hart_of, first_state}
+use Rattle.tm_world.specs.Place.{harts, byte_of}
+use Rattle.tm_world.specs.Run.{Step, Always, own, hart_of, first_state, Reads}
 use Rattle.tm_world.specs.Kinds.{IsOpening, Half, HalfPath}
 use Rattle.tm_world.specs.Course.{OnHalf}
 use Rattle.tm_world.proofs.Prefix.{earlier}
@@ -52,3 +54,9 @@ module _ (p : Program) (h : ℕ) (number : h < harts p) (o : ℕ → List ℕ) (
   -- So what holds on half runs holds of such steps.
   pub of-half : (P : Hart → List Step → Type 0) → OnHalf p h P → (steps : List Step) → Owns h steps → HalfPath p h (first_state (o h)) steps → P (first_state (o h)) steps
   of-half P k steps a path = subst (P (first_state (o h))) (own-all h steps a) (k (earlier o steps) (solo steps a path))
+
+-- reads are judged by what is owed
+pub reads-same : (f g : ℕ → Option ℕ) (a : Access) → ((b : ℕ) → f b ≡ g b) → Reads f a → Reads g a
+reads-same f g Quiet e r = tt
+reads-same f g (Write addr width value) e r = tt
+reads-same f g (Read addr width value) e r = λ i l. subst (λ (o : Option ℕ). IfSome o (λ b. byte_of value i ≡ b)) (e (addr + i)) (r i l)

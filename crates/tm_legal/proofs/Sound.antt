@@ -1,7 +1,7 @@
 -- Each legal run of a sound program is a half run.
 use Rattle.tm_plan_cases.specs.declared.program.Program.{Program}
 use Rattle.tm_legal.specs.Tame.{Formed}
-use Rattle.tm_legal.specs.Laws.{CourseRunsAreHalf, SoundRunsAreHalf, ClaimedRunsAreHalf}
+use Rattle.tm_legal.specs.Laws.{CourseRunsAreHalf, SoundRunsAreHalf}
 use Rattle.tm_legal.proofs.Half.{legal-runs}
 use Rattle.tm_legal.proofs.Tame.{course-tame}
 
@@ -12,8 +12,3 @@ course-half p program typed course =
 
 pub sound-half : (p : Program) → SoundRunsAreHalf p
 sound-half p typed sound = course-half p sound.program typed sound.course
-
-pub claimed-half : (p : Program) → ClaimedRunsAreHalf p
-claimed-half p typed sound spares =
-    let formed : Formed p = record { program = sound.program; typed = typed; laid = sound.laid } in
-    legal-runs p formed (λ h l. record { order = sound.order h l; fresh = sound.fresh h l; spares = spares h l })

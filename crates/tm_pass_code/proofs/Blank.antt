@@ -5,7 +5,7 @@ use Rattle.tm_table.specs.Words.{word_of}
 use Rattle.tm_asm.specs.Sheet.{Sheet, AllPlaced, instrs, plain, puts}
 use Rattle.tm_asm.specs.Sheet as sheet
 use Rattle.tm_blocks_base.specs.Instrs.{words_of}
-use Rattle.tm_asm.proofs.Append.{length-puts}
+use Rattle.tm_asm.proofs.Append.{length-puts, plain-instrs}
 use Rattle.tm_pass_code.specs.Plain.{blank, IsPlain}
 
 plain-placed : (ps : List (Option ℕ)) (is : List Instr) → AllPlaced ps (plain is)
@@ -16,10 +16,6 @@ plain-placed ps (i ∷ is) = (tt, plain-placed ps is)
 pub all_placed : (s : Sheet) → IsPlain s → AllPlaced s.places s.items
 unfolding puts
 all_placed s h = subst (λ (x : Sheet). AllPlaced x.places x.items) (sym h.1) (plain-placed [] h.0)
-
-plain-instrs : (ps : List (Option ℕ)) (at : ℕ) (is : List Instr) → instrs ps at (plain is) ≡ is
-plain-instrs ps at [] = refl
-plain-instrs ps at (i ∷ is) = ap (λ (l : List Instr). i ∷ l) (plain-instrs ps (at + 1) is)
 
 same-words : (is : List Instr) → sheet.words_of is ≡ words_of is
 same-words [] = refl

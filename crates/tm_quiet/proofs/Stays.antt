@@ -35,7 +35,7 @@ use Rattle.tm_quiet.proofs.Effects.{owed_at}
 use Rattle.tm_quiet.proofs.Moves.{Move, obeys}
 use Rattle.tm_quiet.proofs.Ways.{byte_now, Ways, ways-before, fresh-entry}
 use Rattle.tm_legal.proofs.Formed.{formed-sizes}
-use Rattle.tm_legal.proofs.Alone.{reads-same}
+use Rattle.tm_legal.proofs.Own.{reads-same}
 
 -- registers and bytes as one state: a register goes by its number, a byte by its address
 abbrev pub joint : (ℕ → Bool) → (ℕ → ℕ) → (ℕ → ℕ) → ℕ → ℕ

@@ -8,8 +8,8 @@ use Rattle.tm_plan_cases.specs.Tables.{table_bytes}
 use Rattle.tm_world.specs.Place.{harts, round_count}
 use Rattle.tm_world.specs.Run.{Run, Always, access_of}
 use Rattle.tm_world.specs.Kinds.{Legal, Plain}
-use Rattle.tm_world.specs.Course.{OnHalf, KeepsOrder, EntersFresh, KeepsVerdicts, HasAllVerdicts, writes_in}
-use Rattle.tm_world.specs.Whole.{Course, Laid}
+use Rattle.tm_world.specs.Course.{OnHalf, writes_in}
+use Rattle.tm_world.specs.Whole.{Course}
 use Rattle.tm_world.specs.Work.{Bound}
 use Rattle.tm_world.specs.Verdict.{WritesExactly}
 use Rattle.tm_world.specs.Checked.{AreChecked}
@@ -31,21 +31,3 @@ pub record Sound (p : Program) : Type 0 where
   pub silent : (r : Run) → Legal p r → NotReported p r
   pub exact : (h : ℕ) → h < harts p → OnHalf p h (WritesExactly p h)
   pub plain : (r : Run) → Plain p r → Legal p r
-
--- The parts of a sound program that are claimed so far: it is a program with exactly the checked masks and the
--- format's tables; its marks and streams stand where they belong; on each half run each hart comes to its marks in
--- order, enters its streams with fresh registers, and writes its verdicts as it should; its steps are bounded; on
--- each legal run no case is reported; and on each half run each number that is written to a verdict cell is the
--- verdict.
-pub record SoundSoFar (p : Program) : Type 0 where
-  pub program : IsProgram p
-  pub masks : AreChecked p.cases p.masks
-  pub tables : p.tables ≡ table_bytes p.cases p.masks
-  pub laid : Laid p
-  pub order : (h : ℕ) → h < harts p → OnHalf p h (KeepsOrder p h)
-  pub fresh : (h : ℕ) → h < harts p → OnHalf p h (EntersFresh p h)
-  pub verdicts : (h : ℕ) → h < harts p → OnHalf p h (KeepsVerdicts p h)
-  pub all_verdicts : (h : ℕ) → h < harts p → OnHalf p h (HasAllVerdicts p h)
-  pub bound : (h : ℕ) → h < harts p → Bound p h
-  pub silent : (r : Run) → Legal p r → NotReported p r
-  pub exact : (h : ℕ) → h < harts p → OnHalf p h (WritesExactly p h)

@@ -6,7 +6,7 @@ use Rattle.tm_asm.specs.Sheet.{puts}
 use Rattle.tm_blocks_base.specs.Instrs.{addi, ld, sd}
 use Rattle.tm_blocks_base.specs.Blocks.{constant}
 use Rattle.tm_blocks_code.proofs.Puts.{and_then}
-use Rattle.tm_blocks_base.proofs.Whole.{last_store_runs}
+use Rattle.tm_blocks_base.proofs.Stored.{last_store_runs}
 use Rattle.tm_blocks_compare.specs.Words.{all_passes, closing, compare_all_but_last, compare_all, case_masks, case_bytes}
 use Rattle.tm_blocks_compare.proofs.Whole.{compare_all_runs, compare-all-short}
 use Rattle.tm_blocks_compare.proofs.Least.{names_least_of_all}

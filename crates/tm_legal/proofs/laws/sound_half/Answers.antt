@@ -1,5 +1,5 @@
-use Rattle.tm_legal.proofs.Sound.{course-half, sound-half, claimed-half}
+use Rattle.tm_legal.proofs.Sound.{course-half, sound-half}
 use Rattle.tm_legal.proofs.laws.sound_half.Goals as goal
 
 pub returns : goal.returns
-returns c = record { course = course-half c.args.program.now; sound = sound-half c.args.program.now; claimed = claimed-half c.args.program.now }
+returns c = record { course = course-half c.args.program.now; sound = sound-half c.args.program.now }

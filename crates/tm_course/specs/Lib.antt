@@ -1,2 +1,0 @@
-pub mod OneHart
-pub mod Claims
