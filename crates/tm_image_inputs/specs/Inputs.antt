@@ -1,6 +1,5 @@
 -- The two input texts: the test that they ask for, or their first fault. Source: this project.
-use Rattle.std.specs.Prelude.{ℕ, ◌≡◌, ◌*◌, ◌==◌, ◌&&◌, Bool, if◌then◌else◌, List, Option, Some, None, Result, Ok, Err}
-use Rattle.tm_base.specs.declared.Pos.{Pos}
+use Rattle.std.specs.Prelude.{ℕ, ◌≡◌, List, Option, Some, None, Result, Ok, Err}
 use Rattle.tm_topo.specs.declared.system.Topology.{Topology}
 use Rattle.tm_topo.specs.declared.system.TopoFault.{TopoFault}
 use Rattle.tm_topo.specs.Reading.{topology_of}
@@ -11,12 +10,10 @@ use Rattle.tm_plan_map.specs.declared.admitted.Admitted.{Admitted}
 use Rattle.tm_faults.specs.declared.rule.RuleAt.{RuleAt}
 use Rattle.tm_rules_first.specs.Rules.{broken_rule}
 use Rattle.tm_rules.specs.Admitting.{admitted_of}
-use Rattle.tm_faults.specs.declared.role.Role.TheVariants.{Topology as of_topology, Template as of_template}
 use Rattle.tm_faults.specs.declared.inputs.InputFault.{InputFault}
-use Rattle.tm_faults.specs.declared.inputs.InputFault.TheVariants.{Topo, Tmpl, Rule, NotYet}
+use Rattle.tm_faults.specs.declared.inputs.InputFault.TheVariants.{Topo, Tmpl, Rule}
 use Rattle.tm_faults.specs.declared.inputs.BuildFault.{BuildFault}
 use Rattle.tm_faults.specs.declared.inputs.BuildFault.TheVariants as fault
-use Rattle.tm_image_inputs.specs.Late.{late_in}
 use Rattle.tm_faults.specs.Named.{IsNamed}
 
 -- ---- the topology
@@ -30,32 +27,11 @@ refusal_of (Err e) = Some (Topo e)
 unfoldable pub topology_refusal : List ℕ → Option InputFault
 topology_refusal text = refusal_of (topology_of text)
 
--- ---- what isn't built yet
-
--- a system that is built so far: one hart, and lines of 64 bytes (this project)
-abbrev pub is_first_system : Topology → Bool
-is_first_system t = (t.cores * t.threads) == 1 && t.line == 64
-
--- the fault of a place in the template, where there is one (this project)
-abbrev pub late_at : Option Pos → Option InputFault
-late_at None = None
-late_at (Some p) = Some (NotYet of_template p.line)
-
--- Why a test that no rule refuses isn't built yet: its system, which has line 0, else the first statement of its
--- template (this project).
-unfoldable pub not_yet : Topology → Template → Option InputFault
-not_yet topo t = if is_first_system topo then late_at (late_in t) else Some (NotYet of_topology 0)
-
 -- ---- both
 
--- the test, unless it isn't built yet (this project)
-abbrev pub unless_late : Admitted → Option InputFault → Result Admitted InputFault
-unless_late a None = Ok a
-unless_late a (Some f) = Err f
-
--- the test of a template, unless it breaks a rule or isn't built yet (this project)
+-- the test of a template, unless it breaks a rule (this project)
 abbrev pub unless_broken : Topology → Template → Option RuleAt → Result Admitted InputFault
-unless_broken topo t None = unless_late (admitted_of topo t) (not_yet topo t)
+unless_broken topo t None = Ok (admitted_of topo t)
 unless_broken topo t (Some r) = Err (Rule r)
 
 -- what a reading of a template comes to (this project)
@@ -63,8 +39,7 @@ abbrev pub of_reading : Topology → Result Template TmplFault → Result Admitt
 of_reading topo (Ok t) = unless_broken topo t (broken_rule topo t)
 of_reading topo (Err e) = Err (Tmpl e)
 
--- The test of a template for a system, or the template's first fault: of its grammar, of its rules, or that it isn't
--- built yet (this project).
+-- The test of a template for a system, or the template's first fault: of its grammar, or of its rules (this project).
 unfoldable pub template_inputs : Topology → List ℕ → Result Admitted InputFault
 template_inputs topo template = of_reading topo (template_of template)
 

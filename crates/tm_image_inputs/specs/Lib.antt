@@ -1,3 +1,1 @@
-pub mod Built
-pub mod Late
 pub mod Inputs

@@ -1,7 +1,6 @@
 //! The two input texts of an image: the test that they ask for, or their first fault.
 #![tactic(auto)]
 
-mod late;
 mod read;
 
 pub use read::{read_inputs, topology_fault};

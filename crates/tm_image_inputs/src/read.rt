@@ -2,15 +2,14 @@
 ghost use Rattle.std.specs.Prelude.{◌≡◌, ◌≤◌, Some, Ok, IfOk, IfErr, length};
 ghost use Rattle.tm_topo.specs.Limits.{IsInRange};
 ghost use Rattle.tm_rules_first.specs.Rules.{broken_rule};
-ghost use Rattle.tm_image_inputs.specs.Built.{AreBuilt};
+ghost use Rattle.tm_place.specs.Ruled.{IsRuled};
 ghost use Rattle.tm_faults.specs.declared.inputs.InputFault.{InputFault as AFault};
 ghost use Rattle.tm_image_inputs.specs.Inputs as inputs_;
 ghost use Rattle.tm_faults.specs.Named.{IsNamed};
 
-use crate::late::late_in;
 use std::alloc::Global;
 use tm_base::NoMemory;
-use tm_faults::{AdmitFault, BuildFault, InputFault, Role};
+use tm_faults::{AdmitFault, BuildFault, InputFault};
 use tm_lex::LexFault;
 use tm_plan_map::Admitted;
 use tm_rules::admit;
@@ -31,13 +30,13 @@ pub fn topology_fault(alloc: Global, topo: &[u8]) -> Result<Option<InputFault>, 
     }
 }
 
-/// The test that a topology and a template ask for, or their first fault: the topology's, then that of the template's grammar, of its rules,
-/// and at last that something in them isn't built yet.
+/// The test that a topology and a template ask for, or their first fault: the topology's, then that of the template's
+/// grammar, then that of its rules.
 #[tactic(auto, unfolding(crate::specs::Inputs::inputs))]
 pub fn read_inputs(alloc: Global, topo: &[u8], template: &[u8]) -> Result<Admitted, BuildFault>
     requires { length template.now ≤ 1048576 }
     ensures ok { IfOk result (λ a. inputs_.inputs topo.now template.now ≡ Ok a) }
-    ensures built { IfOk result AreBuilt }
+    ensures ruled { IfOk result IsRuled }
     ensures err { IfErr result (λ fault. inputs_.IsFaultOf fault (inputs_.inputs topo.now template.now)) }
 {
     match parse_topology(alloc, topo) {
@@ -53,7 +52,7 @@ fn read_template(alloc: Global, topo: &Topology, template: &[u8]) -> Result<Admi
     requires range { IsInRange topo.now }
     requires size { length template.now ≤ 1048576 }
     ensures ok { IfOk result (λ a. inputs_.template_inputs topo.now template.now ≡ Ok a) }
-    ensures built { IfOk result AreBuilt }
+    ensures ruled { IfOk result IsRuled }
     ensures err { IfErr result (λ fault. inputs_.IsFaultOf fault (inputs_.template_inputs topo.now template.now)) }
 {
     match parse_template(alloc, template) {
@@ -64,42 +63,17 @@ fn read_template(alloc: Global, topo: &Topology, template: &[u8]) -> Result<Admi
     }
 }
 
-// The test that a template states, unless it breaks a rule or isn't built yet.
-#[tactic(auto, using(crate::proofs::BuiltLemmas::built_where, tm_rules_slot::proofs::Systems::system_of))]
+// The test that a template states, unless it breaks a rule.
+#[tactic(auto, using(tm_rules_slot::proofs::Systems::system_of))]
 fn test_of(alloc: Global, topo: &Topology, t: &Template) -> Result<Admitted, BuildFault>
     requires range { IsInRange topo.now }
     ensures ok { IfOk result (λ a. inputs_.unless_broken topo.now t.now (broken_rule topo.now t.now) ≡ Ok a) }
-    ensures built { IfOk result AreBuilt }
+    ensures ruled { IfOk result IsRuled }
     ensures err { IfErr result (λ fault. inputs_.IsFaultOf fault (inputs_.unless_broken topo.now t.now (broken_rule topo.now t.now))) }
 {
-    let a = match admit(alloc, t, topo) {
-        Ok(a) => a,
-        Err(AdmitFault::Rule(broken)) => return Err(BuildFault::Input(InputFault::Rule(broken))),
-        Err(AdmitFault::NoMemory) => return Err(BuildFault::NoMemory),
-    };
-    match not_yet(topo, t) {
-        Some(fault) => Err(BuildFault::Input(fault)),
-        None => Ok(a),
-    }
-}
-
-// Why a test that no rule refuses isn't built yet.
-#[tactic(auto, unfolding(crate::specs::Inputs::not_yet))]
-fn not_yet(topo: &Topology, t: &Template) -> Option<InputFault>
-    requires { IsInRange topo.now }
-    ensures fault { result ≡ inputs_.not_yet topo.now t.now }
-{
-    if topo.cores * topo.threads != 1 || topo.line != 64 {
-        return Some(InputFault::NotYet {
-            file: Role::Topology,
-            line: 0,
-        });
-    }
-    match late_in(t) {
-        Some(at) => Some(InputFault::NotYet {
-            file: Role::Template,
-            line: at.line,
-        }),
-        None => None,
+    match admit(alloc, t, topo) {
+        Ok(a) => Ok(a),
+        Err(AdmitFault::Rule(broken)) => Err(BuildFault::Input(InputFault::Rule(broken))),
+        Err(AdmitFault::NoMemory) => Err(BuildFault::NoMemory),
     }
 }
