@@ -1,6 +1,7 @@
 // Opens an image by building it again.
 ghost use Rattle.std.specs.Prelude.{◌≡◌, ◌≢◌, ◌≤◌, Ok, Err, IfOk, IfErr, MatchResult, length};
-ghost use Rattle.tm_world.specs.Sound.{SoundSoFar};
+ghost use Rattle.tm_plan_cases.specs.Shaped.{IsTyped};
+ghost use Rattle.tm_world.specs.Sound.{Sound};
 ghost use Rattle.tm_elf.specs.Read.{elf_of};
 ghost use Rattle.tm_image_build.specs.Built.{program_from};
 ghost use Rattle.tm_image_inputs.specs.Inputs.{inputs};
@@ -14,15 +15,17 @@ use tm_elf_write::Parts;
 use tm_faults::{BuildFault, ImageFault};
 use tm_image_build::{Image, build};
 
-/// The image of a file, if the file is what is built of its plan; else its first fault. A file is taken only where it is the image's file, byte for byte.
+/// The image of a file, if the file is what is built of its plan; else its first fault. A file is taken only where it
+/// is the image's file, byte for byte.
 #[tactic(auto, unfolding(tm_image_build::specs::Opened::opened))]
 pub fn open_image(alloc: Global, bytes: &[u8]) -> Result<Image, ImageFault>
     ensures ok { IfOk result (λ image. opened bytes.now ≡ Ok image.file) }
     ensures file { IfOk result (λ image. image.file ≡ bytes.now) }
     ensures plan { IfOk result (λ image. MatchResult (elf_of bytes.now) (λ parts. rebuilt parts ≡ Ok bytes.now) (λ _. ⊥)) }
     ensures seed { IfOk result (λ image. MatchResult (elf_of bytes.now) (λ parts. image.seed ≡ parts.plan.seed) (λ _. ⊥)) }
-    ensures program { IfOk result (λ image. MatchResult (elf_of bytes.now) (λ parts. program_from (inputs parts.plan.topo parts.plan.template) ≡ Ok image.program) (λ _. ⊥)) }
-    ensures sound { IfOk result (λ image. SoundSoFar image.program) }
+    ensures program { IfOk result (λ image. MatchResult (elf_of bytes.now) (λ parts. program_from parts.plan.seed (inputs parts.plan.topo parts.plan.template) ≡ Ok image.program) (λ _. ⊥)) }
+    ensures sound { IfOk result (λ image. Sound image.program) }
+    ensures typed { IfOk result (λ image. IsTyped image.program) }
     ensures err { IfErr result (λ e. e ≢ ImageFault.NoMemory → opened bytes.now ≡ Err e) }
     ensures named { IfErr result IsNamedFault }
 {
@@ -42,8 +45,9 @@ fn rebuild(alloc: Global, parts: &Parts, bytes: &[u8]) -> Result<Image, ImageFau
     ensures file { IfOk result (λ image. image.file ≡ bytes.now) }
     ensures plan { IfOk result (λ image. rebuilt parts.now ≡ Ok bytes.now) }
     ensures seed { IfOk result (λ image. image.seed ≡ parts.now.plan.seed) }
-    ensures program { IfOk result (λ image. program_from (inputs parts.now.plan.topo parts.now.plan.template) ≡ Ok image.program) }
-    ensures sound { IfOk result (λ image. SoundSoFar image.program) }
+    ensures program { IfOk result (λ image. program_from parts.now.plan.seed (inputs parts.now.plan.topo parts.now.plan.template) ≡ Ok image.program) }
+    ensures sound { IfOk result (λ image. Sound image.program) }
+    ensures typed { IfOk result (λ image. IsTyped image.program) }
     ensures err { IfErr result (λ e. e ≢ ImageFault.NoMemory → compared bytes.now (rebuilt parts.now) ≡ Err e) }
     ensures named { IfErr result IsNamedFault }
 {

@@ -1,2 +1,3 @@
-pub mod SymbolLemmas
+pub mod Rows
+pub mod NameLemmas
 pub mod BuildLemmas

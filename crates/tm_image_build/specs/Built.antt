@@ -1,4 +1,4 @@
--- The file that is built of two texts and a seed, or their first fault. Source: this project.
+-- The file that is built of two texts and a seed, or their first fault (this project's own).
 use Rattle.std.specs.Prelude.{◌≡◌, ℕ, ◌≤◌, List, length, Result, Ok, Err}
 use Rattle.tm_elf_write.specs.declared.parts.Parts.{Parts}
 use Rattle.tm_elf_write.specs.Elf.{elf_file}
@@ -9,7 +9,7 @@ use Rattle.tm_image_inputs.specs.Inputs.{inputs}
 use Rattle.tm_image_program.specs.Program.{program_for}
 use Rattle.tm_image_build.specs.Symbols.{symbols_of}
 
--- what the file of a program holds, with the plan that it was built of (this project)
+-- what the file of a program holds, with the plan that it was built of
 unfoldable pub parts_of : Program → (topo template : List ℕ) → ℕ → Parts
 parts_of p topo template seed = record {
   text = p.text;
@@ -18,29 +18,29 @@ parts_of p topo template seed = record {
   symbols = symbols_of p;
 }
 
--- the file of a program (this project)
+-- the file of a program
 unfoldable pub image_file : Program → (topo template : List ℕ) → ℕ → List ℕ
 image_file p topo template seed = elf_file (parts_of p topo template seed)
 
--- the file of the test that the two texts ask for, or their fault (this project)
+-- the file of the test that the two texts ask for, or their fault
 abbrev pub built_of : (topo template : List ℕ) → ℕ → Result Admitted InputFault → Result (List ℕ) InputFault
-built_of topo template seed (Ok a) = Ok (image_file (program_for a) topo template seed)
+built_of topo template seed (Ok a) = Ok (image_file (program_for a seed) topo template seed)
 built_of topo template seed (Err fault) = Err fault
 
--- the file that is built of two texts and a seed, or the first fault of the texts (this project)
+-- the file that is built of two texts and a seed, or the first fault of the texts
 unfoldable pub built : (topo template : List ℕ) → ℕ → Result (List ℕ) InputFault
 built topo template seed = built_of topo template seed (inputs topo template)
 
--- the program of the test that the two texts ask for, or their fault (this project)
-abbrev pub program_from : Result Admitted InputFault → Result Program InputFault
-program_from (Ok a) = Ok (program_for a)
-program_from (Err fault) = Err fault
+-- the program of the test that the two texts ask for and a seed, or their fault
+abbrev pub program_from : ℕ → Result Admitted InputFault → Result Program InputFault
+program_from seed (Ok a) = Ok (program_for a seed)
+program_from seed (Err fault) = Err fault
 
--- A program and a file are what is built of some two texts within the limits and a seed (this project).
+-- A program and a file are what is built of some two texts within the limits and a seed.
 pub record IsOfTexts (p : Program) (seed : ℕ) (file : List ℕ) : Type 0 where
   pub topo : List ℕ
   pub template : List ℕ
   pub topo_short : length topo ≤ 65536
   pub template_short : length template ≤ 1048576
-  pub its_program : program_from (inputs topo template) ≡ Ok p
+  pub its_program : program_from seed (inputs topo template) ≡ Ok p
   pub its_file : built topo template seed ≡ Ok file

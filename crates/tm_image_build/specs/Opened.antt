@@ -9,26 +9,26 @@ use Rattle.tm_faults.specs.declared.inputs.InputFault.{InputFault}
 use Rattle.tm_faults.specs.declared.image.ImageFault.{ImageFault}
 use Rattle.tm_faults.specs.declared.image.ImageFault.TheVariants.{Elf, Inputs, Differs}
 
--- a file, or the place at which another one differs from it (this project)
+-- a file, or the place at which another one differs from it
 abbrev pub unless_differs : List ℕ → Option ℕ → Result (List ℕ) ImageFault
 unless_differs file None = Ok file
 unless_differs file (Some at) = Err (Differs at)
 
--- the file that is built again, if it is these bytes (this project)
+-- the file that is built again, if it is these bytes
 abbrev pub compared : (bytes : List ℕ) → Result (List ℕ) InputFault → Result (List ℕ) ImageFault
 compared bytes (Ok file) = unless_differs file (first_difference file bytes)
 compared bytes (Err fault) = Err (Inputs fault)
 
--- what is built of the plan of parts (this project)
+-- what is built of the plan of parts
 unfoldable pub rebuilt : Parts → Result (List ℕ) InputFault
 rebuilt parts = built parts.plan.topo parts.plan.template parts.plan.seed
 
--- the file of the plan that was read, if it is these bytes (this project)
+-- the file of the plan that was read, if it is these bytes
 abbrev pub opened_from : (bytes : List ℕ) → Result Parts ElfFault → Result (List ℕ) ImageFault
 opened_from bytes (Ok parts) = compared bytes (rebuilt parts)
 opened_from bytes (Err fault) = Err (Elf fault)
 
 -- the file that a file is opened as, itself, or the first fault: of its form, of the two texts of its plan, or a byte
--- that the plan doesn't give (this project)
+-- that the plan doesn't give
 unfoldable pub opened : List ℕ → Result (List ℕ) ImageFault
 opened bytes = opened_from bytes (elf_of bytes)

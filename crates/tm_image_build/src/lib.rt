@@ -2,6 +2,7 @@
 #![tactic(auto)]
 
 mod image;
+mod symbols;
 
 pub use image::{Image, build};
 pub use tm_faults::{BuildFault, InputFault, Role};

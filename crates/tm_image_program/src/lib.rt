@@ -1,4 +1,4 @@
-//! The program of one hart with one case: its words, tables, masks and marks, from the stream's instructions.
+//! The program of a test and a seed: its drawn cases, what is checked of them, and the words and tables that run them.
 #![tactic(auto)]
 
 mod program;
