@@ -52,9 +52,14 @@ module _ (cases : Cases) (c h : ℕ) (case : Case) (a : AreShaped cases) (at : s
 
   pub word-checked : (word : ℕ) → ((r : ℕ) → Bit word r ↔ ((1 ≤ r) × (r ≤ 30) × (Bit end.regs r → ⊥))) → IsRegisterWord cases c h word
   word-checked word bits = record {
-    exact = λ stream e r few. (
-      (λ w. let q = (bits r).0 w in record { range = (q.0, q.1); calm = λ dep. q.2 (as-register r few ((held-at stream e r).1 dep)) }),
-      (λ k. (bits r).1 (k.range.0, k.range.1, (λ bit. k.calm ((held-at stream e r).0 (inl (omega arith, bit)))))),
+    exact = λ stream e r. (
+      (λ w.
+          let q = (bits r).0 w in
+          let small : r < 32 = omega (arith, q.1) in
+          record { range = (q.0, q.1); calm = λ dep. q.2 (as-register r small ((held-at stream e r).1 dep)) }),
+      (λ k.
+          let small : r < 64 = omega (arith, k.range.1) in
+          (bits r).1 (k.range.0, k.range.1, (λ bit. k.calm ((held-at stream e r).0 (inl (small, bit)))))),
     );
   }
 

@@ -2,3 +2,5 @@ mod Growing
 mod Free
 mod Calm
 mod Tracked
+mod Walks
+mod Exact

@@ -67,7 +67,7 @@ module _ (cases : Cases) (shaped : AreShaped cases) (masks : Masks) (all : EachI
 
   pub are-checked : AreChecked cases masks
   are-checked = record {
-    registers = λ c h r m stream e is small. ((mask-at c m e).regs.each h 0 (few c h stream is)).exact stream is r small;
+    registers = λ c h r m stream e is small. ((mask-at c m e).regs.each h 0 (few c h stream is)).exact stream is r;
     bytes = byte-at;
   }
 

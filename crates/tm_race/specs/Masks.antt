@@ -27,7 +27,7 @@ AreStores case planes = EachIs (IsStores case) (length case.streams) planes
 
 -- The word's bits say which registers of hart h are checked in case c.
 pub record IsRegisterWord (cases : Cases) (c h word : ℕ) : Type 0 where
-  pub exact : (stream : Stream) → stream_in cases c h ≡ Some stream → (r : ℕ) → r < 32
+  pub exact : (stream : Stream) → stream_in cases c h ≡ Some stream → (r : ℕ)
       → (word / 2 ^ r % 2 ≡ 1) ↔ IsCheckedRegister cases c h r stream
 
 -- The mark says whether byte q of the windows is checked in case c.

@@ -1,7 +1,8 @@
 // What of each case is checked.
-ghost use Rattle.std.specs.Prelude.{◌<◌, length, IfOk};
+ghost use Rattle.std.specs.Prelude.{◌≡◌, ◌<◌, length, IfOk};
 ghost use Rattle.tm_plan_cases.specs.Shaped.{AreShaped, MasksFit};
 ghost use Rattle.tm_world.specs.Checked.{AreChecked};
+ghost use Rattle.tm_race.specs.Exact.{masks_of};
 ghost use Rattle.tm_race.specs.Masks.{IsMask};
 
 use crate::bytes::byte_marks;
@@ -28,12 +29,13 @@ fn case_mask(alloc: Global, cases: &Cases, c: usize) -> Result<CaseMask, NoMemor
     Ok(CaseMask { regs, bytes })
 }
 
-/// The masks of shaped cases: one for each case, of exactly those registers and bytes that are checked in it. The
-/// only error is that there is no memory.
+/// The masks of shaped cases: one for each case, of exactly those registers and bytes that are checked in it. Equal
+/// cases give equal masks. The only error is that there is no memory.
 pub fn track(alloc: Global, cases: &Cases) -> Result<Masks, NoMemory>
     requires { AreShaped cases.now }
     ensures checked { IfOk result (λ m. AreChecked cases.now m) }
     ensures fit { IfOk result (λ m. MasksFit cases.now m) }
+    ensures exact { IfOk result (λ m. m ≡ masks_of cases.now) }
 {
     let mut masks = List::new(alloc);
     for c in 0..cases.cases.as_slice().len() {
