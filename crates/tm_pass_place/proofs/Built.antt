@@ -15,7 +15,7 @@ use Rattle.tm_barrier.specs.Words.{prepare, meet, barrier}
 use Rattle.tm_pass_text.specs.Words.{hart_size, hart_words, streams_of, text_words}
 use Rattle.tm_pass_text.proofs.Stands.{length-hart}
 use Rattle.tm_pass_steps.specs.Hart.{blocks_of, IsBuilt}
-use Rattle.tm_pass_place.specs.Built.{start_in, end_in, halt_in, exit_in, built, CasesAreBuilt}
+use Rattle.tm_pass_place.specs.Built.{start_in, end_in, halt_in, exit_in, marks_in, built, CasesAreBuilt}
 use Rattle.tm_pass_place.proofs.Sizes.{short-hart}
 
 -- ---- lists by number
@@ -76,7 +76,7 @@ module _ (cases : Cases) (masks : Masks) (shaped : AreShaped cases) (fit : Masks
   some-barrier h n = omega arith
 
   is-program : IsProgram (built cases masks)
-  unfolding built
+  unfolding built marks_in
   is-program =
       let a = shaped.harts in
       let b = shaped.count in
@@ -95,7 +95,7 @@ module _ (cases : Cases) (masks : Masks) (shaped : AreShaped cases) (fit : Masks
       }
 
   is-built : IsBuilt (built cases masks)
-  unfolding built
+  unfolding built marks_in
   is-built =
       let zero-on : (h : ℕ) → 0 + h ≡ h = λ h. omega arith in
       record {

