@@ -1,0 +1,4 @@
+pub mod Drawn
+pub mod Bytes
+pub mod Masks
+pub mod Whole
