@@ -25,8 +25,9 @@ slot_in (Some stream) n = instr_at (slice_get stream.words n)
 abbrev pub slot_of : Cases → FaultLine → Option Instr
 slot_of cases line = slot_in (stream_in cases line.case line.hart) line.slot
 
--- The slot is what the action needs, and the action's number isn't 0 and has at most the bits of what it is xored to. A
--- result needs a slot that writes one of x1 to x27, `loaded` a load, `stored` and `drop` a store, and `turn` a branch.
+-- The slot is what the action needs, and the action's number isn't 0 and has at most the bits of what it is xored to.
+-- A result needs a slot that writes one of x1 to x27, `loaded` a load, `stored` and `drop` a store, and `turn` a
+-- branch.
 abbrev pub Suits : Instr → Action → Type 0
 Suits i (Result x) = (1 ≤ i.rd) × (i.rd ≤ 27) × (1 ≤ x) × (x < 2 ^ 64)
 Suits i (Loaded x) = (0 < load_width i.op) × (1 ≤ x) × (x < 2 ^ (8 * load_width i.op))
@@ -63,12 +64,13 @@ meet (Some k) (Some n) = k == n
 -- They speak of the same hart, case and slot, by the same kind of action, with a pass in common.
 abbrev pub are_twice : FaultLine → FaultLine → Bool
 are_twice a b =
-    (a.hart == b.hart) && ((a.case == b.case) && ((a.slot == b.slot) && (same_kind a.action b.action && meet a.pass b.pass)))
+    (a.hart == b.hart) && ((a.case == b.case) && ((a.slot == b.slot)
+    && (same_kind a.action b.action && meet a.pass b.pass)))
 
 -- ---- scripts
 
--- The lines of a script that is accepted over these cases: each is accepted, and no two speak of one step by one kind of
--- action.
+-- The lines of a script that is accepted over these cases: each is accepted, and no two speak of one step by one kind
+-- of action.
 pub record AreAccepted (cases : Cases) (lines : List FaultLine) : Type 0 where
   pub each : All (IsAccepted cases) lines
   pub once : AllPairs (λ a b. IsFalse (are_twice a b)) lines

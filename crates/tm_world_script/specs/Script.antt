@@ -1,5 +1,5 @@
--- Runs that a script of faults has changed (this project's own). A line of a script names a hart, a case, a pass or all
--- of them, a slot of the hart's stream of the case, and an action on the step there.
+-- Runs that a script of faults has changed (this project's own). A line of a script names a hart, a case, a pass or
+-- all of them, a slot of the hart's stream of the case, and an action on the step there.
 use Rattle.std.specs.Prelude.{ℕ, ◌+◌, ◌*◌, ◌/◌, ◌%◌, Bool, true, false, ◌&&◌, ◌==◌, List, [], ◌∷◌, Option, Some, None, unwrap_or, map}
 use Rattle.tm_plan_cases.specs.declared.program.Program.{Program}
 use Rattle.tm_plan_script.specs.declared.faults.FaultLine.{FaultLine}
@@ -85,8 +85,8 @@ is_turn (Stored x) = false
 is_turn Drop = false
 is_turn Turn = true
 
--- The number that the first action with one gives, 0 where none has one. (Of the actions that an accepted script does to
--- one step, no two are of one kind.)
+-- The number that the first action with one gives, 0 where none has one. (Of the actions that an accepted script does
+-- to one step, no two are of one kind.)
 abbrev pub first_number : (Action → Option ℕ) → List Action → ℕ
 first_number number [] = 0
 first_number number (action ∷ more) = unwrap_or (number action) (first_number number more)
@@ -107,13 +107,13 @@ change_of p lines h q pc = change_by (actions_at p lines h q pc)
 
 -- ---- runs
 
--- A run that a script has changed: a plain run, but that each step of which a line of the script speaks has its result,
--- its loaded value or its stored value xored, its store dropped or its branch turned. Where a store is both xored and
--- dropped, it is dropped. Later reads see the stores as they were made.
+-- A run that a script has changed: a plain run, but that each step of which a line of the script speaks has its
+-- result, its loaded value or its stored value xored, its store dropped or its branch turned. Where a store is both
+-- xored and dropped, it is dropped. Later reads see the stores as they were made.
 abbrev pub FaultedRun : Program → List FaultLine → Run → Type 0
 FaultedRun p lines r = Faulted p (change_of p lines) r
 
--- No hart gets stuck under the script: on each run that it has changed, each hart that isn't at its halt mark has a next
--- step.
+-- No hart gets stuck under the script: on each run that it has changed, each hart that isn't at its halt mark has a
+-- next step.
 abbrev pub NeverStuck : Program → List FaultLine → Type 0
 NeverStuck p lines = (r : Run) → FaultedRun p lines r → GoOn p r
