@@ -1,0 +1,3 @@
+mod Owned
+mod Kept
+mod Placed
