@@ -1,0 +1,3 @@
+pub mod Script
+pub mod Accepted
+pub mod Laws
