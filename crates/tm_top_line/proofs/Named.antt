@@ -43,7 +43,6 @@ pub input_calm : (f : InputFault) → IsNamed f → input_wants f ≡ false
 input_calm (input.Topo fault) h = topo_calm fault h
 input_calm (input.Tmpl fault) h = tmpl_calm fault h
 input_calm (input.Rule fault) h = refl
-input_calm (input.NotYet file line) h = refl
 
 elf_calm : (f : ElfFault) → IsNamedFault (image.Elf f) → wants_memory (any.Image (image.Elf f)) ≡ false
 elf_calm (elf.Short have) h = refl

@@ -6,7 +6,7 @@ use Rattle.tm_asm_line.specs.Shapes.{name_of}
 use Rattle.tm_desk.specs.declared.desk.DeskError.TheVariants as desk
 use Rattle.tm_elf_head.specs.declared.fault.ElfFault.TheVariants as elf
 use Rattle.tm_faults.specs.declared.role.Role.TheVariants as role
-use Rattle.tm_faults.specs.declared.inputs.InputFault.TheVariants.{Topo, Tmpl, Rule, NotYet}
+use Rattle.tm_faults.specs.declared.inputs.InputFault.TheVariants.{Topo, Tmpl, Rule}
 use Rattle.tm_faults.specs.declared.image.ImageFault.TheVariants as image
 use Rattle.std.specs.Prelude.{pos, negsuc}
 use Rattle.tm_asm_line.specs.declared.fault.AsmFault.TheVariants as asm
@@ -33,17 +33,9 @@ no_plan : fault_text role.Image (any.Image (image.Elf elf.NoPlan)) ≡ codes "th
 unfolding fault_text with_value digits
 no_plan = refl
 
-a_text_of_the_plan : fault_text role.Image (any.Image (image.Inputs (NotYet role.Template 2))) ≡ codes "threadmill: image: Inputs NotYet 2\n"
-unfolding fault_text with_value digits
-a_text_of_the_plan = refl
-
 another_file : fault_text role.Image (any.Image (image.Differs 14592)) ≡ codes "threadmill: image: Differs 14592\n"
 unfolding fault_text with_value digits
 another_file = refl
-
-a_text : fault_text role.Template (any.Input (NotYet role.Template 2)) ≡ codes "threadmill: template: NotYet 2\n"
-unfolding fault_text with_value digits
-a_text = refl
 
 too_long : fault_text role.Image (any.Desk (desk.TooLong 16777216)) ≡ codes "threadmill: image: TooLong 16777216\n"
 unfolding fault_text with_value digits

@@ -137,7 +137,6 @@ abbrev pub input_text : InputFault → List ℕ
 input_text (input.Topo fault) = codes "Topo " ++ topo_text fault
 input_text (input.Tmpl fault) = codes "Tmpl " ++ tmpl_text fault
 input_text (input.Rule fault) = codes "Rule " ++ rule_at_text fault
-input_text (input.NotYet file line) = with_value (codes "NotYet") line
 
 -- the fault is want of memory, which has another line (this project)
 abbrev pub input_wants : InputFault → Bool

@@ -43,7 +43,6 @@ fn put_input(out: &mut Bytes, fault: &InputFault) -> Result<(), NoMemory>
             out.append(b"Rule ")?;
             put_rule(out, broken)
         }
-        InputFault::NotYet { file: _, line } => put_value(out, b"NotYet", u64::from(*line)),
     }
 }
 

@@ -1,0 +1,9 @@
+pub mod Acts
+pub mod Runs
+pub mod NoLines
+pub mod Rows
+pub mod Stepping
+pub mod Starting
+pub mod Image
+pub mod Opening
+pub mod Rounding

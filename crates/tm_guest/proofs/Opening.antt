@@ -1,0 +1,50 @@
+-- What a guest keeps before its first step.
+use Rattle.std.proofs.Common.{◌≡◌, ℕ, ◌^◌, ◌≤◌, ◌<◌, List, [], ◌⊎◌, inl, inr, refl, sym, subst, get_or, set, arith, get_or-set_other}
+use Rattle.std.specs.Prelude.{replicate}
+use Rattle.std.proofs.lemmas.Bool.{cases_eq, cases_lt}
+use Rattle.std.proofs.lemmas.List.{get_or-replicate, get_or_past}
+use Rattle.tm_table.specs.declared.state.Cpu.{Cpu}
+use Rattle.tm_plan_cases.specs.declared.program.Program.{Program}
+use Rattle.tm_plan_cases.specs.Shaped.{IsProgram}
+use Rattle.tm_plan_script.specs.declared.faults.FaultLine.{FaultLine}
+use Rattle.tm_ram.specs.Region.{Region}
+use Rattle.tm_world.specs.Kinds.{IsOpening}
+use Rattle.tm_world_script.specs.Script.{NeverStuck}
+use Rattle.tm_guest.specs.declared.decoded.Decoded.{Decoded}
+use Rattle.tm_guest.specs.Replay.{opening, steps_of}
+use Rattle.tm_guest.specs.Fields.{AreDecoded, IsMemory, Keeps}
+use Rattle.tm_guest.specs.Start.{AreOpened}
+
+opening-fits : (h r : ℕ) → h < 2 ^ 64 → get_or (set (replicate 32 0) 10 h) r 0 < 2 ^ 64
+opening-fits h r l = by (cases_eq r 10)
+  where
+    zeros : (r < 32) ⊎ (32 ≤ r) → get_or (replicate 32 0) r 0 < 2 ^ 64
+    zeros (inl m) = subst (λ (v : ℕ). v < 2 ^ 64) (sym (get_or-replicate 32 r 0 0 m)) (omega arith)
+    zeros (inr m) = subst (λ (v : ℕ). v < 2 ^ 64) (sym (get_or_past (replicate 32 0) r 0 m)) (omega arith)
+
+    by : (r ≡ 10) ⊎ (r ≡ 10 → ⊥) → get_or (set (replicate 32 0) 10 h) r 0 < 2 ^ 64
+    by (inl e) = subst (λ (k : ℕ). get_or (set (replicate 32 0) 10 h) k 0 < 2 ^ 64) (sym e) l
+    by (inr n) =
+        subst (λ (v : ℕ). v < 2 ^ 64) (sym (get_or-set_other (replicate 32 0) 10 r h 0 n)) (zeros (cases_lt r 32))
+
+pub is-opening : (h : ℕ) → h < 2 ^ 64 → IsOpening h (opening h)
+unfolding opening
+is-opening h l = record { count = refl; fits = λ r. opening-fits h r l; zero = refl; number = refl }
+
+pub keeps-fresh : (p : Program) (lines : List FaultLine) (limit : ℕ) (decodes : List Decoded) (cpus : List Cpu)
+    (r : Region) → IsProgram p → lines ≡ [] → NeverStuck p lines → limit ≤ 100000000 → AreDecoded p.text decodes
+    → AreOpened p.cases.harts cpus → IsMemory p [] r
+    → Keeps p lines limit decodes cpus r (record { events = []; room = limit })
+unfolding steps_of
+keeps-fresh p lines limit decodes cpus r shaped none never few rows opened memory = record {
+  program = shaped;
+  none = none;
+  unstuck = never;
+  few = few;
+  room = refl;
+  within = omega arith;
+  rows = rows;
+  states = record { count = opened.count; each = opened.each };
+  memory = memory;
+  goes_on = record { opening = λ h l. is-opening h (omega (arith, shaped.cases.harts)); only = tt; steps = tt };
+}

@@ -1,0 +1,5 @@
+use Rattle.tm_guest.proofs.Stepping.{plain-shown}
+use Rattle.tm_guest.proofs.guest.Guest.into_journal.Goals as goal
+
+pub returns-clause-plain : goal.returns-clause-plain
+returns-clause-plain c = plain-shown c.args.self _ _ _ _ _ _ _ c.self.view_is c.self.invariant

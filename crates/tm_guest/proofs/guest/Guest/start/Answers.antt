@@ -1,0 +1,18 @@
+use Rattle.std.proofs.Common.{ℕ, List, subst, sym}
+use Rattle.tm_plan_journal.specs.Journaled.{Journaled}
+use Rattle.tm_guest.specs.Fields.{AreDecoded, Keeps}
+use Rattle.tm_guest.proofs.Opening.{keeps-fresh}
+use Rattle.tm_guest.proofs.guest.Guest.start.Goals as goal
+
+pub invariant_of-result : goal.invariant_of-result
+invariant_of-result c =
+    let p = c.args.program.now in
+    let lines = c.args.faults in
+    let decodes = c.in_ok-decodes.decodes.items in
+    let cpus = c.in_ok-cpus.cpus.items in
+    let ram = c.in_ok-ram.ram in
+    let asked = c.requires in
+    let rows = subst (λ (ws : List ℕ). AreDecoded ws decodes) c.as_slice.ensures c.in_ok-decodes.ensures in
+    subst (λ (j : Journaled). Keeps p lines c.args.limit decodes cpus ram j) (sym c.in_ok-journal.ensures)
+    (keeps-fresh p lines c.args.limit decodes cpus ram asked.program asked.none asked.unstuck asked.few rows
+    c.in_ok-cpus.ensures c.in_ok-ram.ensures)

@@ -1,0 +1,55 @@
+-- How a guest keeps its state (this project's own).
+use Rattle.std.specs.Prelude.{◌≡◌, ℕ, ◌≤◌, ◌<◌, List, [], length, slice_index, slice_index_or, Some, unwrap_or}
+use Rattle.tm_table.specs.declared.instr.Instr.{Instr}
+use Rattle.tm_table.specs.declared.state.Cpu.{Cpu}
+use Rattle.tm_table.specs.State.{hart_of}
+use Rattle.tm_table.specs.Words.{Fits}
+use Rattle.tm_plan_map.specs.Slots.{instr_of}
+use Rattle.tm_plan_cases.specs.declared.program.Program.{Program}
+use Rattle.tm_plan_map.specs.Map.{guest_base, guest_end}
+use Rattle.tm_plan_journal.specs.Journaled.{Journaled}
+use Rattle.tm_plan_cases.specs.Shaped.{IsProgram}
+use Rattle.tm_ram.specs.Region.{Region}
+use Rattle.tm_world.specs.Place.{harts, image_byte}
+use Rattle.tm_world.specs.Run.{Step, last_write}
+use Rattle.tm_plan_script.specs.declared.faults.FaultLine.{FaultLine}
+use Rattle.tm_world_script.specs.Script.{FaultedRun, NeverStuck}
+use Rattle.tm_guest.specs.declared.decoded.Decoded.{Decoded}
+use Rattle.tm_guest.specs.Replay.{run_of, steps_of, state_after}
+use Rattle.tm_guest.specs.Memory.{IsGuestRegion, byte_at}
+
+-- A word, and its instruction where it has one. Each instruction fits.
+pub record IsDecoded (w : ℕ) (row : Decoded) : Type 0 where
+  pub word : row.word ≡ w
+  pub fits : Fits row.instr
+  pub instr : (i : Instr) → instr_of w ≡ Some i → row.instr ≡ i
+
+-- the text's words, one row each
+pub record AreDecoded (text : List ℕ) (rows : List Decoded) : Type 0 where
+  pub count : length rows ≡ length text
+  pub each : (k : ℕ) (d : Decoded) → k < length text → IsDecoded (slice_index text k) (slice_index_or rows k d)
+
+-- the harts' states after these steps
+pub record AreStates (p : Program) (steps : List Step) (cpus : List Cpu) : Type 0 where
+  pub count : length cpus ≡ harts p
+  pub each : (h : ℕ) (d : Cpu) → h < harts p → hart_of (slice_index_or cpus h d) ≡ state_after steps h
+
+-- the memory after these steps: at each byte the last write of it, else the image's
+pub record IsMemory (p : Program) (steps : List Step) (r : Region) : Type 0 where
+  pub region : IsGuestRegion r
+  pub bytes : (b : ℕ) → guest_base ≤ b → b < guest_end → byte_at r b ≡ unwrap_or (last_write b steps) (image_byte p b)
+
+-- The fields of a guest: its state is what replaying its journal gives, and its journal is a run that the script has
+-- changed. So far the script has no lines.
+pub record Keeps (p : Program) (lines : List FaultLine) (limit : ℕ) (decodes : List Decoded) (cpus : List Cpu)
+    (ram : Region) (journal : Journaled) : Type 0 where
+  pub program : IsProgram p
+  pub none : lines ≡ []
+  pub unstuck : NeverStuck p lines
+  pub few : limit ≤ 100000000
+  pub room : journal.room ≡ limit
+  pub within : length journal.events ≤ limit
+  pub rows : AreDecoded p.text decodes
+  pub states : AreStates p (steps_of p lines journal.events) cpus
+  pub memory : IsMemory p (steps_of p lines journal.events) ram
+  pub goes_on : FaultedRun p lines (run_of p lines journal.events)

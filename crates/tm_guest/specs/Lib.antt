@@ -1,0 +1,8 @@
+pub mod Replay
+pub mod Guested
+pub mod Turns
+pub mod Rounds
+pub mod Waiting
+pub mod Fields
+pub mod Memory
+pub mod Start

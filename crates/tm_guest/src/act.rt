@@ -1,0 +1,62 @@
+// One step of one hart.
+ghost use Rattle.std.specs.Prelude.{◌≡◌, ℕ};
+ghost use Rattle.tm_table.specs.State.{hart_of};
+ghost use Rattle.tm_table.specs.Words.{Fits};
+ghost use Rattle.tm_table.specs.Row.{row, effect_by, HasWidth};
+ghost use Rattle.tm_world.specs.Run.{Reads, HasShape, read_value};
+ghost use Rattle.tm_world.specs.Kinds.{IsPossible};
+ghost use Rattle.tm_guest.specs.Memory.{IsGuestRegion, LoadsIn, LoadsExactly, WritesIn, IsWritten, owed_of};
+
+use crate::decoded::Decoded;
+use tm_plan_cases::Event;
+use tm_ram::Ram;
+use tm_table::{Access, Action, Cpu, action_at, apply};
+
+/// Makes the step of an instruction at a hart.
+pub fn act(cpu: &mut Cpu, ram: &mut Ram, at: Decoded, hart: u32) -> Event
+    requires fits { Fits at.instr }
+    requires possible { (bytes : ℕ) → IsPossible (row (hart_of cpu.old) at.instr bytes).1 }
+    requires region { IsGuestRegion ram.old }
+    ensures hart { result.hart ≡ hart }
+    ensures pc { result.pc ≡ cpu.old.pc }
+    ensures word { result.word ≡ at.word }
+    ensures step { row (hart_of cpu.old) at.instr (read_value result.access)
+        ≡ (hart_of cpu.new, result.access) }
+    ensures shape { HasShape result.access }
+    ensures reads { Reads (owed_of ram.old) result.access }
+    ensures memory { IsWritten ram.old result.access ram.new }
+{
+    let pc = cpu.pc;
+    let action = action_at(cpu, at.instr);
+    let read = read_for(ram, action);
+    let access = apply(cpu, action, at.instr, read);
+    write_for(ram, access);
+    Event {
+        hart,
+        pc,
+        word: at.word,
+        access,
+    }
+}
+
+/// What an action reads.
+fn read_for(ram: &Ram, action: Action) -> u64
+    requires { LoadsIn ram.now (effect_by action) }
+    ensures { LoadsExactly ram.now (effect_by action) result }
+{
+    match action {
+        Action::Load { addr, width, .. } => ram.load(addr, width),
+        Action::Give(_) | Action::Store { .. } | Action::Branch(_) | Action::Jump { .. } => 0,
+    }
+}
+
+/// Writes what an access writes.
+fn write_for(ram: &mut Ram, access: Access)
+    requires { WritesIn ram.old access }
+    ensures { IsWritten ram.old access ram.new }
+{
+    match access {
+        Access::Write { addr, width, value } => ram.store(addr, width, value),
+        Access::Quiet | Access::Read { .. } => {}
+    }
+}

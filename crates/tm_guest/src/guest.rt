@@ -1,0 +1,167 @@
+// The guest: one state, stepped hart by hart.
+ghost use Rattle.std.specs.Prelude.{◌≡◌, ◌↔◌, ◌<◌, ◌≤◌, [], length, IsTrue, IfOk};
+ghost use Rattle.tm_plan_cases.specs.Shaped.{IsProgram};
+ghost use Rattle.tm_world.specs.Place.{harts};
+ghost use Rattle.tm_world.specs.Kinds.{Plain};
+ghost use Rattle.tm_world_script.specs.Script.{FaultedRun, NeverStuck};
+ghost use Rattle.tm_guest.specs.Guested.{IsHalted, fresh, run, with_event};
+ghost use Rattle.tm_guest.specs.Turns.{Answers, IsNextEvent};
+
+use crate::act::act;
+use crate::decoded::{Decoded, decoded_text};
+use crate::start::{image, opened};
+use crate::turn::Turn;
+use std::alloc::Global;
+use std::marker::Model;
+use tm_base::NoMemory;
+use tm_plan_cases::{Event, Program};
+use tm_plan_journal::Journal;
+use tm_plan_script::Faults;
+use tm_ram::Ram;
+use tm_table::Cpu;
+
+/// A machine that runs a program: one memory, and harts that step one at a time. Contracts see the program, the lines
+/// of the script, the limit and the events so far, which give the state of each hart by being replayed. So far the
+/// script has no lines.
+#[derive(Drop)]
+pub struct Guest<'a> {
+    program: &'a Program,
+    faults: Faults,
+    decodes: Vec<Decoded>,
+    cpus: Vec<Cpu>,
+    ram: Ram,
+    journal: Journal,
+    limit: u64,
+}
+
+impl<'a> Model for Guest<'a> {
+    ghost use Rattle.tm_guest.specs.Guested.{Guested};
+    ghost use Rattle.tm_guest.specs.Fields.{Keeps};
+
+    ghost Value = { Guested };
+
+    ghost view = { λ g. record {
+        program = g.program.now; faults = g.faults; limit = g.limit; journal = g.journal.events } };
+
+    ghost invariant = { λ g.
+        Keeps g.program.now g.faults g.limit g.decodes.items g.cpus.items g.ram g.journal };
+}
+
+impl<'a> Guest<'a> {
+    /// A guest before its first step, with room for `limit` events. All memory is taken here, 40 bytes for each event.
+    ///
+    /// Asked: a script without lines, and that no hart gets stuck: on each run of the program under the script each
+    /// hart that isn't at its halt mark has a next step.
+    pub fn start(
+        alloc: Global,
+        program: &'a Program,
+        faults: Faults,
+        limit: u64,
+    ) -> Result<Guest<'a>, NoMemory>
+        requires program { IsProgram program.now }
+        requires some { 1 ≤ limit }
+        requires few { limit ≤ 100000000 }
+        requires none { faults ≡ [] }
+        requires unstuck { NeverStuck program.now faults }
+        ensures { IfOk result (λ g. g ≡ fresh program.now faults limit) }
+    {
+        let decodes = decoded_text(alloc, program.text.as_slice())?;
+        let cpus = opened(alloc, program.cases.harts)?;
+        let ram = image(alloc, program)?;
+        let journal = Journal::start(alloc, limit)?;
+        Ok(Guest {
+            program,
+            faults,
+            decodes,
+            cpus,
+            ram,
+            journal,
+            limit,
+        })
+    }
+
+    /// Whether hart `h` is at its halt mark.
+    pub fn halted(&self, h: u32) -> bool
+        requires { h < harts self.now.program }
+        ensures { IsTrue result ↔ IsHalted self.now h }
+    {
+        let halt = self.program.marks.halts.as_slice()[h as usize];
+        self.cpus[h as usize].pc == halt
+    }
+
+    /// Lets hart `h` make its next step, if it isn't at its halt mark and the journal isn't full.
+    pub fn advance(&mut self, h: u32) -> Turn
+        requires { h < harts self.old.program }
+        ensures { Answers self.old h result self.new }
+    {
+        if self.halted(h) {
+            return Turn::Halted;
+        }
+        let place = self.journal.len();
+        if place == self.limit {
+            return Turn::Full;
+        }
+        let event = self.step(h);
+        Turn::Stepped { place, event }
+    }
+
+    /// How many harts the program has.
+    pub fn harts(&self) -> u32
+        ensures { result ≡ harts self.now.program }
+    {
+        self.program.cases.harts
+    }
+
+    /// The most events that the journal may have.
+    pub fn limit(&self) -> u64
+        ensures { result ≡ self.now.limit }
+    {
+        self.limit
+    }
+
+    /// The events so far. They are a run of the program that the script has changed, whose opening registers are zero
+    /// but x10: a plain run, where the script has no lines.
+    pub fn journal(&self) -> &Journal
+        ensures events { result.now.events ≡ self.now.journal }
+        ensures faulted { FaultedRun self.now.program self.now.faults (run self.now) }
+        ensures plain { self.now.faults ≡ [] → Plain self.now.program (run self.now) }
+        ensures few { length self.now.journal ≤ self.now.limit }
+    {
+        &self.journal
+    }
+
+    /// The same, where the guest is needed no more.
+    pub fn into_journal(self) -> Journal
+        ensures events { result.events ≡ self.entry.journal }
+        ensures faulted { FaultedRun self.entry.program self.entry.faults (run self.entry) }
+        ensures plain { self.entry.faults ≡ [] → Plain self.entry.program (run self.entry) }
+        ensures few { length self.entry.journal ≤ self.entry.limit }
+    {
+        let Guest {
+            program: _,
+            faults: _,
+            decodes: _,
+            cpus: _,
+            ram: _,
+            journal,
+            limit: _,
+        } = self;
+        journal
+    }
+
+    /// Makes the next step of a hart that isn't at its halt mark.
+    fn step(&mut self, h: u32) -> Event
+        requires below { h < harts self.old.program }
+        requires off_halt { ¬ IsHalted self.old h }
+        requires room { length self.old.journal < self.old.limit }
+        ensures next { IsNextEvent self.old h result }
+        ensures after { self.new ≡ with_event self.old result }
+    {
+        let cpu = &mut self.cpus[h as usize];
+        let place = (cpu.pc - 0x8000_0000) / 4;
+        let at = self.decodes[place as usize];
+        let event = act(cpu, &mut self.ram, at, h);
+        self.journal.put(event);
+        event
+    }
+}

@@ -1,0 +1,81 @@
+// The first state of a guest.
+ghost use Rattle.std.specs.Prelude.{◌≡◌, ◌≤◌, ◌*◌, [], length, IfOk};
+ghost use Rattle.tm_table.specs.State.{hart_of};
+ghost use Rattle.tm_plan_cases.specs.Shaped.{IsProgram};
+ghost use Rattle.tm_world.specs.Run.{first_state};
+ghost use Rattle.tm_guest.specs.Replay.{opening};
+ghost use Rattle.tm_guest.specs.Memory.{IsGuestRegion};
+ghost use Rattle.tm_guest.specs.Start.{HasText, HasTables, AreOpened};
+ghost use Rattle.tm_guest.specs.Fields.{IsMemory};
+
+use std::alloc::Global;
+use tm_base::NoMemory;
+use tm_plan_cases::Program;
+use tm_ram::Ram;
+use tm_table::Cpu;
+
+const TEXT: u64 = 0x8000_0000;
+
+const TABLES: u64 = 0x8080_0000;
+
+const SIZE: u64 = 0x100_0000;
+
+/// The harts before their first steps.
+pub fn opened(alloc: Global, harts: u32) -> Result<Vec<Cpu>, NoMemory>
+    ensures { IfOk result (λ v. AreOpened harts v.items) }
+{
+    let mut cpus = match Vec::with_capacity(alloc, harts as usize) {
+        Ok(cpus) => cpus,
+        Err(_) => return Err(NoMemory),
+    };
+    for h in 0..harts {
+        match cpus.push(opened_at(h)) {
+            Ok(()) => {}
+            Err(_) => return Err(NoMemory),
+        }
+    }
+    Ok(cpus)
+}
+
+/// A hart before its first step.
+#[tactic(auto, unfolding(crate::specs::Replay::opening, tm_plan_map::specs::Map::text_base))]
+fn opened_at(h: u32) -> Cpu
+    ensures { hart_of result ≡ first_state (opening h) }
+{
+    let mut x = [0; 32];
+    x[10] = u64::from(h);
+    Cpu::new(TEXT, x)
+}
+
+/// The memory before the first step.
+pub fn image(alloc: Global, program: &Program) -> Result<Ram, NoMemory>
+    requires { IsProgram program.now }
+    ensures { IfOk result (λ r. IsMemory program.now [] r) }
+{
+    let mut ram = Ram::new(alloc, TEXT, SIZE)?;
+    put_text(&mut ram, program.text.as_slice());
+    put_tables(&mut ram, program.tables.as_slice());
+    Ok(ram)
+}
+
+fn put_text(ram: &mut Ram, text: &[u32])
+    requires region { IsGuestRegion ram.old }
+    requires few { length text.now ≤ 2097152 }
+    ensures region { IsGuestRegion ram.new }
+    ensures text { HasText text.now (length text.now) ram.old ram.new }
+{
+    for (i, word) in text.iter().enumerate() {
+        ram.store(TEXT + 4 * i as u64, 4, u64::from(*word));
+    }
+}
+
+fn put_tables(ram: &mut Ram, tables: &[u8])
+    requires region { IsGuestRegion ram.old }
+    requires few { length tables.now ≤ 4194304 }
+    ensures region { IsGuestRegion ram.new }
+    ensures tables { HasTables tables.now (length tables.now) ram.old ram.new }
+{
+    for (i, byte) in tables.iter().enumerate() {
+        ram.store(TABLES + i as u64, 1, u64::from(*byte));
+    }
+}
