@@ -2,11 +2,11 @@
 use Rattle.std.proofs.Common.{◌≡◌, ◌≤◌, ℕ, List, None, IsTrue, arith, refl}
 use Rattle.tm_top_owed.specs.declared.stop.Stop.{Stop}
 use Rattle.tm_top_owed.specs.declared.stop.Stop.TheVariants as stop
-use Rattle.tm_top_owed.specs.Words.{Build, Command}
-use Rattle.tm_top_owed.specs.Words.Command.{to_build}
+use Rattle.tm_words.specs.Words.{Build, Command}
+use Rattle.tm_words.specs.Words.Command.{to_build}
 use Rattle.tm_top_owed.specs.Inputs.{first_fault}
 use Rattle.tm_top_owed.specs.Changes.{DeskChange, SinkChange, DeskFailed, FilesStay, Silent, TookFront}
-use Rattle.tm_top_owed.specs.Owed.{IsReady, IsUntouched, IsUnwritten, IsUnprinted}
+use Rattle.tm_top_owed.specs.Owed.{Ending, IsReady, IsUntouched, IsUnwritten, IsUnprinted}
 use Rattle.tm_top_owed.specs.Owed.IsUnfinished.{untouched, unwritten, unprinted}
 use Rattle.tm_top_owed.specs.Owed.IsFailure.{at_input, at_write, at_print}
 use Rattle.tm_top_owed.specs.Steps.{InputStop, PutStop, Stopped}
@@ -30,10 +30,10 @@ write_stopped stop.NoMemory b desk out faults later h accepted silent =
     unwritten (record { writes = refl; accepted = accepted; output = silent })
 
 -- where printing stops a command, all that comes before it is done, and a front of its text was printed
-pub print_stopped : (s : Stop) (c : Command) (desk : DeskChange) (out : SinkChange) (text : List ℕ)
-    → IsReady c desk text → TookFront out text → PutStop s out.faults out.faults_after → Stopped s c desk out
-print_stopped (stop.Refused role fault) c desk out text ready printed h = absurd h
-print_stopped (stop.Failed role) c desk out text ready printed (role_is, rose) =
-    at_print role_is rose (record { text = text; ready = ready; printed = printed })
-print_stopped stop.NoMemory c desk out text ready printed h =
-    unprinted (record { text = text; ready = ready; printed = printed })
+pub print_stopped : (s : Stop) (c : Command) (desk : DeskChange) (out : SinkChange) (ending : Ending)
+    → IsReady c desk ending → TookFront out ending.text → PutStop s out.faults out.faults_after → Stopped s c desk out
+print_stopped (stop.Refused role fault) c desk out ending ready printed h = absurd h
+print_stopped (stop.Failed role) c desk out ending ready printed (role_is, rose) =
+    at_print role_is rose (record { ending = ending; ready = ready; printed = printed })
+print_stopped stop.NoMemory c desk out ending ready printed h =
+    unprinted (record { ending = ending; ready = ready; printed = printed })

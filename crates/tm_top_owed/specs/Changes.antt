@@ -1,4 +1,4 @@
--- What a call changes at a desk and at a sink. Source: this project.
+-- What a call changes at a desk and at a sink (this project's own).
 use Rattle.std.specs.Prelude.{◌≡◌, ℕ, Bool, IsTrue, List, ◌++◌, take}
 use Rattle.tm_desk.specs.Causes.{Files, Rose, OthersStay}
 use Rattle.tm_top_owed.specs.Texts.{no_memory}

@@ -1,5 +1,5 @@
 -- The first fault of a command's inputs, in the order of work: each input is read and refused before the next one is
--- read. Source: this project.
+-- read (this project's own).
 use Rattle.std.specs.Prelude.{ℕ, List, [], length, if◌then◌else◌, nat_lt, Option, None, Some, Result, Ok, Err}
 use Rattle.tm_desk.specs.Causes.{Files}
 use Rattle.tm_desk.specs.declared.desk.DeskError.TheVariants.{Failed, TooLong}
@@ -7,14 +7,14 @@ use Rattle.tm_plan_map.specs.declared.admitted.Admitted.{Admitted}
 use Rattle.tm_faults.specs.declared.role.Role.{Role}
 use Rattle.tm_faults.specs.declared.role.Role.TheVariants as roles
 use Rattle.tm_faults.specs.declared.inputs.InputFault.{InputFault}
-use Rattle.tm_faults.specs.declared.inputs.InputFault.TheVariants.{NotYet}
 use Rattle.tm_image_inputs.specs.Inputs.{topology_refusal, inputs}
 use Rattle.tm_faults.specs.declared.image.ImageFault.{ImageFault}
 use Rattle.tm_image_build.specs.Opened.{opened}
 use Rattle.tm_top_line.specs.declared.fault.AnyFault.{AnyFault}
 use Rattle.tm_top_line.specs.declared.fault.AnyFault.TheVariants.{Input, Image, Desk}
-use Rattle.tm_top_owed.specs.Words.{Build, Command}
-use Rattle.tm_top_owed.specs.Words.Command.{to_build, to_list}
+use Rattle.tm_words.specs.Words.{Build, Command}
+use Rattle.tm_words.specs.Words.Command.{to_build, to_list, to_run, to_sample}
+use Rattle.tm_top_owed.specs.Sample.{sample_topology, sample_template}
 
 -- the most bytes of a topology
 abbrev pub topology_limit : ℕ
@@ -81,24 +81,25 @@ fault_of_template b files = fault_of_input template_limit (refused_template (tex
 unfoldable pub fault_of_image : List ℕ → Files → Option AnyFault
 fault_of_image image files = fault_of_input image_limit refused_image (files image)
 
--- the role of the file that a fault speaks of: what isn't built yet names its file
-abbrev pub role_of : Role → AnyFault → Role
-role_of role (Input (NotYet file line)) = file
-role_of role _ = role
-
--- a fault with the role of the file that it speaks of, or else the first one behind it
+-- a fault with its role, or else the first one behind it
 abbrev pub or_behind : Role → Option AnyFault → Option (Role × AnyFault) → Option (Role × AnyFault)
 or_behind role None behind = behind
-or_behind role (Some fault) behind = Some (role_of role fault, fault)
+or_behind role (Some fault) behind = Some (role, fault)
 
--- the first fault of a command's inputs
+-- the first fault of two texts of a build, if there is one
+abbrev pub fault_of_texts : (topo template : List ℕ) → Option (Role × AnyFault)
+fault_of_texts topo template =
+    or_behind roles.Topology (refused_topology topo) (or_behind roles.Template (refused_template topo template) None)
+
+-- the first fault of a command's inputs; those of a sample are the two texts that its number stands for
 unfoldable pub first_fault : Command → Files → Option (Role × AnyFault)
 first_fault (to_build b) files =
     or_behind roles.Topology (fault_of_topology b files) (or_behind roles.Template (fault_of_template b files) None)
 first_fault (to_list image) files = or_behind roles.Image (fault_of_image image files) None
+first_fault (to_run r) files = or_behind roles.Image (fault_of_image r.image files) None
+first_fault (to_sample number) files = fault_of_texts (sample_topology number) (sample_template number)
 
 -- the first fault of the inputs that are read before that of a role
 abbrev pub fault_before : Command → Role → Files → Option AnyFault
 fault_before (to_build b) roles.Template files = fault_of_topology b files
-fault_before (to_build b) _ files = None
-fault_before (to_list image) _ files = None
+fault_before _ _ files = None

@@ -1,12 +1,13 @@
--- What a command owes: what its files and its sinks are after it, by the status that it ends with.
--- Source: this project.
-use Rattle.std.specs.Prelude.{◌≡◌, ◌⊎◌, ℕ, Bool, true, false, IsTrue, IsFalse, List, [], None, Some, Ok}
+-- What a command owes: what its files, its sinks and its journal are after it, by the status that it ends with (this
+-- project's own).
+use Rattle.std.specs.Prelude.{◌≡◌, ◌≢◌, ◌⊎◌, ℕ, Bool, true, false, IsTrue, IsFalse, List, [], length, Option, None, Some, Ok}
 use Rattle.tm_desk.specs.Causes.{Files}
 use Rattle.tm_desk.specs.declared.desk.DeskError.TheVariants.{Failed, TooLong, NoMemory}
 use Rattle.tm_plan_map.specs.declared.admitted.Admitted.{Admitted}
 use Rattle.tm_plan_cases.specs.declared.program.Program.{Program}
-use Rattle.tm_image_program.specs.Program.{IsTestOf}
-use Rattle.tm_world.specs.Sound.{SoundSoFar}
+use Rattle.tm_plan_cases.specs.declared.journal.Event.{Event}
+use Rattle.tm_gen.specs.Gen.{gen_of}
+use Rattle.tm_world.specs.Sound.{Sound}
 use Rattle.tm_elf_write.specs.declared.parts.Parts.{Parts}
 use Rattle.tm_elf.specs.Read.{elf_of}
 use Rattle.tm_faults.specs.declared.role.Role.{Role}
@@ -18,24 +19,47 @@ use Rattle.tm_report.specs.Listing.{listing}
 use Rattle.tm_top_line.specs.declared.fault.AnyFault.{AnyFault}
 use Rattle.tm_top_line.specs.declared.fault.AnyFault.TheVariants.{Input, Image, Desk}
 use Rattle.tm_top_line.specs.Lines.{fault_text, wants_memory}
-use Rattle.tm_top_owed.specs.Words.{Build, Command, command_of}
-use Rattle.tm_top_owed.specs.Words.Command.{to_build, to_list}
+use Rattle.tm_words.specs.Words.{Build, Run, Command, default_events}
+use Rattle.tm_words.specs.Words.Command.{to_build, to_list, to_run, to_sample}
 use Rattle.tm_top_owed.specs.Texts.{usage, built_line}
 use Rattle.tm_top_owed.specs.Inputs.{first_fault, fault_before}
+use Rattle.tm_top_owed.specs.Runs.{guest_of, IsSimulated, IsRoundOrder, InOrder, IsTold, IsFull, verdicts_in, halted_of}
+use Rattle.tm_top_owed.specs.Sample.{sample_topology, sample_template, summary}
+use Rattle.tm_guest.specs.Guested.{Guested}
+use Rattle.tm_guest.specs.Rounds.{AllHalted}
+use Rattle.tm_report_run.specs.Report.{full_line}
+use Rattle.tm_world.specs.Place.{harts}
 use Rattle.tm_top_owed.specs.Changes.{DeskChange, SinkChange, DeskFailed, SinkFailed}
 use Rattle.tm_top_owed.specs.Changes.{FilesStay, OtherFilesStay, Silent, Took, TookFront, TookFronts, Said}
 
+-- ---- how a job ends
+
+-- What a command prints when its job is done, the status that it ends with, and the journal of its simulation, if it
+-- made one.
+pub record Ending : Type 0 where
+  pub text : List ℕ
+  pub status : ℕ
+  pub journal : Option (List Event)
+
+-- status 0, and no simulation
+abbrev pub IsPlainEnd : Ending → Type 0
+IsPlainEnd e = (e.status ≡ 0) × (e.journal ≡ None)
+
 -- ---- a build
 
--- The file is built of two texts and a seed; its program has the cases of the test that the texts ask for,
--- and is sound, so far as that is claimed; and the line is that of its program.
-pub record IsMadeOf (topo template : List ℕ) (seed : ℕ) (file line : List ℕ) : Type 0 where
-  pub program : Program
-  pub its_program : program_from (inputs topo template) ≡ Ok program
-  pub its_test : (a : Admitted) → inputs topo template ≡ Ok a → IsTestOf a program.cases
+-- A program and its file are what is built of two texts and a seed: its cases are those that the seed draws for the
+-- test that the texts ask for; and it is sound.
+pub record IsBuiltOf (topo template : List ℕ) (seed : ℕ) (program : Program) (file : List ℕ) : Type 0 where
+  pub its_program : program_from seed (inputs topo template) ≡ Ok program
+  pub its_cases : (a : Admitted) → inputs topo template ≡ Ok a → program.cases ≡ gen_of a seed
   pub its_file : built topo template seed ≡ Ok file
   pub of_program : file ≡ image_file program topo template seed
-  pub is_sound : SoundSoFar program
+  pub is_sound : Sound program
+
+-- The file is built of two texts and a seed, and the line is that of its program.
+pub record IsMadeOf (topo template : List ℕ) (seed : ℕ) (file line : List ℕ) : Type 0 where
+  pub program : Program
+  pub its : IsBuiltOf topo template seed program file
   pub its_line : line ≡ built_line program file
 
 -- The file and its line are made of the two held texts and the seed, and neither text has a fault.
@@ -54,15 +78,14 @@ pub record IsWritten (b : Build) (desk : DeskChange) (line : List ℕ) : Type 0 
 
 -- ---- a listing
 
--- The file is an image: it is what is built of its own plan, of this program and seed; the program is sound,
--- so far as that is claimed.
+-- The file is an image: it is what is built of its own plan, of this program and seed, and the program is sound.
 pub record IsOpened (file : List ℕ) (program : Program) (seed : ℕ) : Type 0 where
   pub parts : Parts
   pub form : elf_of file ≡ Ok parts
   pub again : rebuilt parts ≡ Ok file
   pub its_seed : seed ≡ parts.plan.seed
-  pub its_program : program_from (inputs parts.plan.topo parts.plan.template) ≡ Ok program
-  pub is_sound : SoundSoFar program
+  pub its_program : program_from parts.plan.seed (inputs parts.plan.topo parts.plan.template) ≡ Ok program
+  pub is_sound : Sound program
   pub accepted : opened file ≡ Ok file
 
 -- The text is the listing of an image.
@@ -79,36 +102,79 @@ pub record IsListingOf (image : List ℕ) (tells : Bool) (held : Files) (text : 
   pub read : IsTrue tells → held image ≡ Some file
   pub accepted : IsTrue tells → first_fault (to_list image) held ≡ None
 
+-- ---- a run
+
+-- The file is an image, and what it ends as is how a simulation of it is told: one of at most the events that the run
+-- asks for, in round order where it asks for that. Under no script no case is reported.
+pub record IsRunIn (r : Run) (file : List ℕ) (e : Ending) : Type 0 where
+  pub program : Program
+  pub seed : ℕ
+  pub image : IsOpened file program seed
+  pub events : List Event
+  pub its_journal : e.journal ≡ Some events
+  pub simulated : IsSimulated program r.events events
+  pub in_order : InOrder r.threads program r.events events
+  pub told : IsTold (guest_of program r.events events) e.text e.status
+  pub silent : e.status ≢ 1
+
+-- It is the held image that was run, and that has no fault.
+pub record IsRunOf (r : Run) (tells : Bool) (held : Files) (e : Ending) : Type 0 where
+  pub file : List ℕ
+  pub of_file : IsRunIn r file e
+  pub read : IsTrue tells → held r.image ≡ Some file
+  pub accepted : IsTrue tells → first_fault (to_run r) held ≡ None
+
+-- ---- a sample
+
+-- How the sample of a number is told: with its summary where all harts are at halt, which is status 0, and else as a
+-- run is.
+pub data IsSummed (number : ℕ) (g : Guested) (text : List ℕ) : ℕ → Type 0 where
+  summed : AllHalted g → text ≡ summary number g.program.cases (verdicts_in g) → IsSummed number g text 0
+  cut : IsFull g → text ≡ full_line (length g.journal) (halted_of g) (harts g.program) → IsSummed number g text 4
+
+-- The image of a sample's texts, with its number as the seed, was simulated in round order.
+pub record IsSampleOf (number : ℕ) (e : Ending) : Type 0 where
+  pub program : Program
+  pub file : List ℕ
+  pub its : IsBuiltOf (sample_topology number) (sample_template number) number program file
+  pub events : List Event
+  pub its_journal : e.journal ≡ Some events
+  pub simulated : IsSimulated program default_events events
+  pub in_order : IsRoundOrder program default_events events
+  pub told : IsSummed number (guest_of program default_events events) e.text e.status
+
 -- ---- each command
 
--- the text is what the command prints, and all that comes before it is done
-abbrev pub IsReady : Command → DeskChange → List ℕ → Type 0
-IsReady (to_build b) desk text = IsWritten b desk text
-IsReady (to_list image) desk text = IsListingOf image desk.tells desk.held text
+-- this is how the command ends, and all that comes before its text is done
+abbrev pub IsReady : Command → DeskChange → Ending → Type 0
+IsReady (to_build b) desk e = IsWritten b desk e.text × IsPlainEnd e
+IsReady (to_list image) desk e = IsListingOf image desk.tells desk.held e.text × IsPlainEnd e
+IsReady (to_run r) desk e = IsRunOf r desk.tells desk.held e
+IsReady (to_sample number) desk e = IsSampleOf number e
 
 -- The job was done: all that comes before the text, and the text was printed.
-pub record IsDone (c : Command) (desk : DeskChange) (out : SinkChange) : Type 0 where
+pub record IsDone (c : Command) (desk : DeskChange) (out : SinkChange) (status : ℕ) (journal : Option (List Event)) : Type 0 where
   pub text : List ℕ
-  pub ready : IsReady c desk text
+  pub ready : IsReady c desk (record { text = text; status = status; journal = journal })
   pub printed : Took out text
 
 -- all files that the command doesn't write are as at entry
 abbrev pub RestStays : Command → DeskChange → Type 0
 RestStays (to_build b) desk = OtherFilesStay desk b.out
-RestStays (to_list image) desk = FilesStay desk
+RestStays _ desk = FilesStay desk
 
 -- the command writes a file
 abbrev pub writes : Command → Bool
 writes (to_build b) = true
-writes (to_list image) = false
+writes _ = false
 
 -- the command reads the file of a role
 abbrev pub reads : Command → Role → Bool
 reads (to_build b) roles.Topology = true
 reads (to_build b) roles.Template = true
-reads (to_build b) _ = false
 reads (to_list image) roles.Image = true
-reads (to_list image) _ = false
+reads (to_run r) roles.Image = true
+reads _ _ = false
 
 -- ---- faults
 
@@ -149,9 +215,9 @@ pub record IsUnwritten (c : Command) (desk : DeskChange) (out : SinkChange) : Ty
 -- Its printing was begun, and not ended: all that comes before it is done, and of its text a front was printed,
 -- which may be empty.
 pub record IsUnprinted (c : Command) (desk : DeskChange) (out : SinkChange) : Type 0 where
-  pub text : List ℕ
-  pub ready : IsReady c desk text
-  pub printed : TookFront out text
+  pub ending : Ending
+  pub ready : IsReady c desk ending
+  pub printed : TookFront out ending.text
 
 -- one of the three
 pub data IsUnfinished (c : Command) (desk : DeskChange) (out : SinkChange) : Type 0 where
@@ -175,30 +241,31 @@ pub data MayBegin (c : Command) (desk : DeskChange) (out : SinkChange) (text : L
   failure_line : (role : Role) → IsFailure c desk out role → text ≡ fault_text role (Desk Failed)
       → MayBegin c desk out text
 
--- ---- the five statuses
+-- ---- the statuses
 
--- how a call ended: there are these statuses alone, and this holds with each
-pub data Ended (words : List (List ℕ)) (desk : DeskChange) (out err : SinkChange) (status : ℕ) : Type 0 where
+-- How a call ended whose words are this command, or none: there are these statuses alone, and this holds with each.
+-- Only where a job was done there may be a journal.
+pub data Ended (asked : Option Command) (desk : DeskChange) (out err : SinkChange) (journal : Option (List Event)) (status : ℕ) : Type 0 where
   -- the job was done, and no file changed that the command doesn't write
-  done : (c : Command) → status ≡ 0 → command_of words ≡ Some c → IsDone c desk out → RestStays c desk
-      → Silent err → Ended words desk out err status
+  done : (c : Command) → asked ≡ Some c → IsDone c desk out status journal → RestStays c desk
+      → Silent err → Ended asked desk out err journal status
   -- the words are no command: all is as it was, but for the usage text
-  no_command : status ≡ 2 → command_of words ≡ None → FilesStay desk → Silent out
-      → Said err usage → Ended words desk out err status
+  no_command : status ≡ 2 → journal ≡ None → asked ≡ None → FilesStay desk → Silent out
+      → Said err usage → Ended asked desk out err journal status
   -- an input was refused: all is as it was, but for the line of the first refusal
-  refused : (c : Command) (role : Role) (fault : AnyFault) → status ≡ 3 → command_of words ≡ Some c
+  refused : (c : Command) (role : Role) (fault : AnyFault) → status ≡ 3 → journal ≡ None → asked ≡ Some c
       → IsRefusal c desk role fault → IsUntouched desk out → Said err (fault_text role fault)
-      → Ended words desk out err status
+      → Ended asked desk out err journal status
   -- the outside failed: at an input all is as it was, at the write nothing was printed, and at the printing the file
   -- is written and a front of its line may have been printed
-  failed : (c : Command) (role : Role) → status ≡ 5 → command_of words ≡ Some c → IsFailure c desk out role
-      → RestStays c desk → Said err (fault_text role (Desk Failed)) → Ended words desk out err status
+  failed : (c : Command) (role : Role) → status ≡ 5 → journal ≡ None → asked ≡ Some c → IsFailure c desk out role
+      → RestStays c desk → Said err (fault_text role (Desk Failed)) → Ended asked desk out err journal status
   -- no memory for the usage text
-  no_memory_for_usage : status ≡ 6 → command_of words ≡ None → FilesStay desk → Silent out
-      → TookFronts err usage → Ended words desk out err status
+  no_memory_for_usage : status ≡ 6 → journal ≡ None → asked ≡ None → FilesStay desk → Silent out
+      → TookFronts err usage → Ended asked desk out err journal status
   -- no memory for a command, or for its line
-  no_memory : (c : Command) (text : List ℕ) → status ≡ 6 → command_of words ≡ Some c → RestStays c desk
-      → MayBegin c desk out text → TookFronts err text → Ended words desk out err status
+  no_memory : (c : Command) (text : List ℕ) → status ≡ 6 → journal ≡ None → asked ≡ Some c → RestStays c desk
+      → MayBegin c desk out text → TookFronts err text → Ended asked desk out err journal status
 
 -- where the files are told, the desk's count didn't rise and an input is at fault, the status is that of the first
 -- fault, but for want of memory
@@ -207,14 +274,14 @@ AlwaysAtFault c desk status = (role : Role) (fault : AnyFault) → IsTrue desk.t
     → first_fault c desk.held ≡ Some (role, fault) → (status ≡ status_of fault) ⊎ (status ≡ 6)
 
 -- where the files are told, no input is at fault and neither count rose, the job is done, but for want of memory
-abbrev pub AlwaysDone : Command → DeskChange → SinkChange → ℕ → Type 0
-AlwaysDone c desk out status = IsTrue desk.tells → (DeskFailed desk → ⊥) → (SinkFailed out → ⊥)
-    → first_fault c desk.held ≡ None → (status ≡ 0) ⊎ (status ≡ 6)
+abbrev pub AlwaysDone : Command → DeskChange → SinkChange → Option (List Event) → ℕ → Type 0
+AlwaysDone c desk out journal status = IsTrue desk.tells → (DeskFailed desk → ⊥) → (SinkFailed out → ⊥)
+    → first_fault c desk.held ≡ None → IsDone c desk out status journal ⊎ (status ≡ 6)
 
 -- All that a call owes.
-pub record Owes (words : List (List ℕ)) (desk : DeskChange) (out err : SinkChange) (status : ℕ) : Type 0 where
-  pub ended : Ended words desk out err status
+pub record Owes (asked : Option Command) (desk : DeskChange) (out err : SinkChange) (journal : Option (List Event)) (status : ℕ) : Type 0 where
+  pub ended : Ended asked desk out err journal status
   -- words that are no command are always refused, but for want of memory
-  pub always_usage : command_of words ≡ None → (status ≡ 2) ⊎ (status ≡ 6)
-  pub always_at_fault : (c : Command) → command_of words ≡ Some c → AlwaysAtFault c desk status
-  pub always_done : (c : Command) → command_of words ≡ Some c → AlwaysDone c desk out status
+  pub always_usage : asked ≡ None → (status ≡ 2) ⊎ (status ≡ 6)
+  pub always_at_fault : (c : Command) → asked ≡ Some c → AlwaysAtFault c desk status
+  pub always_done : (c : Command) → asked ≡ Some c → AlwaysDone c desk out journal status

@@ -1,4 +1,4 @@
--- What the steps of a call leave. Source: this project.
+-- What the steps of a call leave (this project's own).
 use Rattle.std.specs.Prelude.{◌≡◌, ◌⊎◌, ◌<◌, ℕ, List, [], length, IsFalse, Option, None, IsSomeAnd}
 use Rattle.tm_desk.specs.Causes.{Rose}
 use Rattle.tm_desk.specs.declared.desk.DeskError.TheVariants.{Failed, TooLong}
@@ -8,7 +8,7 @@ use Rattle.tm_top_line.specs.declared.fault.AnyFault.TheVariants.{Desk}
 use Rattle.tm_top_line.specs.Lines.{fault_text, wants_memory}
 use Rattle.tm_top_owed.specs.declared.stop.Stop.{Stop}
 use Rattle.tm_top_owed.specs.declared.stop.Stop.TheVariants as stop
-use Rattle.tm_top_owed.specs.Words.{Command}
+use Rattle.tm_words.specs.Words.{Command}
 use Rattle.tm_top_owed.specs.Changes.{DeskChange, SinkChange, Said, TookFronts}
 use Rattle.tm_top_owed.specs.Owed.{IsRefusal, InputFailure, IsFailure, IsUntouched, IsUnfinished}
 

@@ -1,4 +1,4 @@
--- The texts that go to the sinks. Source: this project.
+-- The texts that go to the sinks (this project's own).
 use Rattle.std.specs.Prelude.{ℕ, List, ◌++◌, length, codes}
 use Rattle.std.specs.Fmt.{decimal}
 use Rattle.tm_plan_cases.specs.declared.program.Program.{Program}

@@ -1,0 +1,53 @@
+-- The sample of a number: a test of up to 4 harts and 8 drawn cases, with all three kinds of window (this project's
+-- own).
+use Rattle.std.specs.Prelude.{ℕ, suc, ◌+◌, ◌*◌, ◌%◌, List, [], ◌∷◌, ◌++◌, length, codes, sum_by}
+use Rattle.std.specs.List.{flat_map}
+use Rattle.std.specs.Fmt.{decimal}
+use Rattle.tm_base.specs.Lists.{count_from}
+use Rattle.tm_plan_cases.specs.declared.cases.Cases.{Cases}
+use Rattle.tm_plan_cases.specs.declared.cases.Case.{Case}
+use Rattle.tm_plan_cases.specs.declared.cases.Stream.{Stream}
+
+-- the line size of a sample: 32, 64 or 128 bytes, in turn
+abbrev pub sample_line : ℕ → ℕ
+sample_line 0 = 32
+sample_line 1 = 64
+sample_line _ = 128
+
+-- a key of a topology with its number, as a line
+abbrev pub key_line : List ℕ → ℕ → List ℕ
+key_line key value = key ++ codes " = " ++ decimal value ++ codes "\n"
+
+-- the topology of sample n: 1 or 2 cores of 2 threads
+unfoldable pub sample_topology : ℕ → List ℕ
+sample_topology n =
+    key_line (codes "cores") (1 + n % 2) ++ codes "threads = 2\n" ++ key_line (codes "line") (sample_line (n % 3))
+    ++ key_line (codes "bias") (n % 101)
+
+-- the lines of case c: one body for all harts, of 100 drawn slots
+abbrev pub sample_case : ℕ → List ℕ
+sample_case c =
+    codes "case c" ++ decimal c ++ codes "\nbody all\nmix 100 alu 4 load 3 store 3 branch 1\n"
+
+-- the template of sample n: 2, 3 or 4 passes, and 8 cases
+unfoldable pub sample_template : ℕ → List ℕ
+sample_template n =
+    codes "template sample\npasses " ++ decimal (2 + n % 3)
+    ++ codes "\nwindow 0 true 2\nwindow 1 false 2\nwindow 2 own 8\n" ++ flat_map sample_case (count_from 0 8)
+
+-- how many slots all streams of all cases have
+abbrev pub slots_of : Cases → ℕ
+slots_of cases = sum_by (λ (case : Case). sum_by (λ (s : Stream). length s.words) case.streams) cases.cases
+
+-- how many verdicts aren't 0
+abbrev pub count_reported : List ℕ → ℕ
+count_reported [] = 0
+count_reported (0 ∷ more) = count_reported more
+count_reported (suc v ∷ more) = suc (count_reported more)
+
+-- the line of sample n with these cases and verdicts
+unfoldable pub summary : ℕ → Cases → List ℕ → List ℕ
+summary n cases verdicts =
+    codes "sample " ++ decimal n ++ codes ": harts " ++ decimal cases.harts ++ codes ", cases "
+    ++ decimal (length cases.cases) ++ codes ", passes " ++ decimal cases.passes ++ codes ", words "
+    ++ decimal (slots_of cases) ++ codes ", reported " ++ decimal (count_reported verdicts) ++ codes "\n"
