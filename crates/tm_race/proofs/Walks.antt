@@ -14,7 +14,7 @@ use Rattle.tm_world.specs.Trails.{RaceDependent}
 use Rattle.tm_race_walk.specs.Forward.{Stands, ReadsHeld, HeldAfter, Raised, Turns}
 use Rattle.tm_race_walk.proofs.OneSlot.{forward, stands_as, stands_zero}
 use Rattle.tm_race_walk.proofs.Shaping.{any-contains}
-use Rattle.tm_race.specs.Exact.{Walk, is_written, reads_held, is_held_after, turns, raised, walk_over, walk_to, is_held}
+use Rattle.tm_race.specs.Exact.{Walk, is_written, reads_held, is_held_after, is_steered, reach_with, walk_over, walk_to, is_held}
 
 -- ---- what the tests tell
 
@@ -38,11 +38,11 @@ written-decides slot r = (
   (λ c. any-contains (λ s. s == r) slot.writes r c (eq-eqb r r refl)),
 )
 
-raised-told : (P : Type 0) (counts : Bool) (target : Option ℕ) (old : ℕ) → Decides counts P
-    → Raised P target old (raised target counts old)
-raised-told P counts None old d = refl
-raised-told P true (Some t) old d = inl (d.0 refl, refl)
-raised-told P false (Some t) old d = inr ((λ p. false≢true (d.1 p)), refl)
+reach-told : (P : Type 0) (counts : Bool) (target : Option ℕ) (old : ℕ) → Decides counts P
+    → Raised P target old (reach_with target counts old)
+reach-told P counts None old d = refl
+reach-told P true (Some t) old d = inl (d.0 refl, refl)
+reach-told P false (Some t) old d = inr ((λ p. false≢true (d.1 p)), refl)
 
 -- ---- one slot
 
@@ -54,8 +54,8 @@ module _ (slot : Slot) (i : ℕ) (walk : Walk) where
   reads-decides : Decides (reads_held slot walk) (ReadsHeld slot (Held walk))
   reads-decides = any-decides walk.held slot.reads
 
-  turns-decides : Decides (turns slot i walk) (Turns slot i (Held walk) walk.steered)
-  turns-decides = Decides-or _ _ (Decides-and _ _ (itself slot.decides) reads-decides) (Decides-ltb i walk.steered)
+  steered-decides : Decides (is_steered slot i walk) (Turns slot i (Held walk) walk.steered)
+  steered-decides = Decides-or _ _ (Decides-and _ _ (itself slot.decides) reads-decides) (Decides-ltb i walk.steered)
 
   held-decides : (r : ℕ)
       → Decides (is_held_after slot i walk r) (HeldAfter slot i (Held walk) walk.steered walk.covered r)
@@ -77,8 +77,8 @@ walk-stands stream (suc j) =
     let slot = stream j in
     forward stream j (Held walk) walk.steered walk.covered (walk-stands stream j)
     (Held (walk_over slot j walk)) _ _ (held-decides slot j walk)
-    (raised-told _ (turns slot j walk) slot.target walk.steered (turns-decides slot j walk))
-    (raised-told (Unit {0}) true slot.target walk.covered ((λ _. tt), (λ _. refl)))
+    (reach-told _ (is_steered slot j walk) slot.target walk.steered (steered-decides slot j walk))
+    (reach-told (Unit {0}) true slot.target walk.covered ((λ _. tt), (λ _. refl)))
 
 pub held-told : (cases : Cases) (c h r : ℕ) (stream : Stream) → stream_in cases c h ≡ Some stream
     → Decides (is_held cases c h r) (RaceDependent (slots_in cases c h) r (length stream.words))

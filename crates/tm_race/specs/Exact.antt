@@ -29,31 +29,32 @@ abbrev pub reads_held : Slot → Walk → Bool
 reads_held slot walk = any walk.held slot.reads
 
 -- What slot i writes is race-dependent: it races, it reads what is, or a steered slot covers it.
-abbrev pub marks : Slot → ℕ → Walk → Bool
-marks slot i walk = slot.races || (reads_held slot walk || nat_lt i walk.steered)
+abbrev pub writes_held : Slot → ℕ → Walk → Bool
+writes_held slot i walk = slot.races || (reads_held slot walk || nat_lt i walk.steered)
 
 -- r is race-dependent behind slot i: the slot writes it, and what it writes is; or r was before, and the slot doesn't
 -- write it, or a branch or JAL covers the slot.
 abbrev pub is_held_after : Slot → ℕ → Walk → ℕ → Bool
 is_held_after slot i walk r =
-    (is_written slot r && marks slot i walk) || (walk.held r && (not (is_written slot r) || nat_lt i walk.covered))
+    (is_written slot r && writes_held slot i walk)
+    || (walk.held r && (not (is_written slot r) || nat_lt i walk.covered))
 
 -- Slot i is steered, if it is a branch or JAL: it is a branch that reads what is race-dependent, or a steered slot
 -- covers it.
-abbrev pub turns : Slot → ℕ → Walk → Bool
-turns slot i walk = (slot.decides && reads_held slot walk) || nat_lt i walk.steered
+abbrev pub is_steered : Slot → ℕ → Walk → Bool
+is_steered slot i walk = (slot.decides && reads_held slot walk) || nat_lt i walk.steered
 
 -- the greater of an old target and of a new one, if there is a new one and it counts
-abbrev pub raised : Option ℕ → (counts : Bool) → ℕ → ℕ
-raised None counts old = old
-raised (Some target) counts old = if counts then max old target else old
+abbrev pub reach_with : Option ℕ → (counts : Bool) → ℕ → ℕ
+reach_with None counts old = old
+reach_with (Some target) counts old = if counts then max old target else old
 
 -- from before slot i to behind it
 abbrev pub walk_over : Slot → ℕ → Walk → Walk
 walk_over slot i walk = record {
   held = is_held_after slot i walk;
-  steered = raised slot.target (turns slot i walk) walk.steered;
-  covered = raised slot.target true walk.covered;
+  steered = reach_with slot.target (is_steered slot i walk) walk.steered;
+  covered = reach_with slot.target true walk.covered;
 }
 
 -- what is known before slot j; before the first slot nothing is race-dependent
