@@ -49,12 +49,12 @@ module _ (p : Program) (a b : FaultLine) (h k pc : ℕ) where
           let hart = eq-eqb a.hart b.hart (eqb-true a.hart h ah ∙ sym (eqb-true b.hart h bh)) in
           let case = eq-eqb a.case b.case (eqb-true a.case c ac ∙ sym (eqb-true b.case c bc)) in
           let slot = eq-eqb a.slot b.slot (omega arith) in
-          let twice : are_twice a b ≡ true =
-          and_from _ _ hart (and_from _ _ case (and_from _ _ slot (and_from _ _ g (passes-meet a.pass b.pass k ap bp)))) in
+          let meets = passes-meet a.pass b.pass k ap bp in
+          let twice : are_twice a b ≡ true = and_from _ _ hart (and_from _ _ case (and_from _ _ slot (and_from _ _ g meets))) in
           absurd (true≢false (sym twice ∙ apart))
 
-differ : (p : Program) (h q pc : ℕ) (a b : FaultLine) → names p a h q pc ≡ true → names p b h q pc ≡ true → Apart a b
-    → Differ a.action b.action
+differ : (p : Program) (h q pc : ℕ) (a b : FaultLine) → names p a h q pc ≡ true → names p b h q pc ≡ true
+    → Apart a b → Differ a.action b.action
 unfolding names
 differ p h q pc a b = differ-in p a b h (pass_of_phase p q) pc (case_of_phase p q)
 
