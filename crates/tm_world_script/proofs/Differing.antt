@@ -50,7 +50,9 @@ module _ (p : Program) (a b : FaultLine) (h k pc : ℕ) where
           let case = eq-eqb a.case b.case (eqb-true a.case c ac ∙ sym (eqb-true b.case c bc)) in
           let slot = eq-eqb a.slot b.slot (omega arith) in
           let meets = passes-meet a.pass b.pass k ap bp in
-          let twice : are_twice a b ≡ true = and_from _ _ hart (and_from _ _ case (and_from _ _ slot (and_from _ _ g meets))) in
+          let both = and_from (same_kind a.action b.action) (meet a.pass b.pass) g meets in
+          let rest = and_from (a.slot == b.slot) (same_kind a.action b.action && meet a.pass b.pass) slot both in
+          let twice : are_twice a b ≡ true = and_from _ _ hart (and_from _ _ case rest) in
           absurd (true≢false (sym twice ∙ apart))
 
 differ : (p : Program) (h q pc : ℕ) (a b : FaultLine) → names p a h q pc ≡ true → names p b h q pc ≡ true
