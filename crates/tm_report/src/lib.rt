@@ -1,4 +1,4 @@
-//! Texts about programs: so far the listing of all slots and of what isn't checked.
+//! Texts about programs and their runs: the listing of all slots and of what isn't checked, and the report on a run.
 #![tactic(auto)]
 
 mod dwords;
@@ -8,3 +8,4 @@ mod registers;
 mod slots;
 
 pub use list::list_text;
+pub use tm_report_run::{Verdicts, full_text, report_text, verdicts};

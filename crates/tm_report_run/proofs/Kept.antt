@@ -1,5 +1,5 @@
 -- What is kept of writes to verdict cells.
-use Rattle.std.proofs.Common.{◌≡◌, ◌≢◌, ℕ, zero, suc, replicate, ◌+◌, ◌-◌, ◌*◌, ◌<◌, ◌≤◌, List, [], ◌∷◌, ◌++◌, length, take, get_or, Bool, true, false, ◌==◌, ◌&&◌, Option, None, Some, inl, inr, refl, sym, ap, ap₂, ◌∙◌, arith, eqb-true, get_or-set_same, get_or-set_other, eq-eqb, ne_eqb}
+use Rattle.std.proofs.Common.{◌≡◌, ◌≢◌, ℕ, zero, suc, replicate, ◌+◌, ◌*◌, ◌<◌, ◌≤◌, List, [], ◌∷◌, ◌++◌, length, take, get_or, Bool, true, false, ◌==◌, ◌&&◌, Option, None, Some, inl, inr, refl, sym, ap, ap₂, ◌∙◌, arith, eqb-true, get_or-set_same, get_or-set_other, eq-eqb}
 use Rattle.std.specs.Prelude.{slice_index, slice_set, unwrap_or, if◌then◌else◌}
 use Rattle.std.proofs.lemmas.Bool.{cases_lt, true≢false}
 use Rattle.std.proofs.lemmas.List.{take_more}
@@ -53,7 +53,8 @@ kept-here : (count n : ℕ) (table : List ℕ) (addr cell value : ℕ) → lengt
     → slice_index (slice_set table cell value) (c * n + h)
     ≡ unwrap_or (put_at (verdict_at c h) (Write addr 8 value)) (slice_index table (c * n + h))
 unfolding verdict_at
-kept-here count n table addr cell value long few e g el gl at is c h cl hl = by (addr == 0x80C01000 + 8 * (16 * c + h)) refl
+kept-here count n table addr cell value long few e g el gl at is c h cl hl =
+    by (addr == 0x80C01000 + 8 * (16 * c + h)) refl
   where
     by : (b : Bool) → (addr == 0x80C01000 + 8 * (16 * c + h)) ≡ b
         → slice_index (slice_set table cell value) (c * n + h)
@@ -67,23 +68,26 @@ kept-here count n table addr cell value long few e g el gl at is c h cl hl = by 
         rw place (get_or-set_same table cell value 0 (omega arith))
     by false q =
         let other : c * n + h ≢ cell = λ z.
-          let same = same-place n c h e g hl gl (z ∙ is) in
-          true≢false (sym (eq-eqb addr (0x80C01000 + 8 * (16 * c + h)) (omega (arith, same))) ∙ q) in
+        let same = same-place n c h e g hl gl (z ∙ is) in
+        true≢false (sym (eq-eqb addr (0x80C01000 + 8 * (16 * c + h)) (omega (arith, same))) ∙ q) in
         get_or-set_other table cell (c * n + h) value 0 other
 
 -- the same of an access that is such a write
-pub kept : (count n : ℕ) (table : List ℕ) (access : Access) (addr width cell value : ℕ) → access ≡ Write addr width value
+pub kept : (count n : ℕ) (table : List ℕ) (access : Access) (addr width cell value : ℕ)
+    → access ≡ Write addr width value
     → width ≡ 8 → length table ≡ count * n → n ≤ 16 → (e g : ℕ) → e < count → g < n → verdict_at e g ≡ addr
     → cell ≡ e * n + g → (c h : ℕ) → c < count → h < n
     → slice_index (slice_set table cell value) (c * n + h)
     ≡ unwrap_or (put_at (verdict_at c h) access) (slice_index table (c * n + h))
 kept count n table access addr width cell value is wide long few e g el gl at place c h cl hl =
+    let same : Write addr 8 value ≡ access = sym (is ∙ ap (λ (w : ℕ). Write addr w value) wide) in
     kept-here count n table addr cell value long few e g el gl at place c h cl hl
-    ∙ ap (λ (a : Access). unwrap_or (put_at (verdict_at c h) a) (slice_index table (c * n + h))) (sym (is ∙ ap (λ (w : ℕ). Write addr w value) wide))
+    ∙ ap (λ (a : Access). unwrap_or (put_at (verdict_at c h) a) (slice_index table (c * n + h))) same
 
 -- ---- one event more
 
-latest-more : {A B : Type 0} → (f : A → Option B) (xs : List A) (x : A) → latest f (xs ++ x ∷ []) ≡ or_else (f x) (latest f xs)
+latest-more : {A B : Type 0} → (f : A → Option B) (xs : List A) (x : A)
+    → latest f (xs ++ x ∷ []) ≡ or_else (f x) (latest f xs)
 latest-more f [] x = or-none (f x)
 latest-more f (y ∷ ys) x = ap (λ z. or_else z (f y)) (latest-more f ys x) ∙ or-or (f x) (latest f ys) (f y)
 
@@ -92,9 +96,11 @@ pub more-kept : (other : ℕ) (events : List Event) (place : ℕ) (e : Event) (c
     → verdict_from other (take (place + 1) events) c h
     ≡ unwrap_or (put_at (verdict_at c h) (get_or events place e).access) (verdict_from other (take place events) c h)
 more-kept other events place e c h l =
+    let before = take place events in
+    let x = get_or events place e in
+    let f = λ (x : Event). put_at (verdict_at c h) x.access in
     ap (λ (xs : List Event). verdict_from other xs c h) (take_more events place e l)
-    ∙ (ap (λ (o : Option ℕ). unwrap_or o other) (latest-more (λ (x : Event). put_at (verdict_at c h) x.access) (take place events) (get_or events place e))
-    ∙ or-other (put_at (verdict_at c h) (get_or events place e).access) (latest (λ (x : Event). put_at (verdict_at c h) x.access) (take place events)) other)
+    ∙ (ap (λ (o : Option ℕ). unwrap_or o other) (latest-more f before x) ∙ or-other (f x) (latest f before) other)
 
 -- ---- before all writes
 

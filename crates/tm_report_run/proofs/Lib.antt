@@ -1,3 +1,4 @@
 mod Owned
 mod Kept
 mod Placed
+mod Rows

@@ -1,5 +1,5 @@
 -- The dwords that a hart collects are few, and have addresses of 8 hexadecimal digits; so verdicts tell their dwords.
-use Rattle.std.proofs.Common.{◌≡◌, ℕ, zero, suc, ◌+◌, ◌-◌, ◌*◌, ◌%◌, ◌^◌, ◌<◌, ◌≤◌, List, ◌∷◌, length, map, filter, Bool, true, false, inl, inr, cond, arith}
+use Rattle.std.proofs.Common.{ℕ, zero, suc, ◌+◌, ◌*◌, ◌%◌, ◌^◌, ◌<◌, ◌≤◌, List, ◌∷◌, length, map, filter, Bool, true, false, inl, inr, cond, arith}
 use Rattle.std.specs.Prelude.{All, slice_index, ◌&&◌, ◌==◌}
 use Rattle.std.proofs.lemmas.List.Elements.{All-nil, All-cons}
 use Rattle.tm_plan_cases.specs.declared.cases.Cases.{Cases}
@@ -46,4 +46,5 @@ owned-short cases h j l = short (λ a. is_declared cases a && (collector cases a
 pub dword-named : (cases : Cases) (h v : ℕ) → IsVerdictOf cases h v → 0 < v
     → (1 ≤ v % 2 ^ 32) × (dword_in v < 30 + length (owned cases h))
 dword-named cases h v (inl e) some = absurd (omega arith)
-dword-named cases h v (inr (k, i, first, last, saved, is)) some = let most = owned-few cases h in (omega arith, omega arith)
+dword-named cases h v (inr (k, i, first, last, saved, is)) some =
+    let most = owned-few cases h in (omega arith, omega arith)

@@ -1,5 +1,5 @@
 -- Where each verdict stands in the list of all.
-use Rattle.std.proofs.Common.{◌≡◌, ℕ, zero, suc, ◌+◌, ◌*◌, ◌/◌, ◌%◌, ◌<◌, ◌≤◌, List, [], ◌∷◌, ◌++◌, length, map, refl, sym, ap, ap₂, ◌∙◌, arith}
+use Rattle.std.proofs.Common.{◌≡◌, ℕ, zero, suc, ◌+◌, ◌*◌, ◌/◌, ◌%◌, ◌<◌, ◌≤◌, List, length, map, refl, sym, ap, ap₂, ◌∙◌, arith}
 use Rattle.std.specs.Prelude.{slice_index, flat_map}
 use Rattle.std.proofs.lemmas.List.{get_or_append_left, get_or-append-add, length-append, length-map}
 use Rattle.std.proofs.lemmas.Nat.{div-add-mod'}
@@ -8,7 +8,7 @@ use Rattle.std.proofs.Math.Nat.{mod-lt, div-lt_iff_lt-mul}
 use Rattle.tm_plan_cases.specs.declared.journal.Event.{Event}
 use Rattle.tm_plan_cases.specs.declared.cases.Cases.{Cases}
 use Rattle.tm_base.specs.Lists.{count_from}
-use Rattle.tm_report_run.specs.Verdicts.{verdict_in, verdicts_on, verdicts_of}
+use Rattle.tm_report_run.specs.Verdicts.{verdict_in, verdicts_of}
 
 -- ---- rows
 
@@ -19,7 +19,9 @@ length-from (suc n) a = ap (λ (k : ℕ). suc k) (length-from n (suc a))
 from-at : (f : ℕ → ℕ) (n a j : ℕ) → j < n → slice_index (map f (count_from a n)) j ≡ f (a + j)
 from-at f zero a j l = absurd (omega arith)
 from-at f (suc n) a zero l = ap f (let e : a ≡ a + 0 = omega arith in e)
-from-at f (suc n) a (suc j) l = from-at f n (suc a) j (omega arith) ∙ ap f (let e : suc a + j ≡ a + suc j = omega arith in e)
+from-at f (suc n) a (suc j) l =
+    let next : suc a + j ≡ a + suc j = omega arith in
+    from-at f n (suc a) j (omega arith) ∙ ap f next
 
 -- so many rows of n numbers, from row a on
 abbrev rows : (ℕ → ℕ → ℕ) → (n m a : ℕ) → List ℕ
@@ -31,8 +33,9 @@ row-long f n = length-map (count_from 0 n) f ∙ length-from n 0
 rows-long : (f : ℕ → ℕ → ℕ) (n m a : ℕ) → length (rows f n m a) ≡ m * n
 rows-long f n zero a = omega arith
 rows-long f n (suc m) a =
+    let all : n + m * n ≡ suc m * n = omega arith in
     length-append (map (f a) (count_from 0 n)) (rows f n m (suc a))
-    ∙ (ap₂ (λ (x y : ℕ). x + y) (row-long (f a) n) (rows-long f n m (suc a)) ∙ (let e : n + m * n ≡ suc m * n = omega arith in e))
+    ∙ (ap₂ (λ (x y : ℕ). x + y) (row-long (f a) n) (rows-long f n m (suc a)) ∙ all)
 
 row-at : (f : ℕ → ℕ → ℕ) (n m a c h : ℕ) → c < m → h < n → slice_index (rows f n m a) (c * n + h) ≡ f (a + c) h
 row-at f n zero a c h l k = absurd (omega arith)
@@ -44,10 +47,13 @@ row-at f n (suc m) a zero h l k =
     ∙ (from-at (f a) n 0 h k ∙ ap₂ f (let e : a ≡ a + 0 = omega arith in e) (let e : 0 + h ≡ h = omega arith in e)))
 row-at f n (suc m) a (suc c) h l k =
     let place : suc c * n + h ≡ n + (c * n + h) = omega arith in
-    let behind : n + (c * n + h) ≡ length (map (f a) (count_from 0 n)) + (c * n + h) = ap (λ (x : ℕ). x + (c * n + h)) (sym (row-long (f a) n)) in
+    let row = map (f a) (count_from 0 n) in
+    let long : n ≡ length row = sym (row-long (f a) n) in
+    let behind : n + (c * n + h) ≡ length row + (c * n + h) = ap (λ (x : ℕ). x + (c * n + h)) long in
+    let next : suc a + c ≡ a + suc c = omega arith in
     ap (slice_index (rows f n (suc m) a)) (place ∙ behind)
-    ∙ (get_or-append-add (map (f a) (count_from 0 n)) (rows f n m (suc a)) (c * n + h) 0
-    ∙ (row-at f n m (suc a) c h (omega arith) k ∙ ap (λ (x : ℕ). f x h) (let e : suc a + c ≡ a + suc c = omega arith in e)))
+    ∙ (get_or-append-add row (rows f n m (suc a)) (c * n + h) 0
+    ∙ (row-at f n m (suc a) c h (omega arith) k ∙ ap (λ (x : ℕ). f x h) next))
 
 -- A list whose numbers are those of the rows is all of them.
 all-rows : (f : ℕ → ℕ → ℕ) (n m : ℕ) (v : List ℕ) → 1 ≤ n → length v ≡ m * n
@@ -72,4 +78,5 @@ pub all-verdicts : (cases : Cases) (events : List Event) (v : List ℕ) → 1 �
     → ((c h : ℕ) → c < length cases.cases → h < cases.harts
     → slice_index v (c * cases.harts + h) ≡ verdict_in events c h) → v ≡ verdicts_of cases events
 unfolding verdicts_of
-all-verdicts cases events v some long each = all-rows (verdict_in events) cases.harts (length cases.cases) v some long each
+all-verdicts cases events v some long each =
+    all-rows (verdict_in events) cases.harts (length cases.cases) v some long each

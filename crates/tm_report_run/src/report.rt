@@ -53,13 +53,7 @@ fn saved_dword(cases: &Cases, h: u32, verdict: u64) -> u64
 
 // Puts what a line says of hart `h` before the place.
 #[tactic(auto, unfolding(crate::specs::Report::hart_text))]
-fn put_hart_text(
-    out: &mut Bytes,
-    c: usize,
-    name: &[u8],
-    h: u32,
-    pass: u64,
-) -> Result<(), NoMemory>
+fn put_hart_text(out: &mut Bytes, c: usize, name: &[u8], h: u32, pass: u64) -> Result<(), NoMemory>
     ensures { OnOk result (out.new ≡ out.old ++ hart_text c name.now h pass) }
 {
     put_case_text(out, c, name)?;
@@ -168,19 +162,30 @@ fn put_cases(out: &mut Bytes, cases: &Cases, verdicts: &[u64]) -> Result<(), NoM
     let harts = cases.harts as usize;
     for (c, case) in cases.cases.as_slice().iter().enumerate() {
         let first = c * harts;
-        put_case(out, cases, c, case.name.as_slice(), &verdicts[first..first + harts])?;
+        put_case(
+            out,
+            cases,
+            c,
+            case.name.as_slice(),
+            &verdicts[first..first + harts],
+        )?;
     }
     Ok(())
 }
 
-/// The report on a run of so many events, at whose end all harts are at halt: for each case that nothing differed, or a
-/// line for each hart whose verdict isn't 0, with the least pass and the first place that differ from pass 0; and the
-/// number of events.
+/// The report on a run of so many events, at whose end all harts are at halt: for each case that nothing differed, or
+/// a line for each hart whose verdict isn't 0, with the least pass and the first place that differ from pass 0; and
+/// the number of events.
 ///
 /// There is one verdict for each case and hart. Each is 0, or `k * 2^32 + i + 1` for a pass `k` from 1 and a saved
 /// dword `i` of its hart.
 #[tactic(auto, unfolding(crate::specs::Report::report))]
-pub fn report_text(alloc: Global, cases: &Cases, v: &Verdicts, events: u64) -> Result<Text, NoMemory>
+pub fn report_text(
+    alloc: Global,
+    cases: &Cases,
+    v: &Verdicts,
+    events: u64,
+) -> Result<Text, NoMemory>
     requires shaped { AreShaped cases.now }
     requires count { length v.now ≡ length cases.now.cases * cases.now.harts }
     requires verdicts { AreVerdicts cases.now v.now }

@@ -1,2 +1,4 @@
 mod Keeping
 mod Numbers
+mod Differing
+mod Rows

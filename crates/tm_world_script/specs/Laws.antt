@@ -1,5 +1,5 @@
 -- Laws of runs that scripts have changed (this project's own).
-use Rattle.std.specs.Prelude.{ℕ, ◌^◌, ◌<◌, List, [], All}
+use Rattle.std.specs.Prelude.{ℕ, ◌^◌, ◌<◌, List, [], IsFalse, All, AllPairs}
 use Rattle.tm_plan_cases.specs.declared.cases.Cases.{Cases}
 use Rattle.tm_plan_cases.specs.declared.program.Program.{Program}
 use Rattle.tm_plan_cases.specs.Shaped.{IsTyped}
@@ -13,8 +13,8 @@ use Rattle.tm_world.specs.Course.{OnHalf, HartCourse}
 use Rattle.tm_world.specs.Sound.{Sound}
 use Rattle.tm_world.specs.Work.{GoesOn}
 use Rattle.tm_legal.specs.Tame.{Formed}
-use Rattle.tm_world_script.specs.Script.{FaultedRun, NeverStuck}
-use Rattle.tm_world_script.specs.Accepted.{AreAccepted}
+use Rattle.tm_world_script.specs.Script.{actions_at, FaultedRun, NeverStuck}
+use Rattle.tm_world_script.specs.Accepted.{same_kind, AreAccepted}
 
 -- ---- no lines
 
@@ -40,6 +40,13 @@ AreSmall lines = All (λ line. number_of line.action < 2 ^ 64) lines
 -- The numbers of accepted lines have.
 abbrev pub AcceptedAreSmall : Cases → Type 0
 AcceptedAreSmall cases = (lines : List FaultLine) → AreAccepted cases lines → AreSmall lines
+
+-- ---- the lines of one step
+
+-- Of what an accepted script does to one step, no two actions are of one kind.
+abbrev pub ActionsDiffer : Program → Type 0
+ActionsDiffer p = (lines : List FaultLine) → AreAccepted p.cases lines → (h q pc : ℕ)
+    → AllPairs (λ a b. IsFalse (same_kind a b)) (actions_at p lines h q pc)
 
 -- ---- scripts of any lines
 

@@ -1,5 +1,5 @@
 // Laws over the definitions, each as the contract of a function that does nothing.
-ghost use Rattle.tm_world_script.specs.Laws.{NoLinesArePlain, AcceptedAreSmall, CourseKeeps, SoundKeeps, SoundPlainRuns};
+ghost use Rattle.tm_world_script.specs.Laws.{ActionsDiffer, NoLinesArePlain, AcceptedAreSmall, CourseKeeps, SoundKeeps, SoundPlainRuns};
 
 use tm_plan_cases::{Cases, Program};
 
@@ -15,6 +15,14 @@ pub fn accepted_lines(cases: &Cases)
     ensures { AcceptedAreSmall cases.now }
 {
     let _ = cases;
+}
+
+/// An accepted script does at most one action of each kind to a step, so that the first number of a kind is the only
+/// one.
+pub fn actions_differ(program: &Program)
+    ensures { ActionsDiffer program.now }
+{
+    let _ = program;
 }
 
 /// Whatever a script changes in streams, each run is a half run, so that verdicts on it are exact; and no hart gets

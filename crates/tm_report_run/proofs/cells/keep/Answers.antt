@@ -9,4 +9,5 @@ returns-in-Some c = λ e h l m.
     let harts = c.requires.shaped.harts in
     let most : c.args.cases.now.harts ≤ 16 = omega arith in
     let wide : w.width ≡ 8 = omega arith in
-    kept _ _ c.args.table.now c.args.access w.addr w.width c.in-Some.cell w.value w.is wide c.requires.count most d g few small at is e h l m
+    kept _ _ c.args.table.now c.args.access w.addr w.width c.in-Some.cell w.value w.is wide c.requires.count most d g
+    few small at is e h l m

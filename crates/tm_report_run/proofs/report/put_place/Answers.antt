@@ -1,4 +1,4 @@
-use Rattle.std.proofs.Common.{◌-◌, ◌+◌, ◌<◌, length, arith}
+use Rattle.std.proofs.Common.{◌-◌, ◌<◌, length, arith}
 use Rattle.tm_plan_cases.specs.Collected.{owned}
 use Rattle.tm_report_run.proofs.Owned.{owned-short}
 use Rattle.tm_report_run.proofs.report.put_place.Goals as goal
