@@ -1,5 +1,6 @@
--- A line ends: where the first seat was told what all others knew, the value is at home, and its history bears them out.
-use Rattle.std.proofs.Common.{◌≡◌, ◌≢◌, ◌⊎◌, inl, inr, ⊎_elim, ℕ, zero, suc, ◌+◌, ◌<◌, ◌≤◌, Bool, true, false, List, [], ◌∷◌, ◌++◌}
+-- A line ends: where the first seat was told what all others knew, the value is at home, and its history bears them
+-- out.
+use Rattle.std.proofs.Common.{◌≡◌, ◌≢◌, inl, inr, ⊎_elim, ℕ, ◌+◌, ◌<◌, ◌≤◌, true, false, List, [], ◌∷◌, ◌++◌}
 use Rattle.std.proofs.Common.{length, refl, sym, ap, ◌∙◌, subst, arith, Option, Some, None, slice_get}
 use Rattle.std.proofs.lemmas.Bool.{false≢true}
 use Rattle.std.specs.List.{remove, HoldsAt, AllWithin}
@@ -18,7 +19,7 @@ use Rattle.tm_turn.specs.History.{made_by, HasNoneFrom}
 use Rattle.tm_turn.specs.Views.{facts_of, with_facts}
 use Rattle.tm_turn.specs.Rule.{BearsOut, KnowsAll, IsSlot, IsQueued}
 use Rattle.tm_turn.specs.Seats.{LineId, SeatState, seat_state, facts_of_seat, AreOutside, AreAllOutside, ToldFrom}
-use Rattle.tm_turn.specs.Seats.{BearsOutAll, IsSeat, IsFirstOut}
+use Rattle.tm_turn.specs.Seats.{AreNew, BearsOutAll, IsSeat, IsFirstOut}
 use Rattle.tm_turn.proofs.Places.{one_value, positive, within, got_last, got_before, got_within}
 use Rattle.tm_turn.proofs.Places.{in_bounds, got_index, was_there, still_there}
 
@@ -41,14 +42,14 @@ module _ {T E F : Type 0} (maker : E → ℕ) (history : T → List E) (fixed_of
       let u : W = o.1 in
       let inside_list = within s.views j u o.2 in dite (ℕ_discrete j id)
       (λ (z : j ≡ id).
-        let one : v ≡ u = some-injective v u (sym at ∙ (ap (get_elem? s.views) (sym z) ∙ o.2)) in
-        absurd (false≢true (sym out ∙ (ap (λ (y : W). y.inside) one ∙ o.3))))
+      let one : v ≡ u = some-injective v u (sym at ∙ (ap (get_elem? s.views) (sym z) ∙ o.2)) in
+      absurd (false≢true (sym out ∙ (ap (λ (y : W). y.inside) one ∙ o.3))))
       (λ (z : j ≢ id).
-        let many = g.1 in
-        let zero_id = g.0 in
-        let c = all j (positive j (λ e. z (e ∙ sym zero_id))) (omega arith) in
-        let asleep = (k.gone c.0 c.1 c.2).1 u (ap (get_elem? s.views) c.3 ∙ o.2) in
-        absurd (false≢true (sym asleep ∙ ((r.each j u o.2).turn o.3).0)))
+      let many = g.1 in
+      let zero_id = g.0 in
+      let c = all j (positive j (λ e. z (e ∙ sym zero_id))) (omega arith) in
+      let asleep = (k.gone c.0 c.1 c.2).1 u (ap (get_elem? s.views) c.3 ∙ o.2) in
+      absurd (false≢true (sym asleep ∙ ((r.each j u o.2).turn o.3).0)))
   ends_home s r id v at out some_given all (some y) o = (o.0, ap some o.1, o.2, o.3)
 
   -- what is known of the value at the end
@@ -73,10 +74,10 @@ module _ {T E F : Type 0} (maker : E → ℕ) (history : T → List E) (fixed_of
         record {
           fixed_is = h.2;
           first = subst (λ (l : List E). BearsOut maker l (facts_of v)) log_is
-            (k.begins, ap (λ (z : ℕ). made_by maker z r.log) (k.place live).0 ∙ k.own live, k.counted);
+              (k.begins, ap (λ (z : ℕ). made_by maker z r.log) (k.place live).0 ∙ k.own live, k.counted);
           others = λ i y e. subst (λ (l : List E). BearsOut maker l y) log_is (k.gone i y e).2;
           strangers = subst (λ (l : List E). HasNoneFrom maker v.given l) log_is
-            (λ n h. r.strangers n (subst (λ (z : ℕ). z ≤ n) (k.giver some_given).1 h));
+              (λ n h. r.strangers n (subst (λ (z : ℕ). z ≤ n) (k.giver some_given).1 h));
         },
       )
 
@@ -84,20 +85,35 @@ module _ {E F : Type 0} where
   -- seats in the order of their numbers are all seats of a line
   pub in_order : (line : LineId F) (seats : List (SeatState E F)) → length seats ≡ line.seats
       → ((k : ℕ) (s : SeatState E F) → slice_get seats k ≡ Some s
-        → (s.line ≡ line) × (s.number ≡ k) × (s.inside ≡ false))
+      → (s.line ≡ line) × (s.number ≡ k) × (s.inside ≡ false))
       → AreAllOutside line seats
   in_order line seats long each = record {
     outside = λ k s e. let a = each k s e in (a.0, a.2);
     all = λ n h. let s = got_within seats n (omega arith) in (n, s.0, s.1, (each n s.0 s.1).1);
   }
 
+  -- the seats of a new line are all its seats, once work was done with each that kept its line and its number, and
+  -- left it outside
+  pub worked_through : (line : LineId F) (old new : List (SeatState E F)) → length old ≡ line.seats
+      → length new ≡ length old → AreNew line 0 old
+      → ((k : ℕ) (s t : SeatState E F) → slice_get old k ≡ Some s → slice_get new k ≡ Some t
+      → (t.line ≡ line) × (t.number ≡ s.number) × (t.inside ≡ false))
+      → AreAllOutside line new
+  worked_through line old new count same are each = in_order line new (same ∙ count) (λ k t e.
+      let inside = in_bounds new k t e in
+      let s = got_within old k (omega arith) in
+      let d = each k s.0 t s.1 e in
+      let is = ap (λ (x : SeatState E F). x.number) (are k s.0 s.1) in
+      let still = d.1 in
+      (d.0, omega arith, d.2))
+
   -- what a search for the first seat answers
   abbrev pub IsSearched : (seats : List (SeatState E F)) → Option ℕ → Type 0
   IsSearched seats place = MatchOption place
       (AllWithin (λ s. s.number ≢ 0) seats 0 (length seats))
       (λ i. (i < length seats)
-        × HoldsAt (λ s. s.number ≡ 0) seats i
-        × AllWithin (λ s. s.number ≢ 0) seats 0 i)
+      × HoldsAt (λ s. s.number ≡ 0) seats i
+      × AllWithin (λ s. s.number ≢ 0) seats 0 i)
 
   -- it finds the first seat among all
   pub finds_first : (line : LineId F) (seats : List (SeatState E F)) (place : Option ℕ) → AreAllOutside line seats
@@ -134,12 +150,12 @@ module _ {E F : Type 0} where
       (λ z. (
         length v.joined,
         ap (λ l. get_elem? l (length v.joined)) e
-        ∙ (at_last v.joined (facts_of_seat s) (length v.joined) refl
-        ∙ ap (λ (y : SeatState E F). some (facts_of_seat y)) (sym (here k t z got))),
+            ∙ (at_last v.joined (facts_of_seat s) (length v.joined) refl
+            ∙ ap (λ (y : SeatState E F). some (facts_of_seat y)) (sym (here k t z got))),
       ))
       (λ z.
-        let o = old k t (omega arith) got in
-        (o.0, ap (λ l. get_elem? l o.0) e ∙ at_longer v.joined (facts_of_seat s ∷ []) o.0 (facts_of_seat t) o.1))
+      let o = old k t (omega arith) got in
+      (o.0, ap (λ l. get_elem? l o.0) e ∙ at_longer v.joined (facts_of_seat s ∷ []) o.0 (facts_of_seat t) o.1))
 
   -- the first seat is taken out of all
   pub first_out : {T : Type 0} (maker : E → ℕ) (line : LineId F) (all rest : List (SeatState E F)) (z : TableId)
@@ -151,8 +167,7 @@ module _ {E F : Type 0} where
       let mine = are.outside place r at in
       let l = ap (λ (s : SeatState E F). s.line) seen ∙ mine.0 in
       let number_is = sym sits.number_is ∙ (ap (λ (s : SeatState E F). s.number) seen ∙ zeroth) in
-      let first = sits.first number_is in
-      (
+      let first = sits.first number_is in (
         ap (λ (i : LineId F). i.table) l,
         record {
           live = sits.live;
@@ -160,21 +175,21 @@ module _ {E F : Type 0} where
           given = first.0 ∙ ap (λ (i : LineId F). i.seats) l;
           joined = first.1;
           others = λ k s e.
-            let o = was_there all place k s (ap (λ l. slice_get l k) (sym is) ∙ e) in are.outside o.0 s o.1;
+              let o = was_there all place k s (ap (λ l. slice_get l k) (sym is) ∙ e) in are.outside o.0 s o.1;
           rest_has = λ n pos low.
-            let a = are.all n low in
-            let ne : a.0 ≢ place = λ e.
+              let a = are.all n low in
+              let ne : a.0 ≢ place = λ e.
               let same : a.1 ≡ r = one_value (sym a.2 ∙ (ap (slice_get all) e ∙ at)) in
               let zero_too = ap (λ (s : SeatState E F). s.number) same in
               let is_n = a.3 in
               omega arith in
-            let o = still_there all place a.0 a.1 ne a.2 in
-            (o.0, a.1, ap (λ l. slice_get l o.0) is ∙ o.1, a.3);
+              let o = still_there all place a.0 a.1 ne a.2 in
+              (o.0, a.1, ap (λ l. slice_get l o.0) is ∙ o.1, a.3);
           each = λ k s got. dite (ℕ_discrete k place)
-            (λ e.
+              (λ e.
               let same : s ≡ r = one_value (sym got ∙ (ap (slice_get all) e ∙ at)) in
               inl (ap facts_of_seat (same ∙ sym seen)))
-            (λ ne.
+              (λ ne.
               let o = still_there all place k s ne got in
               inr (o.0, ap (λ l. slice_get l o.0) is ∙ o.1));
         },
@@ -198,5 +213,5 @@ module _ {E F : Type 0} where
   BearsOutAll-told maker log line all rest v w out same first others told k s got = ⊎_elim
       (λ (e : facts_of_seat s ≡ facts_of v). subst (λ (f : Facts E). BearsOut maker log f) (same ∙ sym e) first)
       (λ (o : (i : ℕ) × (slice_get rest i ≡ Some s)).
-        let q = told o.0 s (omega arith) o.1 in others q.0 (facts_of_seat s) q.1)
+      let q = told o.0 s (omega arith) o.1 in others q.0 (facts_of_seat s) q.1)
       (out.each k s got)

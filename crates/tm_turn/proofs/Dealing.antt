@@ -1,7 +1,7 @@
 -- The rule holds when a line starts, and while its seats are split from the first.
-use Rattle.std.proofs.Common.{◌≡◌, ◌≢◌, ℕ, zero, suc, ◌+◌, ◌^◌, ◌<◌, ◌≤◌, true, false, List, [], ◌∷◌, ◌++◌, length}
+use Rattle.std.proofs.Common.{◌≡◌, ℕ, zero, suc, ◌+◌, ◌^◌, ◌<◌, true, List, [], ◌∷◌, ◌++◌, length}
 use Rattle.std.proofs.Common.{set, refl, sym, ap, ◌∙◌, subst, ⊎_elim, arith, le_refl, length-set, length-append}
-use Rattle.std.proofs.Common.{Option, Some, None, slice_get}
+use Rattle.std.proofs.Common.{Option, Some, None}
 use Rattle.std.proofs.lemmas.Bool.{false≢true}
 use mathlib.Core.Option.{some, some-injective, some-ne-none}
 use lib.ListN.{get_elem?}
@@ -43,17 +43,17 @@ module _ {T E F : Type 0} (maker : E → ℕ) (history : T → List E) (fixed_of
         small = omega arith;
         strangers = λ k h. refl;
         each = λ j v e.
-          let o = only f seats j v e in
-          subst (λ (y : ℕ × View E F). Knows maker f 0 0 [] (first ∷ []) y.0 y.1) (λ i. (sym o.0 i, o.1 i)) record {
-            place = λ _. (refl, refl);
-            waits = λ t e. absurd (none_some e);
-            turn = λ e. absurd (false≢true e);
-            giver = λ _. (refl, refl);
-            begins = ([], refl);
-            own = λ _. refl;
-            counted = omega arith;
-            gone = λ i n e. absurd (some-ne-none n (sym e));
-          };
+            let o = only f seats j v e in
+            subst (λ (y : ℕ × View E F). Knows maker f 0 0 [] (first ∷ []) y.0 y.1) (λ i. (sym o.0 i, o.1 i)) record {
+              place = λ _. (refl, refl);
+              waits = λ t e. absurd (none_some e);
+              turn = λ e. absurd (false≢true e);
+              giver = λ _. (refl, refl);
+              begins = ([], refl);
+              own = λ _. refl;
+              counted = omega arith;
+              gone = λ i n e. absurd (some-ne-none n (sym e));
+            };
         apart = λ i j v w t ei ej ev ew. (only f seats i v ei).0 ∙ sym (only f seats j w ej).0;
       }
 
@@ -89,7 +89,7 @@ module _ {T E F : Type 0} (maker : E → ℕ) (history : T → List E) (fixed_of
       let same = length-set s.views id left in
       let more : length ws ≡ length s.views + 1 = omega (arith, length-append mid (right ∷ [])) in
       let fade : Fading s.views ws = λ n u h e.
-        Fading-set s.views id v left at (λ z. z) n u h (before_last mid right u n (omega arith) e) in
+      Fading-set s.views id v left at (λ z. z) n u h (before_last mid right u n (omega arith) e) in
       let out = r.out in
       let sum = tickets_of-set s.views id v left at in
       let sum' = tickets_of-snoc mid right in
@@ -127,14 +127,14 @@ module _ {T E F : Type 0} (maker : E → ℕ) (history : T → List E) (fixed_of
         small = r.small;
         strangers = λ n h. r.strangers n (omega arith);
         each = all_snoc (Knows maker fixed r.drawn r.served r.log ws) mid right rightKnows
-          (all_set (Knows maker fixed r.drawn r.served r.log ws) s.views id left leftKnows
+            (all_set (Knows maker fixed r.drawn r.served r.log ws) s.views id left leftKnows
             (λ j u ne e. still maker s.views id r.log r.log steady fixed r.drawn r.served r.drawn r.served ws j u
-              (le_refl r.drawn) (omega arith) fade ne (λ t et le. le) (λ z. (refl, refl))
-              (λ h. absurd (ne (((r.each j u e).giver h).0 ∙ sym g.0))) (r.each j u e)));
+            (le_refl r.drawn) (omega arith) fade ne (λ t et le. le) (λ z. (refl, refl))
+            (λ h. absurd (ne (((r.each j u e).giver h).0 ∙ sym g.0))) (r.each j u e)));
         apart = λ x y p q t ex ey ep eq.
-          let a = ticket_before s.views id v left right at refl refl x p t ex ep in
-          let b = ticket_before s.views id v left right at refl refl y q t ey eq in
-          r.apart x y a.0 b.0 t a.1 b.1 a.2 b.2;
+            let a = ticket_before s.views id v left right at refl refl x p t ex ep in
+            let b = ticket_before s.views id v left right at refl refl y q t ey eq in
+            r.apart x y a.0 b.0 t a.1 b.1 a.2 b.2;
       }
 
   pub deals : (id : ℕ) (me : M) (f : Option F) (seats given : ℕ) → me ≡ (fresh_view f 0 seats given, [])
@@ -156,5 +156,5 @@ module _ {E F : Type 0} where
   AreNew-push line n xs y at is old new k s e = ⊎_elim
       (old k s)
       (λ (t : (k ≡ length xs) × (y ≡ s)).
-        sym t.1 ∙ (new ∙ ap (new_seat line) (is ∙ ap (λ (z : ℕ). n + z) (sym t.0))))
+      sym t.1 ∙ (new ∙ ap (new_seat line) (is ∙ ap (λ (z : ℕ). n + z) (sym t.0))))
       (last_cases xs y s k e)

@@ -1,6 +1,6 @@
 -- Entries of histories, by who made them, and a history with one entry more.
-use Rattle.std.proofs.Common.{◌≡◌, ◌≢◌, ℕ, ◌+◌, List, [], ◌∷◌, ◌++◌, length, drop, Bool, cond, eq-eqb, ne_eqb}
-use Rattle.std.proofs.Common.{refl, sym, ap, ◌∙◌, subst, inl, inr, arith, length-append, append-nil}
+use Rattle.std.proofs.Common.{◌≡◌, ◌≢◌, ℕ, List, [], ◌∷◌, ◌++◌, length, drop, Bool, cond, eq-eqb, ne_eqb}
+use Rattle.std.proofs.Common.{refl, sym, ap, ◌∙◌, subst, inl, inr, append-nil}
 use mathlib.Core.Logic.{dite}
 use native.Mathlib.Decide.{ℕ_discrete}
 use Rattle.tm_turn.specs.History.{made_by, AddsAtMostOne}
@@ -14,10 +14,10 @@ module _ {E : Type 0} (maker : E → ℕ) where
       let left = made_by maker k xs in
       let right = made_by maker k ys in
       dite (ℕ_discrete (maker x) k)
-          (λ e. subst (λ (b : Bool). cond b (x ∷ all) all ≡ cond b (x ∷ left) left ++ right) (sym (eq-eqb (maker x) k e))
-            (ap (λ l. x ∷ l) (made_by-append k xs ys)))
-          (λ n. subst (λ (b : Bool). cond b (x ∷ all) all ≡ cond b (x ∷ left) left ++ right) (sym (ne_eqb (maker x) k n))
-            (made_by-append k xs ys))
+      (λ e. subst (λ (b : Bool). cond b (x ∷ all) all ≡ cond b (x ∷ left) left ++ right)
+      (sym (eq-eqb (maker x) k e)) (ap (λ l. x ∷ l) (made_by-append k xs ys)))
+      (λ n. subst (λ (b : Bool). cond b (x ∷ all) all ≡ cond b (x ∷ left) left ++ right)
+      (sym (ne_eqb (maker x) k n)) (made_by-append k xs ys))
 
   pub made_by-own : (k : ℕ) (e : E) → maker e ≡ k → made_by maker k (e ∷ []) ≡ e ∷ []
   made_by-own k e is = subst (λ (b : Bool). cond b (e ∷ []) [] ≡ e ∷ []) (sym (eq-eqb (maker e) k is)) refl
@@ -25,34 +25,9 @@ module _ {E : Type 0} (maker : E → ℕ) where
   pub made_by-other : (k : ℕ) (e : E) → maker e ≢ k → made_by maker k (e ∷ []) ≡ []
   made_by-other k e other = subst (λ (b : Bool). cond b (e ∷ []) [] ≡ []) (sym (ne_eqb (maker e) k other)) refl
 
-  -- the one entry more, where the lengths differ
-  pub one_more : (k : ℕ) (seen log : List E) → AddsAtMostOne maker k seen log → length log ≢ length seen
-      → (e : E)
-      × (drop (length seen) log ≡ e ∷ [])
-      × (maker e ≡ k)
-      × (log ≡ seen ++ drop (length seen) log)
-      × (length log ≡ length seen + 1)
-  one_more k seen log (inl same) other = absurd (other (ap length same))
-  one_more k seen log (inr more) other =
-      let news : drop (length seen) log ≡ more.0 ∷ [] =
-        ap (drop (length seen)) more.1 ∙ after_seen seen (more.0 ∷ []) in
-      (
-        more.0,
-        news,
-        more.2,
-        more.1 ∙ ap (λ l. seen ++ l) (sym news),
-        ap length more.1 ∙ length-append seen (more.0 ∷ []),
-      )
-
   -- nothing more, where they don't
   nothing_new : (seen log : List E) → log ≡ seen → drop (length seen) log ≡ []
   nothing_new seen log same = ap (drop (length seen)) (same ∙ sym (append-nil seen)) ∙ after_seen seen []
-
-  pub no_more : (k : ℕ) (seen log : List E) → AddsAtMostOne maker k seen log → length log ≡ length seen
-      → (log ≡ seen) × (drop (length seen) log ≡ [])
-  no_more k seen log (inl same) long = (same, nothing_new seen log same)
-  no_more k seen log (inr more) long =
-      let e = ap length more.1 in absurd (omega (arith, length-append seen (more.0 ∷ [])))
 
   -- what was seen, and then what is new
   pub seen_and_news : (k : ℕ) (seen log : List E) → AddsAtMostOne maker k seen log
@@ -69,5 +44,5 @@ module _ {E : Type 0} (maker : E → ℕ) where
       let none = nothing_new seen log same in ap (made_by maker k) none ∙ sym none
   made_by-news k seen log (inr more) =
       let one : drop (length seen) log ≡ more.0 ∷ [] =
-        ap (drop (length seen)) more.1 ∙ after_seen seen (more.0 ∷ []) in
+      ap (drop (length seen)) more.1 ∙ after_seen seen (more.0 ∷ []) in
       ap (made_by maker k) one ∙ (made_by-own k more.0 more.2 ∙ sym one)

@@ -1,5 +1,5 @@
 -- The rule holds when one seat was joined into another.
-use Rattle.std.proofs.Common.{◌≡◌, ◌≢◌, ◌⊎◌, ℕ, ◌+◌, ◌<◌, ◌≤◌, true, false, List, [], ◌∷◌, length, set}
+use Rattle.std.proofs.Common.{◌≡◌, ℕ, ◌<◌, true, false, List, length, set}
 use Rattle.std.proofs.Common.{refl, sym, ap, ◌∙◌, subst, ⊎_elim, arith, le_refl, length-set, Option, Some, None}
 use Rattle.std.proofs.lemmas.Bool.{false≢true}
 use mathlib.Core.Option.{some, some-injective, some-ne-none}
@@ -29,7 +29,7 @@ module _ {T E F : Type 0} (maker : E → ℕ) (history : T → List E) (fixed_of
   ticket_before vs id other v both at same j u t e et =
       let P = λ (j : ℕ) (u : W). u.ticket ≡ Some t → (u' : W) × (get_elem? vs j ≡ some u') × (u'.ticket ≡ Some t) in
       all_set P (set vs id both) other spent_view (λ z. absurd (none_some z)) (λ j u ne e.
-        all_set P vs id both (λ z. (v, at, sym same ∙ z)) (λ j u ne e z. (u, e, z)) j u e) j u e et
+      all_set P vs id both (λ z. (v, at, sym same ∙ z)) (λ j u ne e z. (u, e, z)) j u e) j u e et
 
   -- what the rule says of a spent seat
   spent_knows : (drawn served : ℕ) (log : List E) (views : List W) (j : ℕ)
@@ -60,9 +60,9 @@ module _ {T E F : Type 0} (maker : E → ℕ) (history : T → List E) (fixed_of
       let same' = length-set mid other gone_one in
       let away : w.inside ≡ false = outside maker history fixed_of fixed s r other w here free in
       let fade : Fading s.views ws = λ n u h e.
-        let f = Fading-set mid other w gone_one there (λ _. refl) n u (omega arith) e in
-        let f' = Fading-set s.views id v both at (λ z. z) n f.0 h f.1 in
-        (f'.0, f'.1, λ z. f.2 (f'.2 z)) in
+      let f = Fading-set mid other w gone_one there (λ _. refl) n u (omega arith) e in
+      let f' = Fading-set s.views id v both at (λ z. z) n f.0 h f.1 in
+      (f'.0, f'.1, λ z. f.2 (f'.2 z)) in
       let out = r.out in
       let sum = tickets_of-set s.views id v both at in
       let sum' = tickets_of-set mid other w gone_one there in
@@ -71,7 +71,7 @@ module _ {T E F : Type 0} (maker : E → ℕ) (history : T → List E) (fixed_of
       let inside_list = within s.views other w here in
       let where_is : w.number ≡ other = (kw.place live).0 in
       let spent_there : get_elem? ws w.number ≡ some gone_one =
-        ap (get_elem? ws) where_is ∙ set_here mid other gone_one (omega arith) in
+      ap (get_elem? ws) where_is ∙ set_here mid other gone_one (omega arith) in
       let last : (w.number < length ws) × IsGone ws w.number × BearsOut maker r.log (facts_of w) = (
         omega arith,
         (λ u e'. ap (λ (y : W). y.live) (sym (some-injective gone_one u (sym spent_there ∙ e')))),
@@ -86,10 +86,10 @@ module _ {T E F : Type 0} (maker : E → ℕ) (history : T → List E) (fixed_of
         own = k.own;
         counted = k.counted;
         gone = λ i f e. ⊎_elim
-          (λ z. gone_still maker s.views id r.log r.log steady ws (omega arith) fade f (k.gone i f z))
-          (λ (z : (i ≡ length v.joined) × (facts_of w ≡ f)).
+            (λ z. gone_still maker s.views id r.log r.log steady ws (omega arith) fade f (k.gone i f z))
+            (λ (z : (i ≡ length v.joined) × (facts_of w ≡ f)).
             subst (λ (y : Facts E). (y.number < length ws) × IsGone ws y.number × BearsOut maker r.log y) z.1 last)
-          (snoc_cases v.joined (facts_of w) f i e);
+            (snoc_cases v.joined (facts_of w) f i e);
       } in record {
         drawn = r.drawn;
         served = r.served;
@@ -104,13 +104,13 @@ module _ {T E F : Type 0} (maker : E → ℕ) (history : T → List E) (fixed_of
         small = r.small;
         strangers = λ n h. r.strangers n (omega arith);
         each = all_set (Knows maker fixed r.drawn r.served r.log ws) mid other gone_one
-          (spent_knows r.drawn r.served r.log ws other)
-          (λ j u ne e. all_set (Knows maker fixed r.drawn r.served r.log ws) s.views id both bothKnow
+            (spent_knows r.drawn r.served r.log ws other)
+            (λ j u ne e. all_set (Knows maker fixed r.drawn r.served r.log ws) s.views id both bothKnow
             (λ j u ne e. still maker s.views id r.log r.log steady fixed r.drawn r.served r.drawn r.served ws j u
-              (le_refl r.drawn) (omega arith) fade ne (λ t et le. le) (λ z. (refl, refl)) (λ _. sym (same' ∙ same))
-              (r.each j u e)) j u e);
+            (le_refl r.drawn) (omega arith) fade ne (λ t et le. le) (λ z. (refl, refl)) (λ _. sym (same' ∙ same))
+            (r.each j u e)) j u e);
         apart = λ x y p q t ex ey ep eq.
-          let a = ticket_before s.views id other v both at refl x p t ex ep in
-          let b = ticket_before s.views id other v both at refl y q t ey eq in
-          r.apart x y a.0 b.0 t a.1 b.1 a.2 b.2;
+            let a = ticket_before s.views id other v both at refl x p t ex ep in
+            let b = ticket_before s.views id other v both at refl y q t ey eq in
+            r.apart x y a.0 b.0 t a.1 b.1 a.2 b.2;
       }

@@ -1,5 +1,5 @@
 -- A step of one seat keeps the rule, where it keeps what the rule says of the seat and of the slot.
-use Rattle.std.proofs.Common.{◌≡◌, ◌≢◌, ◌⊎◌, ℕ, ◌+◌, ◌%◌, ◌^◌, ◌<◌, ◌≤◌, true, false, List, [], ◌∷◌, ◌++◌, length}
+use Rattle.std.proofs.Common.{◌≡◌, ◌≢◌, ℕ, ◌+◌, ◌%◌, ◌^◌, ◌<◌, ◌≤◌, true, false, List, [], ◌∷◌, ◌++◌, length}
 use Rattle.std.proofs.Common.{set, refl, sym, ap, ◌∙◌, ⊎_elim, arith, length-set, Option, Some, None}
 use Rattle.std.proofs.lemmas.Bool.{false≢true}
 use mathlib.Core.Option.{some, none, some-injective}
@@ -61,21 +61,21 @@ module _ {T E F : Type 0} (maker : E → ℕ) (history : T → List E) (fixed_of
         small = small;
         strangers = λ k h. grows.others k (λ e. absurd (omega arith)) ∙ r.strangers k (omega arith);
         each = all_set (Knows maker fixed d' s' log' (set s.views id w)) s.views id w mine (λ j u ne e.
-          let o = others j u ne e in
-          still maker s.views id r.log log' grows fixed r.drawn r.served d' s' (set s.views id w) j u more
+            let o = others j u ne e in
+            still maker s.views id r.log log' grows fixed r.drawn r.served d' s' (set s.views id w) j u more
             (omega arith) (Fading-set s.views id v w at dies) ne o.0 o.1 (λ _. sym same) (r.each j u e));
         apart = λ x y p q t ex ey ep eq. ⊎_elim
-          (λ (hx : (x ≡ id) × (w ≡ p)). ⊎_elim
+            (λ (hx : (x ≡ id) × (w ≡ p)). ⊎_elim
             (λ (hy : (y ≡ id) × (w ≡ q)). hx.0 ∙ sym hy.0)
             (λ (hy : (y ≢ id) × (get_elem? s.views y ≡ some q)).
-              absurd ((others y q hy.0 hy.1).2 t eq (ap (λ (z : W). z.ticket) hx.1 ∙ ep)))
+            absurd ((others y q hy.0 hy.1).2 t eq (ap (λ (z : W). z.ticket) hx.1 ∙ ep)))
             (at_set s.views id y w q ey))
-          (λ (hx : (x ≢ id) × (get_elem? s.views x ≡ some p)). ⊎_elim
+            (λ (hx : (x ≢ id) × (get_elem? s.views x ≡ some p)). ⊎_elim
             (λ (hy : (y ≡ id) × (w ≡ q)).
-              absurd ((others x p hx.0 hx.1).2 t ep (ap (λ (z : W). z.ticket) hy.1 ∙ eq)))
+            absurd ((others x p hx.0 hx.1).2 t ep (ap (λ (z : W). z.ticket) hy.1 ∙ eq)))
             (λ (hy : (y ≢ id) × (get_elem? s.views y ≡ some q)). r.apart x y p q t hx.1 hy.1 ep eq)
             (at_set s.views id y w q ey))
-          (at_set s.views id x w p ex);
+            (at_set s.views id x w p ex);
       }
 
   -- two seats don't have one ticket
@@ -106,8 +106,8 @@ module _ {T E F : Type 0} (maker : E → ℕ) (history : T → List E) (fixed_of
       → IsSlot maker history fixed_of fixed log vs h → IsSlot maker history fixed_of fixed log (set vs id w) h
   IsSlot-set log vs id v w none at same o = let j = o.0 in dite (ℕ_discrete j id)
       (λ (z : j ≡ id).
-        let one : v ≡ o.1 = some-injective v o.1 (sym at ∙ (ap (get_elem? vs) (sym z) ∙ o.2)) in
-        (id, w, set_here vs id w (within vs id v at), same ∙ (ap (λ (y : W). y.inside) one ∙ o.3)))
+      let one : v ≡ o.1 = some-injective v o.1 (sym at ∙ (ap (get_elem? vs) (sym z) ∙ o.2)) in
+      (id, w, set_here vs id w (within vs id v at), same ∙ (ap (λ (y : W). y.inside) one ∙ o.3)))
       (λ z. (j, o.1, set_else vs id j w z ∙ o.2, o.3))
   IsSlot-set log vs id v w (some y) at same o = (
     o.0,

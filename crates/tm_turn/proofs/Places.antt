@@ -1,6 +1,6 @@
 -- Elements of lists by their places.
-use Rattle.std.proofs.Common.{◌≡◌, ◌≢◌, ◌⊎◌, ℕ, zero, suc, ◌+◌, ◌<◌, ◌≤◌, List, [], ◌∷◌, ◌++◌, length, drop, get_or}
-use Rattle.std.proofs.Common.{Bool, true, false, refl, sym, ap, inl, inr, ⊎_elim, arith, Option, Some, None, slice_get}
+use Rattle.std.proofs.Common.{◌≡◌, ◌≢◌, ◌⊎◌, ℕ, zero, suc, ◌<◌, ◌≤◌, List, [], ◌∷◌, ◌++◌, length, take, drop, get_or}
+use Rattle.std.proofs.Common.{Bool, true, false, refl, sym, ap, ◌∙◌, inl, inr, ⊎_elim, arith, Some, None, slice_get}
 use Rattle.std.specs.List.{remove}
 use mathlib.Core.Option.{some, some-injective, some-ne-none}
 use lib.ListN.{get_elem?}
@@ -103,3 +103,12 @@ module _ {A : Type 0} where
   pub after_seen : (seen rest : List A) → drop (length seen) (seen ++ rest) ≡ rest
   after_seen [] rest = refl
   after_seen (x ∷ xs) rest = after_seen xs rest
+
+  take_front : (l m : List A) → take (length l) (l ++ m) ≡ l
+  take_front [] m = refl
+  take_front (x ∷ xs) m = ap (λ (l : List A). x ∷ l) (take_front xs m)
+
+  -- a list of n elements that was lent and came back
+  pub written_back : (n : ℕ) (new old : List A) → n ≡ length new → take n (new ++ drop (length new) old) ≡ new
+  written_back n new old is =
+      ap (λ (k : ℕ). take k (new ++ drop (length new) old)) is ∙ take_front new (drop (length new) old)

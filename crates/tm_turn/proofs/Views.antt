@@ -1,5 +1,5 @@
 -- What the seats know, when one of them has changed.
-use Rattle.std.proofs.Common.{◌≡◌, ◌≢◌, ◌⊎◌, ℕ, zero, suc, ◌+◌, ◌<◌, ◌≤◌, Bool, true, false, List, [], ◌∷◌, ◌++◌}
+use Rattle.std.proofs.Common.{◌≡◌, ◌≢◌, ℕ, zero, suc, ◌+◌, ◌<◌, ◌≤◌, Bool, true, false, List, [], ◌∷◌, ◌++◌}
 use Rattle.std.proofs.Common.{length, set, refl, sym, ap, ◌∙◌, subst, ⊎_elim, arith, length-set, length-append}
 use Rattle.std.proofs.Common.{append-nil, append_assoc, Option, Some, None}
 use mathlib.Core.Option.{some, some-injective, some-ne-none}
@@ -12,7 +12,7 @@ use Rattle.tm_turn.specs.declared.table.Facts.{Facts}
 use Rattle.tm_turn.specs.History.{made_by, BeginsWith}
 use Rattle.tm_turn.specs.Views.{ticket_count, tickets_of}
 use Rattle.tm_turn.specs.Rule.{BearsOut, IsGone, Knows}
-use Rattle.tm_turn.proofs.Places.{before_last, snoc_cases}
+use Rattle.tm_turn.proofs.Places.{snoc_cases}
 
 ticket_count-one : (o : Option ℕ) → ticket_count o ≤ 1
 ticket_count-one None = omega arith
@@ -28,7 +28,7 @@ module _ {E F : Type 0} where
   tickets_of-set [] i v w e = absurd (some-ne-none v (sym e))
   tickets_of-set (x ∷ xs) zero v w e =
       let h : ticket_count x.ticket ≡ ticket_count v.ticket =
-        ap (λ (z : View E F). ticket_count z.ticket) (some-injective x v e) in
+      ap (λ (z : View E F). ticket_count z.ticket) (some-injective x v e) in
       omega arith
   tickets_of-set (x ∷ xs) (suc i) v w e = let r = tickets_of-set xs i v w e in omega arith
 
@@ -64,12 +64,9 @@ module _ {E F : Type 0} where
       → (v.live ≡ false → w.live ≡ false) → Fading vs (set vs i w)
   Fading-set vs i v w at dies n u h e = ⊎_elim
       (λ (t : (n ≡ i) × (w ≡ u)).
-        (v, ap (get_elem? vs) t.0 ∙ at, λ z. ap (λ (y : View E F). y.live) (sym t.1) ∙ dies z))
+      (v, ap (get_elem? vs) t.0 ∙ at, λ z. ap (λ (y : View E F). y.live) (sym t.1) ∙ dies z))
       (λ (t : (n ≢ i) × (get_elem? vs n ≡ some u)). (u, t.1, λ z. z))
       (at_set vs i n w u e)
-
-  pub Fading-snoc : (vs : List (View E F)) (w : View E F) → Fading vs (vs ++ w ∷ [])
-  Fading-snoc vs w n u h e = (u, before_last vs w u n h e, λ z. z)
 
   IsGone-fading : (vs ws : List (View E F)) (n : ℕ) → n < length vs → Fading vs ws → IsGone vs n → IsGone ws n
   IsGone-fading vs ws n h fade gone u e = let f = fade n u h e in f.2 (gone f.0 f.1)
@@ -86,7 +83,7 @@ module _ {E F : Type 0} where
       record { more = []; is = sym (append-nil log); others = λ k ne. refl; asleep = λ _. refl }
 
   module _
-    (maker : E → ℕ) (vs : List (View E F)) (id : ℕ) (log log' : List E) (g : Grows maker vs id log log') where
+      (maker : E → ℕ) (vs : List (View E F)) (id : ℕ) (log log' : List E) (g : Grows maker vs id log log') where
     longer : length log ≤ length log'
     longer = let e = ap length g.is in omega (arith, length-append log g.more)
 
@@ -107,8 +104,8 @@ module _ {E F : Type 0} where
           (
             BeginsWith-grows f.seen t.0,
             dite (ℕ_discrete f.number id)
-              (λ z. ap (made_by maker f.number) (g.asleep (subst (IsGone vs) z h.1)) ∙ t.1)
-              (λ ne. g.others f.number ne ∙ t.1),
+                (λ z. ap (made_by maker f.number) (g.asleep (subst (IsGone vs) z h.1)) ∙ t.1)
+                (λ ne. g.others f.number ne ∙ t.1),
             omega arith,
           ),
         )
@@ -143,7 +140,7 @@ module _ {E F : Type 0} where
       → (v.live ≡ true → made_by maker id log' ≡ mine)
       → counted ≤ length log'
       → let w : View E F = record v { ticket = t; inside = i; seen = seen; mine = mine; counted = counted } in
-        Knows maker fixed d' s' log' (set vs id w) id w
+      Knows maker fixed d' s' log' (set vs id w) id w
   renewed maker fixed d s d' s' log log' vs id v t i seen mine counted grows at k waits turn begins own read =
       let w : View E F = record v { ticket = t; inside = i; seen = seen; mine = mine; counted = counted } in
       let same = length-set vs id w in record {

@@ -20,7 +20,8 @@ module _ {E F : Type 0} where
   abbrev pub IsGone : (views : List (View E F)) (place : ℕ) → Type 0
   IsGone views place = (u : View E F) → get_elem? views place ≡ some u → u.live ≡ false
 
-  -- What the rule says of the view v in the place j. Tickets below drawn were drawn, and the ticket served has its turn.
+  -- What the rule says of the view v in the place j. The tickets below drawn were drawn, and it is the turn of the
+  -- ticket served.
   pub record Knows
       (maker : E → ℕ) (fixed : F) (drawn served : ℕ) (history : List E) (views : List (View E F)) (j : ℕ)
       (v : View E F) : Type 0 where

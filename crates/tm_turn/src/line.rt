@@ -34,9 +34,9 @@ impl<T: Kept> Model for Line<T> {
     ghost Value = { LineId T.Fixed };
 
     ghost view = { λ l. record {
-        table = l.table.shared.table_id;
-        fixed = Some (T.fixed l.table.shared.key.value.value);
-        seats = l.table.shared.key.seats;
+      table = l.table.shared.table_id;
+      fixed = Some (T.fixed l.table.shared.key.value.value);
+      seats = l.table.shared.key.seats;
     } };
 
     ghost invariant = { λ l. (l.table.shared.table_id.words ≡ 3)
@@ -133,11 +133,12 @@ impl<T: Kept> Line<T> {
         requires fixed { Some (T.fixed value) ≡ self.now.fixed }
         requires history { AddsAtMostOne T.maker seat.old.number seat.old.seen (T.history value) }
         requires small { length (T.history value) < 2 ^ 64 }
-        ensures { seat.new ≡ record seat.old {
-            inside = false;
-            seen = T.history value;
-            mine = seat.old.mine ++ drop (length seat.old.seen) (T.history value);
+        ensures seat { seat.new ≡ record seat.old {
+          inside = false;
+          seen = T.history value;
+          mine = seat.old.mine ++ drop (length seat.old.seen) (T.history value);
         } }
+        ensures own { made_by T.maker seat.new.number seat.new.seen ≡ seat.new.mine }
     {
         let shared = &self.table.shared;
         write_down(shared, &mut seat.seat, seat.entries, &value);

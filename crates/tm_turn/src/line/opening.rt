@@ -13,7 +13,11 @@ use std::snapshot::Snapshot;
 use tm_base::NoMemory;
 
 /// The line, and its first seat at the table.
-pub fn lay<T: Kept>(alloc: Global, value: T, seats: u32) -> Result<(Line<T>, TableSeat<T>), NoMemory>
+pub fn lay<T: Kept>(
+    alloc: Global,
+    value: T,
+    seats: u32,
+) -> Result<(Line<T>, TableSeat<T>), NoMemory>
     requires some { 0 < seats }
     requires empty { T.history value ≡ [] }
     ensures line { IfOk result (λ r. (r.0.fixed ≡ Some (T.fixed value)) × (r.0.seats ≡ seats)) }

@@ -1,4 +1,4 @@
-use Rattle.std.proofs.Common.{rules, ◌≡◌, sym, ap, ◌∙◌}
+use Rattle.std.proofs.Common.{ap, ◌∙◌}
 use Rattle.tm_turn.specs.declared.table.View.{View}
 use Rattle.tm_turn.specs.Views.{facts_of}
 use Rattle.tm_turn.proofs.Closing.{KnowsAll-told, BearsOutAll-told}

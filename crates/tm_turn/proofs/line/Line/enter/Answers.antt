@@ -1,4 +1,4 @@
-use Rattle.std.proofs.Common.{rules, ◌≡◌, Some, ap, ◌∙◌}
+use Rattle.std.proofs.Common.{rules, Some, ap, ◌∙◌}
 use Rattle.tm_turn.specs.Seats.{SeatState}
 use Rattle.tm_turn.proofs.Turns.{draws}
 use Rattle.tm_turn.proofs.Recording.{has_slot}

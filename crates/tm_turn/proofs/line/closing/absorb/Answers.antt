@@ -1,4 +1,4 @@
-use Rattle.std.proofs.Common.{rules, ◌≡◌, ap, ◌∙◌}
+use Rattle.std.proofs.Common.{rules, ap, ◌∙◌}
 use Rattle.tm_turn.specs.Seats.{SeatState}
 use Rattle.tm_turn.proofs.Joining.{joins}
 use Rattle.tm_turn.proofs.line.closing.absorb.Goals as goal

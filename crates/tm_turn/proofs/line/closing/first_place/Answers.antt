@@ -13,9 +13,9 @@ unreachable-requires g c =
     let seats = c.args.seats.now in
     let some = subst (λ (n : ℕ). 0 < n) (ap (λ (l : L). l.seats) c.line.view_is) c.line.invariant.2 in
     let found = finds_first c.args.line.now seats c.position.result c.requires some
-      (IsFirst-from_position _ _ c.position.result (λ (s : S). s.number ≡ 0) (λ (s : S). s.number ≢ 0)
-        c.position.ensures.ran (YieldsList-from_slice seats cc) (λ x q k. search (rules, tests))
-        (λ x q k. search (rules, tests))) in
+    (IsFirst-from_position _ _ c.position.result (λ (s : S). s.number ≡ 0) (λ (s : S). s.number ≢ 0)
+    c.position.ensures.ran (YieldsList-from_slice seats cc) (λ x q k. search (rules, tests))
+    (λ x q k. search (rules, tests))) in
     none_some (sym c.in_default.is ∙ found.1)
 
 pub returns : goal.returns
@@ -25,8 +25,8 @@ returns g c =
     let seats = c.args.seats.now in
     let some = subst (λ (n : ℕ). 0 < n) (ap (λ (l : L). l.seats) c.line.view_is) c.line.invariant.2 in
     let found = finds_first c.args.line.now seats c.position.result c.requires some
-      (IsFirst-from_position _ _ c.position.result (λ (s : S). s.number ≡ 0) (λ (s : S). s.number ≢ 0)
-        c.position.ensures.ran (YieldsList-from_slice seats cc) (λ x q k. search (rules, tests))
-        (λ x q k. search (rules, tests))) in
+    (IsFirst-from_position _ _ c.position.result (λ (s : S). s.number ≡ 0) (λ (s : S). s.number ≢ 0)
+    c.position.ensures.ran (YieldsList-from_slice seats cc) (λ x q k. search (rules, tests))
+    (λ x q k. search (rules, tests))) in
     let same = one_value (sym found.1 ∙ c.in-Some.is) in
     (subst (λ (i : ℕ). i < length seats) same found.2, λ s e. found.3 s (ap (slice_get seats) same ∙ e))

@@ -1,5 +1,5 @@
 use Rattle.std.proofs.Common.{rules, ◌≡◌, ◌+◌, ◌++◌, ℕ, length, length-append, append-nil, append_assoc}
-use Rattle.std.proofs.Common.{List, [], ◌∷◌, Option, Some, sym, ap, ◌∙◌, subst, arith, slice_get}
+use Rattle.std.proofs.Common.{List, [], ◌∷◌, Option, Some, sym, ap, ◌∙◌, subst, slice_get}
 use Rattle.std.specs.Option.{option_to_list}
 use Rattle.tm_turn.specs.declared.table.View.{View}
 use Rattle.tm_turn.specs.declared.table.Facts.{Facts}
@@ -41,19 +41,19 @@ loop-seat-preserved g c =
     let len : length c.loop-seat.rest.items ≡ length new + 1 = ap length split ∙ length-append new (s ∷ []) in
     let e = ap (λ (m : Mine g.T.Kept.maker g.T.Kept.history g.T.Kept.fixed). m.0) c.absorb.ensures.told in
     let front : all ≡ new ++ (s ∷ [] ++ i.front.0) =
-      i.front.1 ∙ (ap (λ (l : List S). l ++ i.front.0) split ∙ append_assoc new (s ∷ []) i.front.0) in
+    i.front.1 ∙ (ap (λ (l : List S). l ++ i.front.0) split ∙ append_assoc new (s ∷ []) i.front.0) in
     let last : slice_get all (length new) ≡ Some s =
-      ap (λ (l : List S). slice_get l (length new)) (front ∙ sym (append_assoc new (s ∷ []) i.front.0))
-      ∙ got_before (new ++ s ∷ []) i.front.0 (length new) s (got_last new s) in
+    ap (λ (l : List S). slice_get l (length new)) (front ∙ sym (append_assoc new (s ∷ []) i.front.0))
+    ∙ got_before (new ++ s ∷ []) i.front.0 (length new) s (got_last new s) in
     let only_joined : before ≡ record c.args.first.now.me.0 { joined = before.joined } = i.view_is in
     record {
       same_table = c.absorb.ensures.same ∙ i.same_table;
       view_is = e ∙ (ap (λ (v : V). with_facts v (facts_of_seat s)) only_joined
-        ∙ ap (λ (l : List (Facts g.row.T-Entry.Denot)). record c.args.first.now.me.0 { joined = l })
+          ∙ ap (λ (l : List (Facts g.row.T-Entry.Denot)). record c.args.first.now.me.0 { joined = l })
           (sym (ap (λ (v : V). v.joined) e)));
       seats_are = p.0;
       front = (s ∷ [] ++ i.front.0, front);
       told = ToldFrom-more before c.absorb.new.first.me.0 new all s e
-        (λ k t z got. one_value (sym got ∙ (ap (slice_get all) z ∙ last)))
-        (subst (λ (z : ℕ). ToldFrom z before all) len i.told);
+          (λ k t z got. one_value (sym got ∙ (ap (slice_get all) z ∙ last)))
+          (subst (λ (z : ℕ). ToldFrom z before all) len i.told);
     }

@@ -8,7 +8,7 @@ invariant-loop-seat g l = record {
   view_is : l.first.me.0 ≡ record l.initial.first.me.0 { joined = l.first.me.0.joined };
   seats_are : AreOutside l.line l.rest.items;
   front : (others : List (SeatState g.row.T-Entry.Denot g.row.T-Fixed.Denot))
-    × (l.initial.rest.items ≡ l.rest.items ++ others);
+      × (l.initial.rest.items ≡ l.rest.items ++ others);
   told : ToldFrom (length l.rest.items) l.first.me.0 l.initial.rest.items;
 }
 

@@ -1,4 +1,4 @@
-use Rattle.std.proofs.Common.{rules, ◌≡◌, ◌<◌, ℕ, List, length, Some, slice_get, sym, ap, ◌∙◌, subst}
+use Rattle.std.proofs.Common.{◌<◌, List, length, slice_get, ap, ◌∙◌, subst}
 use Rattle.tm_turn.specs.Seats.{SeatState}
 use Rattle.tm_turn.proofs.Places.{get_index}
 use Rattle.tm_turn.proofs.Closing.{first_out}
@@ -15,5 +15,5 @@ returns g c =
     let at = get_index all place r low c.remove.ensures.value in
     let zeroth = c.first_place-place.ensures.1 r (ap (λ (l : List S). slice_get l place) same ∙ at) in
     let h = first_out g.T.Kept.maker c.args.line.now all c.remove.new.self.items _ _ _ place _ r c.requires at
-      c.remove.ensures.items zeroth c.seat.view_is c.seat.invariant in
-    record { place = h.0; first = h.1; }
+    c.remove.ensures.items zeroth c.seat.view_is c.seat.invariant in
+    record { place = h.0; first = h.1 }

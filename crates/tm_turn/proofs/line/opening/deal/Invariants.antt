@@ -1,4 +1,4 @@
-use Rattle.std.proofs.Common.{◌≡◌, ◌≤◌, ◌+◌, length, []}
+use Rattle.std.proofs.Common.{◌≡◌, ◌+◌, length, []}
 use Rattle.tm_turn.specs.Views.{fresh_view}
 use Rattle.tm_turn.specs.Seats.{AreNew}
 use Rattle.tm_turn.proofs.line.opening.deal.Given as goal

@@ -1,4 +1,4 @@
-use Rattle.std.proofs.Common.{rules, ◌≡◌, ◌∙◌}
+use Rattle.std.proofs.Common.{rules, ◌∙◌}
 use Rattle.tm_turn.proofs.Recording.{records}
 use Rattle.tm_turn.proofs.line.turns.record.Goals as goal
 
@@ -9,5 +9,5 @@ fetch_add-requires g c =
       search rules,
       search rules,
       records k.maker k.history k.fixed _ _ _ _ r.one.0 g.J.News.news (r.news ∙ r.one.1) r.inside.0 r.inside.1
-        r.one.2 r.room,
+          r.one.2 r.room,
     )
