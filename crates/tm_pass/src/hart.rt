@@ -1,14 +1,18 @@
 // One hart's whole program.
-ghost use Rattle.std.specs.Prelude.{◌≡◌, ◌+◌, ◌*◌, ◌%◌, ◌<◌, ◌≤◌, length, map, IfOk};
+ghost use Rattle.std.specs.Prelude.{◌≡◌, ◌+◌, ◌*◌, ◌%◌, ◌^◌, ◌<◌, ◌≤◌, length, map, IfOk};
 ghost use Rattle.tm_base.specs.Lists.{count_from};
 ghost use Rattle.tm_plan_map.specs.Map.{text_base, tables_base};
 ghost use Rattle.tm_plan_cases.specs.Shaped.{AreShaped};
+ghost use Rattle.tm_barrier.specs.Words.{barrier};
 ghost use Rattle.tm_pass_steps.specs.Hart.{words_of_hart};
 ghost use Rattle.tm_pass_place.specs.Built.{start_at, end_at, exit_at, halt_at};
 ghost use Rattle.tm_pass.specs.Gate.{ShutsOut};
 
+use crate::cases::append_cases;
+use crate::marks::case_marks;
 use std::alloc::Global;
 use tm_base::{List, NoMemory, Words};
+use tm_pass_code::{append_ending, append_opening, barrier_size};
 use tm_plan_cases::Cases;
 
 /// The words of one hart's program, and the addresses of its marks: where each case's stream begins and where it ends,
@@ -41,9 +45,39 @@ pub fn hart_code(alloc: Global, cases: &Cases, h: u32, base: u64) -> Result<Hart
     ensures few { IfOk result (λ code. 4 * length code.words ≤ 4096 * length cases.now.cases + 4096) }
     ensures gate { IfOk result (λ code. ShutsOut code h base) }
 {
-    let _ = alloc;
-    let _ = cases;
-    let _ = h;
-    let _ = base;
-    Err(NoMemory)
+    let marks = case_marks(alloc, cases, h, base)?;
+    let barrier = barrier_size(alloc, h, cases.harts)?;
+    let words = hart_words(alloc, cases, h, base, marks.behind, barrier)?;
+    Ok(HartCode {
+        words,
+        starts: marks.starts,
+        ends: marks.ends,
+        exit: marks.behind + 4 * barrier,
+        halt: marks.behind,
+    })
+}
+
+// The words, where the halt mark's address and the number of the barrier's words are known.
+fn hart_words(
+    alloc: Global,
+    cases: &Cases,
+    h: u32,
+    base: u64,
+    halt: u64,
+    size: u64,
+) -> Result<Words, NoMemory>
+    requires shaped { AreShaped cases.now }
+    requires mine { h < cases.now.harts }
+    requires aligned { base % 4 ≡ 0 }
+    requires low { base + 56 < 2 ^ 32 }
+    requires halt { halt ≡ halt_at cases.now h base }
+    requires barrier { size ≡ length (barrier h cases.now.harts) }
+    requires few { size ≤ 41 }
+    ensures { IfOk result (λ words. words ≡ words_of_hart cases.now h base) }
+{
+    let mut words = Words::new(alloc);
+    append_opening(alloc, &mut words, h, (halt + 4 * size - base - 4) as u32)?;
+    append_cases(alloc, &mut words, cases, h, base + 56, halt + 4)?;
+    append_ending(alloc, &mut words, h, cases.harts)?;
+    Ok(words)
 }

@@ -1,7 +1,10 @@
 //! One hart's whole program, and the text of all harts with its marks.
 #![tactic(auto)]
 
+mod cases;
 mod hart;
+mod marks;
+mod streams;
 mod text;
 
 pub use hart::{HartCode, hart_code};

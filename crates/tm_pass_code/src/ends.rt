@@ -1,5 +1,5 @@
 // The words before and behind all cases.
-ghost use Rattle.std.specs.Prelude.{◌≡◌, ◌%◌, ◌<◌, ◌≤◌, ◌∷◌, ◌++◌, OnOk};
+ghost use Rattle.std.specs.Prelude.{◌≡◌, ◌%◌, ◌<◌, ◌≤◌, ◌∷◌, ◌++◌, length, OnOk, IfOk};
 ghost use Rattle.tm_plan_map.specs.Map.{private_at};
 ghost use Rattle.tm_blocks_base.specs.Blocks.{constant};
 ghost use Rattle.tm_blocks_base.specs.Instrs.{words_of};
@@ -39,4 +39,16 @@ pub fn append_ending(alloc: Global, out: &mut Words, h: u32, harts: u32) -> Resu
     out.push(0x0000_006F)?;
     append_code(out, code)?;
     Ok(())
+}
+
+/// How many instructions the barrier of hart `h` has.
+pub fn barrier_size(alloc: Global, h: u32, harts: u32) -> Result<u64, NoMemory>
+    requires mine { h < harts }
+    requires few { harts ≤ 16 }
+    ensures is { IfOk result (λ n. n ≡ length (barrier h harts)) }
+    ensures few { IfOk result (λ n. n ≤ 41) }
+{
+    let mut code = Code::new(alloc);
+    put_barrier(&mut code, h, harts)?;
+    Ok(code.len())
 }

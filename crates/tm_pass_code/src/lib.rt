@@ -10,8 +10,8 @@ mod whole;
 mod words;
 
 pub use cases::{append_before, append_behind, collect_size, compare_size, first_size};
-pub use ends::{append_ending, append_opening};
+pub use ends::{append_ending, append_opening, barrier_size};
 pub use parts::{put_before, put_behind, put_opening};
-pub use sizes::size_of;
+pub use sizes::{CaseSize, size_of};
 pub use whole::append_case;
 pub use words::append_code;

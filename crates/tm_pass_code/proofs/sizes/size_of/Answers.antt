@@ -3,11 +3,12 @@ use Rattle.tm_blocks_base.proofs.Lengths.{length-load_registers, length-save_reg
 use Rattle.tm_pass_steps.specs.Hart.{registers_at}
 use Rattle.tm_pass_code.proofs.sizes.size_of.Goals as goal
 
-pub returns-clause-is : goal.returns-clause-is
-returns-clause-is c =
-    let e0 = c.in_ok-first.ensures.is in
-    let e1 = length-load_registers (registers_at c.args.cases.now c.args.h c.args.c) in
-    let e2 = length-save_registers in
-    let e3 = c.in_ok-collect.ensures.is in
-    let e4 = c.in_ok-compare.ensures.is in
-    omega (arith, e0, e1, e2, e3, e4)
+pub returns-clause-before : goal.returns-clause-before
+returns-clause-before c =
+    let load = length-load_registers (registers_at c.args.cases.now c.args.h c.args.c) in
+    omega (arith, c.in_ok-first.ensures.is, load)
+
+pub returns-clause-behind : goal.returns-clause-behind
+returns-clause-behind c =
+    let save = length-save_registers in
+    omega (arith, save, c.in_ok-collect.ensures.is, c.in_ok-compare.ensures.is)
