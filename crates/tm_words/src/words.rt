@@ -146,20 +146,24 @@ fn read_options<'a>(image: &'a str, options: &[String]) -> Option<RunWords<'a>>
     ensures { MatchOption result (form.run_of image.now (map string_bytes options.now) ≡ None)
         (λ r. form.run_of image.now (map string_bytes options.now) ≡ Some (form.run_in r)) }
 {
-    match options {
-        [] => Some(RunWords {
+    if options.is_empty() {
+        return Some(RunWords {
             image,
             events: DEFAULT_EVENTS,
             threads: true,
-        }),
-        [name, value] => with_one(image, read_option(name, value)),
-        [name, value, other, its_value] => with_two(
-            image,
-            read_option(name, value),
-            read_option(other, its_value),
-        ),
-        _ => None,
+        });
     }
+    if let [name, value] = options {
+        return with_one(image, read_option(name, value));
+    }
+    let [name, value, other, its_value] = options else {
+        return None;
+    };
+    with_two(
+        image,
+        read_option(name, value),
+        read_option(other, its_value),
+    )
 }
 
 // The run of the words behind `run`.
@@ -208,16 +212,16 @@ fn read_any(words: &[String]) -> Option<CommandWords<'_>>
     ensures { MatchOption result (form.command_of (form.bytes_of_words words.now) ≡ None)
         (λ c. form.command_of (form.bytes_of_words words.now) ≡ Some (form.command_in c)) }
 {
-    match words {
-        [name, first, rest @ ..] => read_behind(name, first, rest),
-        _ => None,
-    }
+    let [name, first, rest @ ..] = words else {
+        return None;
+    };
+    read_behind(name, first, rest)
 }
 
 // The command, where it waits for nobody.
 fn if_still(command: CommandWords<'_>) -> Option<CommandWords<'_>>
-    ensures { MatchOption result (form.still_only (Some (form.command_in command)) ≡ None)
-        (λ c. form.still_only (Some (form.command_in command)) ≡ Some (form.command_in c)) }
+    ensures { MatchOption result (form.still_only (Some (form.command_in command.entry)) ≡ None)
+        (λ c. form.still_only (Some (form.command_in command.entry)) ≡ Some (form.command_in c)) }
 {
     match command {
         CommandWords::Run(run) if run.threads => None,
