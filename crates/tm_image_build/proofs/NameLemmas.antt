@@ -140,3 +140,16 @@ writable p topo template seed parts made program topo_short template_short =
       symbols = symbols-count p harts cases;
       names = All-from_recursion Named (symbols_of p) (symbols-named p harts cases);
     })
+
+parts-made : (p : Program) (topo template : List ℕ) (seed : ℕ) (first second : List ℕ) (symbols : List Symbol) → first ≡ topo → second ≡ template
+    → symbols ≡ symbols_of p
+    → record { text = p.text; tables = p.tables; plan = record { seed = seed; topo = first; template = second }; symbols = symbols } ≡ parts_of p topo template seed
+unfolding parts_of
+parts-made p topo template seed first second symbols e f g = rw (e, f, g) refl
+
+-- so can parts that are made one by one
+pub parts-writable : (p : Program) (topo template : List ℕ) (seed : ℕ) (first second : List ℕ) (symbols : List Symbol) → first ≡ topo → second ≡ template
+    → symbols ≡ symbols_of p → IsProgram p → length topo ≤ 65536 → length template ≤ 1048576
+    → IsWritable (record { text = p.text; tables = p.tables; plan = record { seed = seed; topo = first; template = second }; symbols = symbols })
+parts-writable p topo template seed first second symbols is_topo is_template are program topo_short template_short =
+    writable p topo template seed _ (parts-made p topo template seed first second symbols is_topo is_template are) program topo_short template_short

@@ -1,7 +1,7 @@
 -- The sample of a number: a test of up to 4 harts and 8 drawn cases, with all three kinds of window (this project's
 -- own).
-use Rattle.std.specs.Prelude.{ℕ, suc, ◌+◌, ◌*◌, ◌%◌, List, [], ◌∷◌, ◌++◌, length, codes, sum_by}
-use Rattle.std.specs.List.{flat_map}
+use Rattle.std.specs.Prelude.{ℕ, ◌+◌, ◌%◌, ◌==◌, not, if◌then◌else◌, List, ◌++◌, length, codes}
+use Rattle.std.specs.List.{flat_map, sum_by, count_by}
 use Rattle.std.specs.Fmt.{decimal}
 use Rattle.tm_base.specs.Lists.{count_from}
 use Rattle.tm_plan_cases.specs.declared.cases.Cases.{Cases}
@@ -10,9 +10,7 @@ use Rattle.tm_plan_cases.specs.declared.cases.Stream.{Stream}
 
 -- the line size of a sample: 32, 64 or 128 bytes, in turn
 abbrev pub sample_line : ℕ → ℕ
-sample_line 0 = 32
-sample_line 1 = 64
-sample_line _ = 128
+sample_line turn = if turn == 0 then 32 else if turn == 1 then 64 else 128
 
 -- a key of a topology with its number, as a line
 abbrev pub key_line : List ℕ → ℕ → List ℕ
@@ -41,9 +39,7 @@ slots_of cases = sum_by (λ (case : Case). sum_by (λ (s : Stream). length s.wor
 
 -- how many verdicts aren't 0
 abbrev pub count_reported : List ℕ → ℕ
-count_reported [] = 0
-count_reported (0 ∷ more) = count_reported more
-count_reported (suc v ∷ more) = suc (count_reported more)
+count_reported verdicts = count_by (λ v. not (v == 0)) verdicts
 
 -- the line of sample n with these cases and verdicts
 unfoldable pub summary : ℕ → Cases → List ℕ → List ℕ
