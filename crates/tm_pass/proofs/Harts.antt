@@ -9,7 +9,6 @@ use Rattle.tm_plan_map.specs.Map.{text_base}
 use Rattle.tm_blocks_base.proofs.Lists.{count_from-suc}
 use Rattle.tm_pass_text.specs.Words.{Blocks, base_of, hart_size, streams_of, text_words}
 use Rattle.tm_pass_steps.specs.Hart.{blocks_of, words_of_hart}
-use Rattle.tm_pass_place.proofs.Sizes.{short-hart}
 
 -- a row of numbers more
 pub rows-on : (row : ℕ → List ℕ) (n m : ℕ) → m ≡ suc n → flat_map row (count_from 0 m) ≡ flat_map row (count_from 0 n) ++ row n
@@ -35,18 +34,6 @@ module _ (cases : Cases) (shaped : AreShaped cases) where
 
   abbrev base : ℕ → ℕ
   base h = base_of B cases h
-
-  -- where the next hart's text begins
-  pub base-on : (n m : ℕ) → m ≡ suc n → base m ≡ base n + 4 * size n
-  base-on n m e = let f = ap base e in omega (arith, f)
-
-  pub base-low : (n : ℕ) → n ≤ cases.harts → base n ≤ text_base + 135168 * n
-  base-low zero l = omega arith
-  base-low (suc n) l = omega (arith, base-low n (omega arith), short-hart cases shaped n (omega arith))
-
-  pub base-aligned : (n : ℕ) → base n % 4 ≡ 0
-  unfolding text_base
-  base-aligned n = omega arith
 
   text-more : (a n : ℕ) → text_words B cases a (suc n) (base a) ≡ text_words B cases a n (base a) ++ words_of_hart cases (a + n) (base (a + n))
   unfolding words_of_hart

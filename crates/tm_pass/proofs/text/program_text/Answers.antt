@@ -6,7 +6,8 @@ use Rattle.tm_pass_steps.specs.Hart.{blocks_of, words_of_hart}
 use Rattle.tm_pass_place.specs.Built.{start_at, end_at, exit_at, halt_at, start_in, end_in, exit_in, halt_in, marks_in}
 use Rattle.tm_pass.proofs.CaseLemmas.{count-on}
 use Rattle.tm_pass.proofs.Gates.{words-many}
-use Rattle.tm_pass.proofs.Harts.{base-aligned, base-low, base-on, rows-on, same-marks, text-on}
+use Rattle.tm_pass_place.proofs.Heads.{base-aligned, base-low, base-on}
+use Rattle.tm_pass.proofs.Harts.{rows-on, same-marks, text-on}
 use Rattle.tm_pass.proofs.text.program_text.Goals as goal
 
 pub loop-h-init : goal.loop-h-init
