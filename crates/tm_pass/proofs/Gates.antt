@@ -22,10 +22,10 @@ use Rattle.tm_pass_text.specs.Words.{cases_words, gate, hart_size, hart_words, o
 use Rattle.tm_pass_text.proofs.Stands.{length-hart}
 use Rattle.tm_pass_steps.specs.Hart.{blocks_of, words_of_hart}
 use Rattle.tm_pass_place.specs.Built.{head_at, start_at, end_at, halt_at, exit_at}
+use Rattle.tm_pass_place.proofs.Heads.{ends-low}
 use Rattle.tm_pass_place.proofs.Sizes.{count, short-hart}
 use Rattle.tm_pass.specs.declared.hart.HartCode.{HartCode}
 use Rattle.tm_pass.specs.Gate.{GoesBy, HasGate, IsPlain, PassedBy, ShutsOut}
-use Rattle.tm_pass.proofs.CaseLemmas.{head-next, heads-rise}
 
 -- an instruction that fits is that of its word
 word-instr : (i : Instr) → Fits i → instr_of (word_of i) ≡ Some i
@@ -108,15 +108,10 @@ module _ (cases : Cases) (shaped : AreShaped cases) (h : ℕ) (number : h < case
       halt = λ z. omega (arith, z, halt);
     }
 
-    -- a stream ends before the halt mark
-    ends-low : (c : ℕ) → c < C → end_at cases h base c ≤ halt_at cases h base
-    ends-low c l =
-        omega (arith, head-next cases shaped h number base c (suc c) refl l, heads-rise cases shaped h number base (C - suc c) (suc c) (omega arith))
-
     -- and none is behind the last word
     behind : (a : ℕ) → a ≡ base + 4 * size → IsPlain code a
     behind a e = record {
-      streams = λ c start end b f. let s = end-is c end f in inr (omega (arith, s.1, ends-low c s.0, behind-all));
+      streams = λ c start end b f. let s = end-is c end f in inr (omega (arith, s.1, ends-low cases shaped h number base c s.0, behind-all));
       exit = λ z. omega (arith, z, exit, behind-all);
       halt = λ z. omega (arith, z, halt, behind-all);
     }

@@ -7,3 +7,5 @@ pub mod Tables
 pub mod Placed
 pub mod Sound
 pub mod Built
+pub mod Heads
+pub mod Range

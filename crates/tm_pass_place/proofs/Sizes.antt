@@ -33,7 +33,7 @@ waits-short h a (suc n) =
     by true = omega arith
     by false = omega arith
 
-barrier-short : (h n : ℕ) → length (barrier h n) ≤ 9 + 2 * n
+pub barrier-short : (h n : ℕ) → length (barrier h n) ≤ 9 + 2 * n
 unfolding barrier meet prepare waits
 barrier-short h n =
     let w = flat_map (turn h) (count_from 0 n) in

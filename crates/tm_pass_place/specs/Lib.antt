@@ -2,3 +2,4 @@ pub mod Places
 pub mod Placed
 pub mod Sound
 pub mod Built
+pub mod Range

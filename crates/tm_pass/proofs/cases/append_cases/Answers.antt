@@ -1,7 +1,8 @@
 use Rattle.std.proofs.Common.{◌≡◌, ℕ, suc, ◌+◌, ◌*◌, ◌<◌, List, ◌++◌, length, drop, ap, ◌∙◌, sym, arith}
 use Rattle.tm_pass_text.specs.Words.{cases_words, streams_of}
 use Rattle.tm_pass_steps.specs.Hart.{blocks_of}
-use Rattle.tm_pass.proofs.CaseLemmas.{case-few, words-next, words-end}
+use Rattle.tm_pass_place.proofs.Heads.{case-few}
+use Rattle.tm_pass.proofs.CaseLemmas.{words-next, words-end}
 use Rattle.tm_pass.proofs.cases.append_cases.Goals as goal
 
 pub loop-c-preserved : goal.loop-c-preserved

@@ -2,7 +2,7 @@ use Rattle.std.proofs.Common.{◌≡◌, ◌+◌, ◌*◌, ◌<◌, ◌^◌, ◌
 use Rattle.tm_plan_map.specs.Map.{tables_base}
 use Rattle.tm_pass_place.specs.Built.{exit_at}
 use Rattle.tm_pass.specs.declared.hart.HartCode.{HartCode}
-use Rattle.tm_pass.proofs.CaseLemmas.{heads-low}
+use Rattle.tm_pass_place.proofs.Heads.{heads-low}
 use Rattle.tm_pass.proofs.Gates.{behind-all, shuts-out, words-many}
 use Rattle.tm_pass.proofs.hart.hart_code.Goals as goal
 

@@ -2,7 +2,8 @@ use Rattle.std.proofs.Common.{◌≡◌, ℕ, suc, ◌+◌, ◌*◌, ◌<◌, Li
 use Rattle.tm_pass_text.specs.Words.{before_size}
 use Rattle.tm_pass_steps.specs.Hart.{blocks_of}
 use Rattle.tm_pass_place.specs.Built.{start_at, end_at}
-use Rattle.tm_pass.proofs.CaseLemmas.{case-few, count-on, head-next, stream}
+use Rattle.tm_pass_place.proofs.Heads.{case-few, head-next, stream}
+use Rattle.tm_pass.proofs.CaseLemmas.{count-on}
 use Rattle.tm_pass.proofs.marks.case_marks.Goals as goal
 
 pub loop-c-preserved : goal.loop-c-preserved

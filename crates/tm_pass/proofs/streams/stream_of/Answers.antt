@@ -1,5 +1,6 @@
 use Rattle.std.proofs.Common.{◌≡◌, length, ap, ◌∙◌, arith}
-use Rattle.tm_pass.proofs.CaseLemmas.{few-words, stream-read}
+use Rattle.tm_pass_place.proofs.Heads.{few-words}
+use Rattle.tm_pass.proofs.CaseLemmas.{stream-read}
 use Rattle.tm_pass.proofs.streams.stream_of.Goals as goal
 
 pub returns-clause-is : goal.returns-clause-is
