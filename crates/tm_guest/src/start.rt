@@ -5,9 +5,10 @@ ghost use Rattle.tm_plan_cases.specs.Shaped.{IsProgram};
 ghost use Rattle.tm_world.specs.Run.{first_state};
 ghost use Rattle.tm_guest.specs.Replay.{opening};
 ghost use Rattle.tm_guest.specs.Memory.{IsGuestRegion};
-ghost use Rattle.tm_guest.specs.Start.{HasText, HasTables, AreOpened};
+ghost use Rattle.tm_guest.specs.Start.{HasText, HasTables, IsOpened, AreOpened};
 ghost use Rattle.tm_guest.specs.Fields.{IsMemory};
 
+use crate::hart::HartState;
 use std::alloc::Global;
 use tm_base::NoMemory;
 use tm_plan_cases::Program;
@@ -21,25 +22,35 @@ const TABLES: u64 = 0x8080_0000;
 const SIZE: u64 = 0x100_0000;
 
 /// The harts before their first steps.
-pub fn opened(alloc: Global, harts: u32) -> Result<Vec<Cpu>, NoMemory>
+pub fn opened(alloc: Global, harts: u32) -> Result<Vec<HartState>, NoMemory>
     ensures { IfOk result (λ v. AreOpened harts v.items) }
 {
-    let mut cpus = match Vec::with_capacity(alloc, harts as usize) {
-        Ok(cpus) => cpus,
+    let mut states = match Vec::with_capacity(alloc, harts as usize) {
+        Ok(states) => states,
         Err(_) => return Err(NoMemory),
     };
     for h in 0..harts {
-        match cpus.push(opened_at(h)) {
+        match states.push(opened_at(h)) {
             Ok(()) => {}
             Err(_) => return Err(NoMemory),
         }
     }
-    Ok(cpus)
+    Ok(states)
 }
 
 /// A hart before its first step.
+fn opened_at(h: u32) -> HartState
+    ensures { IsOpened h result }
+{
+    HartState {
+        cpu: first_cpu(h),
+        phase: 0,
+        signalled: false,
+    }
+}
+
 #[tactic(auto, unfolding(crate::specs::Replay::opening, tm_plan_map::specs::Map::text_base))]
-fn opened_at(h: u32) -> Cpu
+fn first_cpu(h: u32) -> Cpu
     ensures { hart_of result ≡ first_state (opening h) }
 {
     let mut x = [0; 32];
