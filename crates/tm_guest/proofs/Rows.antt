@@ -1,5 +1,5 @@
 -- A hart that has a next step finds its row.
-use Rattle.std.proofs.Common.{◌≡◌, ℕ, ◌+◌, ◌-◌, ◌*◌, ◌/◌, ◌%◌, ◌≤◌, ◌<◌, List, Bool, true, false, ◌&&◌, ◌==◌, Option, None, Some, refl, sym, ap, ◌∙◌, subst, length, get_or}
+use Rattle.std.proofs.Common.{◌≡◌, ℕ, ◌-◌, ◌*◌, ◌/◌, ◌%◌, ◌≤◌, ◌<◌, List, Bool, true, false, ◌&&◌, ◌==◌, Option, None, Some, refl, sym, ap, ◌∙◌, subst, length, get_or}
 use Rattle.std.specs.Prelude.{if◌then◌else◌, slice_get, slice_index}
 use Rattle.std.proofs.lemmas.Bool.{and_parts}
 use Rattle.std.proofs.lemmas.Option.{slice_get_within, get_or_from_slice_get}
@@ -57,7 +57,7 @@ is-row : (p : Program) (hart : Hart) (w : ℕ) (i : Instr) (at : Decoded) → wo
 is-row p hart w i at there known decoded next =
     let by-instr : (read : ℕ) → row_word hart w read ≡ Some (row hart at.instr read) =
     λ read. decoded-row hart w read i known
-        ∙ ap (λ (j : Instr). Some (row hart j read)) (sym (decoded.instr i known)) in
+    ∙ ap (λ (j : Instr). Some (row hart j read)) (sym (decoded.instr i known)) in
     record {
       word = there ∙ ap (λ (x : ℕ). Some x) (sym decoded.word);
       fits = decoded.fits;

@@ -1,5 +1,5 @@
 -- A turn of a hart that isn't at halt, over what a guest keeps.
-use Rattle.std.proofs.Common.{◌≡◌, ◌≢◌, ℕ, ◌+◌, ◌^◌, ◌≤◌, ◌<◌, List, [], ◌∷◌, ◌++◌, Bool, Some, sym, ap, ◌∙◌, subst, length, get_or, set, arith, length-append}
+use Rattle.std.proofs.Common.{◌≡◌, ◌≢◌, ℕ, ◌+◌, ◌^◌, ◌<◌, List, [], ◌∷◌, ◌++◌, Some, sym, ap, ◌∙◌, subst, length, get_or, set, arith, length-append}
 use Rattle.tm_table.specs.declared.state.Access.{Access}
 use Rattle.tm_table.specs.declared.state.Access.TheVariants.{Quiet, Read, Write}
 use Rattle.tm_table.specs.State.{Hart, hart_of as hart_in}
@@ -15,7 +15,7 @@ use Rattle.tm_world.specs.Kinds.{Follows, IsPossible, Plain, plain_owed}
 use Rattle.tm_world_script.specs.Script.{FaultedRun}
 use Rattle.tm_guest.specs.declared.decoded.Decoded.{Decoded}
 use Rattle.tm_guest.specs.declared.hart.HartState.{HartState}
-use Rattle.tm_guest.specs.Replay.{outcome, stepped, state_after, steps_of, run_of}
+use Rattle.tm_guest.specs.Replay.{outcome, state_after, steps_of, run_of}
 use Rattle.tm_guest.specs.Guested.{Guested, run, steps, state, IsHalted}
 use Rattle.tm_guest.specs.Turns.{IsNextEvent}
 use Rattle.tm_guest.specs.Waiting.{phase_after, signalled_after}
@@ -98,9 +98,9 @@ abbrev pub longer : Journaled → Event → Journaled
 longer j e = record { events = j.events ++ e ∷ []; room = j.room }
 
 module _ (p : Program) (limit h : ℕ) (decodes : List Decoded) (states : List HartState) (r : Region) (j : Journaled)
-  (k : Keeps p [] limit decodes states r j) (l : h < harts p) (off : ¬ IsHalted (shown p [] limit j) h) (at : Decoded)
-  (e : Event) (next : Hart) (f : IsRow p (state (shown p [] limit j) h) at)
-  (a : Acts h (state (shown p [] limit j) h) at r e next) where
+    (k : Keeps p [] limit decodes states r j) (l : h < harts p) (off : ¬ IsHalted (shown p [] limit j) h)
+    (at : Decoded) (e : Event) (next : Hart) (f : IsRow p (state (shown p [] limit j) h) at)
+    (a : Acts h (state (shown p [] limit j) h) at r e next) where
   abbrev Past : List Step
   Past = steps_of p [] j.events
 
@@ -134,7 +134,8 @@ module _ (p : Program) (limit h : ℕ) (decodes : List Decoded) (states : List H
     each_hart = subst (λ (x : List Step). AreStates p x (set states h new)) (sym grown)
         (states-more p h Newest Past states old new l a.hart was
         (record { state = sym is ∙ is-next.is; exits = left.exits; flag = left.flag }) k.each_hart);
-    memory = subst (λ (x : List Step). IsMemory p x t) (sym grown) (memory-more p Newest Past r t left.memory k.memory);
+    memory = subst (λ (x : List Step). IsMemory p x t) (sym grown)
+        (memory-more p Newest Past r t left.memory k.memory);
     goes_on = goes-on;
   }
 
@@ -178,9 +179,9 @@ finds-row v p lines limit h decodes states r j old is k below was off =
 -- ---- one turn
 
 module _ (v : Guested) (p : Program) (lines : List FaultLine) (limit h : ℕ) (decodes : List Decoded)
-  (states : List HartState) (r : Region) (j : Journaled) (is : shown p lines limit j ≡ v)
-  (k : Keeps p lines limit decodes states r j) (below : h < harts v.program) (off : ¬ IsHalted v h) (at : Decoded)
-  (row : IsRow v.program (state v h) at) (e : Event) (next : Hart) (a : Acts h (state v h) at r e next) where
+    (states : List HartState) (r : Region) (j : Journaled) (is : shown p lines limit j ≡ v)
+    (k : Keeps p lines limit decodes states r j) (below : h < harts v.program) (off : ¬ IsHalted v h) (at : Decoded)
+    (row : IsRow v.program (state v h) at) (e : Event) (next : Hart) (a : Acts h (state v h) at r e next) where
   in-harts : h < harts p
   in-harts = subst (λ (g : Guested). h < harts g.program) (sym is) below
 
@@ -216,4 +217,5 @@ module _ (v : Guested) (p : Program) (lines : List FaultLine) (limit h : ℕ) (d
   turned old new t room was same left =
       let few = subst (λ (g : Guested). length g.journal < g.limit) (sym is) room in
       subst (λ (ls : List FaultLine). Keeps p ls limit decodes (set states h new) t (longer j e)) (sym k.none)
-      (more p limit h decodes states r j keeps-none in-harts off-halt at e next is-row acts old new t few was same left)
+      (more p limit h decodes states r j keeps-none in-harts off-halt at e next is-row acts old new t few was same
+      left)

@@ -33,8 +33,8 @@ pub record AreDecoded (text : List ℕ) (rows : List Decoded) : Type 0 where
   pub count : length rows ≡ length text
   pub each : (k : ℕ) (d : Decoded) → k < length text → IsDecoded (slice_index text k) (slice_index_or rows k d)
 
--- The row of a word that stands at a hart's program counter: the hart's next step is that of the row's instruction, and
--- its access can be made.
+-- The row of a word that stands at a hart's program counter: the hart's next step is that of the row's instruction,
+-- and its access can be made.
 pub record IsRow (p : Program) (hart : Hart) (at : Decoded) : Type 0 where
   pub word : word_at p hart.pc ≡ Some at.word
   pub fits : Fits at.instr

@@ -50,7 +50,11 @@ impl<'a> Model for Guest<'a> {
     ghost Value = { Guested };
 
     ghost view = { λ g. record {
-        program = g.program.now; faults = g.faults; limit = g.limit; journal = g.journal.events } };
+      program = g.program.now;
+      faults = g.faults;
+      limit = g.limit;
+      journal = g.journal.events;
+    } };
 
     ghost invariant = { λ g.
         Keeps g.program.now g.faults g.limit g.decodes.items g.harts.items g.ram g.journal };
@@ -114,9 +118,9 @@ impl<'a> Guest<'a> {
         Turn::Stepped { place, event }
     }
 
-    /// Whether hart `h` waits for another one: it isn't at its halt mark, and its next step would be an idle read. That
-    /// is a read of another hart's flag, after its own write of its flag in this phase, that finds less than the
-    /// phase's number and 1, so that the hart has to read again.
+    /// Whether hart `h` waits for another one: it isn't at its halt mark, and its next step would be an idle read.
+    /// That is a read of another hart's flag, after the hart has written its own in its phase, that finds less than
+    /// the phase's number and 1: the other hart isn't there yet, and the hart has to read again.
     pub fn waits(&self, h: u32) -> bool
         requires { h < harts self.now.program }
         ensures { IsTrue result ↔ Waits self.now h }

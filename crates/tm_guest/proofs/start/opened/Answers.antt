@@ -1,4 +1,4 @@
-use Rattle.std.proofs.Common.{◌≡◌, ◌+◌, [], ◌∷◌, sym, subst, arith, length-append}
+use Rattle.std.proofs.Common.{◌+◌, [], ◌∷◌, sym, subst, arith, length-append}
 use Rattle.tm_guest.specs.Start.{IsOpened, AreOpened}
 use Rattle.tm_guest.proofs.Starting.{one-more}
 use Rattle.tm_guest.proofs.start.opened.Goals as goal

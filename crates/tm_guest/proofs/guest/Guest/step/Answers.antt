@@ -1,4 +1,4 @@
-use Rattle.std.proofs.Common.{◌≡◌, ℕ, List, get_or, refl, set, sym, ◌∙◌, subst}
+use Rattle.std.proofs.Common.{◌≡◌, ℕ, List, get_or, refl, set, sym, subst}
 use Rattle.tm_table.specs.State.{Hart, hart_of}
 use Rattle.tm_table.specs.Row.{row}
 use Rattle.tm_world.specs.Kinds.{IsPossible}
@@ -36,7 +36,8 @@ invariant_of-self c =
     let acts : Acts h (hart_of old.cpu) at held.ram event (hart_of new.cpu) =
     record { hart = e.hart; pc = e.pc; word = e.word; step = e.step; shape = e.shape; reads = e.reads } in
     let exits =
-    subst (λ (marks : List ℕ). new.phase ≡ phase_after (get_or marks h 0) event.pc old.phase) c.as_slice.ensures e.phase in
+    subst (λ (marks : List ℕ). new.phase ≡ phase_after (get_or marks h 0) event.pc old.phase) c.as_slice.ensures
+    e.phase in
     let flag =
     subst (λ (marks : List ℕ). new.signalled ≡ signalled_after (get_or marks h 0) h event old.signalled)
     c.as_slice.ensures e.signalled in
