@@ -18,7 +18,7 @@ use crate::act::next_access;
 use crate::decoded::{Decoded, decoded_text};
 use crate::hart::HartState;
 use crate::idle::finds_less;
-use crate::start::{image, opened};
+use crate::start::{TEXT, image, opened};
 use crate::turn::Turn;
 use std::alloc::Global;
 use std::marker::Model;
@@ -212,7 +212,7 @@ impl<'a> Guest<'a> {
         ensures { IsRow self.now.program (state self.now h) result }
     {
         let hart = &self.harts[h as usize];
-        let place = (hart.cpu.pc - 0x8000_0000) / 4;
+        let place = (hart.cpu.pc - TEXT) / 4;
         self.decodes[place as usize]
     }
 

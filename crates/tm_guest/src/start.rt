@@ -15,10 +15,13 @@ use tm_plan_cases::Program;
 use tm_ram::Ram;
 use tm_table::Cpu;
 
-const TEXT: u64 = 0x8000_0000;
+/// Where the guest's memory and in it the text begin.
+pub const TEXT: u64 = 0x8000_0000;
 
+// Where the tables begin.
 const TABLES: u64 = 0x8080_0000;
 
+// How long the guest's memory is.
 const SIZE: u64 = 0x100_0000;
 
 /// The harts before their first steps.
@@ -58,7 +61,7 @@ fn first_cpu(h: u32) -> Cpu
     Cpu::new(TEXT, x)
 }
 
-/// The memory before the first step.
+/// The memory before the first step: the text's words, the tables' bytes, and 0 elsewhere.
 pub fn image(alloc: Global, program: &Program) -> Result<Ram, NoMemory>
     requires { IsProgram program.now }
     ensures { IfOk result (λ r. IsMemory program.now [] r) }
@@ -69,6 +72,7 @@ pub fn image(alloc: Global, program: &Program) -> Result<Ram, NoMemory>
     Ok(ram)
 }
 
+// Puts the words of the text at its begin.
 fn put_text(ram: &mut Ram, text: &[u32])
     requires region { IsGuestRegion ram.old }
     requires few { length text.now ≤ 2097152 }
@@ -80,6 +84,7 @@ fn put_text(ram: &mut Ram, text: &[u32])
     }
 }
 
+// Puts the bytes of the tables at their begin.
 fn put_tables(ram: &mut Ram, tables: &[u8])
     requires region { IsGuestRegion ram.old }
     requires few { length tables.now ≤ 4194304 }
