@@ -29,7 +29,7 @@ use Rattle.tm_rules.proofs.RuledLemmas.{admitted-ruled}
 use Rattle.tm_faults.specs.declared.inputs.InputFault.{InputFault}
 use Rattle.tm_image_inputs.specs.Inputs.{inputs, behind_topology, template_inputs, of_reading, unless_broken}
 use Rattle.tm_image_program.specs.Program.{program_for}
-use Rattle.tm_image_program.proofs.Whole.{for-program, for-typed, for-marks}
+use Rattle.tm_image_program.proofs.Whole.{for-program, for-typed, for-range}
 use Rattle.tm_image_build.specs.Symbols.{symbols_of}
 use Rattle.tm_image_build.specs.Built.{parts_of, image_file, built, built_of}
 use Rattle.tm_image_build.proofs.NameLemmas.{EachSymbol, each-of, writable}
@@ -72,12 +72,17 @@ or_zero (x ∷ xs) (suc k) d l = or_zero xs k d (omega arith)
 abbrev Low : Symbol → Type 0
 Low s = s.addr < 2 ^ 64
 
+low-at : (xs : List ℕ) → All (λ a. a < 2 ^ 64) xs → (k : ℕ) → slice_index xs k < 2 ^ 64
+low-at [] each k = lit< tt
+low-at (x ∷ xs) each zero = each 0 x (omega arith)
+low-at (x ∷ xs) each (suc k) = low-at xs (λ j d l. each (suc j) d (omega arith)) k
+
 symbols_low : (a : Admitted) (seed : ℕ) → IsRuled a → EachSymbol Low (symbols_of (program_for a seed))
 symbols_low a seed ruled =
-    let low = for-marks a seed ruled in
+    let low = for-range a seed ruled in
     let p = program_for a seed in
-    each-of Low p (λ h c l m. (low.starts (h * length p.cases.cases + c), (low.ends (h * length p.cases.cases + c), tt)))
-    (λ h l. (low.exits h, (low.halts h, tt)))
+    each-of Low p (λ h c l m. (low-at p.marks.starts low.starts (h * length p.cases.cases + c), (low-at p.marks.ends low.ends (h * length p.cases.cases + c), tt)))
+    (λ h l. (low-at p.marks.exits low.exits h, (low-at p.marks.halts low.halts h, tt)))
 
 in_range_parts : (a : Admitted) (topo template : List ℕ) (seed : ℕ) → IsRuled a → seed < 2 ^ 64 → InRange (parts_of (program_for a seed) topo template seed)
 unfolding parts_of

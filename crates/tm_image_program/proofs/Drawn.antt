@@ -84,11 +84,11 @@ pub words-small : (a : Admitted) (seed c h : ℕ) (slots : List Slot) → IsRule
     → AreRuledSlots (sharing_in a) a.windows h slots → (n : ℕ) → slice_index (stream_words a seed c h slots) n < 2 ^ 32
 words-small a seed c h slots ruled below are =
     all-small (2 ^ 32) (stream_words a seed c h slots) (lit< tt) (λ n w at.
-        let there = stream-slot a seed c h slots n w at in
-        let held = (stream-conforms a seed c h slots ruled below are).1 n there.0 there.1 in
-        let both : Some (word_of held.0) ≡ Some w = sym held.1 ∙ at in
-        let same : word_of held.0 ≡ w = cc in
-        subst (λ (v : ℕ). v < 2 ^ 32) same (word-lt held.0 held.3.fits))
+    let there = stream-slot a seed c h slots n w at in
+    let held = (stream-conforms a seed c h slots ruled below are).1 n there.0 there.1 in
+    let both : Some (word_of held.0) ≡ Some w = sym held.1 ∙ at in
+    let same : word_of held.0 ≡ w = cc in
+    subst (λ (v : ℕ). v < 2 ^ 32) same (word-lt held.0 held.3.fits))
 
 -- ---- whole cases
 
