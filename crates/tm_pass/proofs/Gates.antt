@@ -1,8 +1,7 @@
 -- What the gate of a hart's text does.
-use Rattle.std.proofs.Common.{◌≡◌, ◌≢◌, ◌⊎◌, inl, inr, ℕ, zero, suc, ◌+◌, ◌-◌, ◌*◌, ◌^◌, ◌<◌, ◌≤◌, List, [], ◌∷◌, ◌++◌, length, map, Option, refl, sym, ap, ap₂, ◌∙◌, arith, append_assoc}
+use Rattle.std.proofs.Common.{◌≡◌, inl, inr, ℕ, zero, suc, ◌+◌, ◌-◌, ◌*◌, ◌^◌, ◌<◌, List, [], ◌∷◌, ◌++◌, length, map, refl, sym, ap, ap₂, ◌∙◌, arith, append_assoc}
 use Rattle.std.specs.Prelude.{slice_get, Some}
 use Rattle.tm_table.specs.declared.instr.Instr.{Instr}
-use Rattle.tm_table.specs.declared.state.Access.TheVariants.{Quiet}
 use Rattle.tm_table.specs.Words.{Fits, word_of}
 use Rattle.tm_table.proofs.Decoding.{decoded-word}
 use Rattle.tm_base.specs.Lists.{count_from}
@@ -10,8 +9,8 @@ use Rattle.tm_plan_cases.specs.declared.cases.Cases.{Cases}
 use Rattle.tm_plan_cases.specs.Shaped.{AreShaped}
 use Rattle.tm_plan_map.specs.Map.{private_at}
 use Rattle.tm_plan_map.specs.Slots.{instr_of}
-use Rattle.tm_runs.specs.Machine.{World, State, get, put}
-use Rattle.tm_runs.specs.Runs.{Takes, Now, At}
+use Rattle.tm_runs.specs.Machine.{put}
+use Rattle.tm_runs.specs.Runs.{Now}
 use Rattle.tm_runs.proofs.Steps.{step_addi, step_beq_on, step_jal}
 use Rattle.tm_runs.proofs.Tables.{get_put_other, get_put_zero}
 use Rattle.tm_blocks_base.specs.Instrs.{addi, beq, jump, words_of}
@@ -21,14 +20,14 @@ use Rattle.tm_barrier.specs.Words.{barrier}
 use Rattle.tm_pass_text.specs.Words.{cases_words, gate, hart_size, hart_words, opening_size, skip, streams_of}
 use Rattle.tm_pass_text.proofs.Stands.{length-hart}
 use Rattle.tm_pass_steps.specs.Hart.{blocks_of, words_of_hart}
-use Rattle.tm_pass_place.specs.Built.{head_at, start_at, end_at, halt_at, exit_at}
+use Rattle.tm_pass_place.specs.Built.{start_at, end_at, halt_at, exit_at}
 use Rattle.tm_pass_place.proofs.Heads.{ends-low}
 use Rattle.tm_pass_place.proofs.Sizes.{count, short-hart}
 use Rattle.tm_pass.specs.declared.hart.HartCode.{HartCode}
-use Rattle.tm_pass.specs.Gate.{GoesBy, HasGate, IsPlain, PassedBy, ShutsOut}
+use Rattle.tm_pass.specs.Gate.{IsPlain, ShutsOut}
 
 -- an instruction that fits is that of its word
-word-instr : (i : Instr) → Fits i → instr_of (word_of i) ≡ Some i
+pub word-instr : (i : Instr) → Fits i → instr_of (word_of i) ≡ Some i
 unfolding instr_of
 word-instr i fits = decoded-word i fits
 

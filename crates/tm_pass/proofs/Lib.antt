@@ -1,3 +1,4 @@
 pub mod CaseLemmas
 pub mod Gates
 pub mod Harts
+pub mod Small

@@ -9,3 +9,6 @@ mod text;
 
 pub use hart::{HartCode, hart_code};
 pub use text::{ProgramText, program_text};
+
+#[cfg(test)]
+mod tests;

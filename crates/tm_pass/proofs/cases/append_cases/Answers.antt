@@ -1,4 +1,4 @@
-use Rattle.std.proofs.Common.{◌≡◌, ℕ, suc, ◌+◌, ◌*◌, ◌<◌, List, ◌++◌, length, drop, ap, ◌∙◌, sym, arith}
+use Rattle.std.proofs.Common.{◌≡◌, ℕ, suc, ◌+◌, ◌<◌, ◌++◌, length, drop, ap, ◌∙◌, sym, arith}
 use Rattle.tm_pass_text.specs.Words.{cases_words, streams_of}
 use Rattle.tm_pass_steps.specs.Hart.{blocks_of}
 use Rattle.tm_pass_place.proofs.Heads.{case-few}

@@ -1,4 +1,4 @@
-use Rattle.std.proofs.Common.{◌≡◌, ℕ, List, length, ap, ◌∙◌, arith, length-append}
+use Rattle.std.proofs.Common.{ℕ, List, length, ap, ◌∙◌, arith, length-append}
 use Rattle.tm_pass_text.specs.Words.{case_size, case_words}
 use Rattle.tm_pass_text.proofs.Stands.{length-case}
 use Rattle.tm_pass_steps.specs.Hart.{blocks_of}

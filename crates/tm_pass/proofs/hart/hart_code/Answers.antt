@@ -1,4 +1,4 @@
-use Rattle.std.proofs.Common.{◌≡◌, ◌+◌, ◌*◌, ◌<◌, ◌^◌, ◌≤◌, length, ap, ◌∙◌, arith}
+use Rattle.std.proofs.Common.{◌≡◌, ◌+◌, ◌*◌, length, ap, ◌∙◌, arith}
 use Rattle.tm_plan_map.specs.Map.{tables_base}
 use Rattle.tm_pass_place.specs.Built.{exit_at}
 use Rattle.tm_pass.specs.declared.hart.HartCode.{HartCode}

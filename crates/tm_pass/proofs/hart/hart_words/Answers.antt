@@ -1,5 +1,4 @@
-use Rattle.std.proofs.Common.{◌≡◌, ℕ, ◌+◌, ◌-◌, ◌*◌, ◌≤◌, List, [], ◌∷◌, ◌++◌, length, ap, ap₂, ◌∙◌, arith, append_assoc}
-use Rattle.tm_barrier.specs.Words.{barrier}
+use Rattle.std.proofs.Common.{length, arith}
 use Rattle.tm_pass_place.proofs.Heads.{heads-low}
 use Rattle.tm_pass.proofs.Gates.{whole-words}
 use Rattle.tm_pass.proofs.hart.hart_words.Goals as goal

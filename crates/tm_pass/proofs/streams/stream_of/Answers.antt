@@ -1,4 +1,4 @@
-use Rattle.std.proofs.Common.{◌≡◌, length, ap, ◌∙◌, arith}
+use Rattle.std.proofs.Common.{length, ap, ◌∙◌, arith}
 use Rattle.tm_pass_place.proofs.Heads.{few-words}
 use Rattle.tm_pass.proofs.CaseLemmas.{stream-read}
 use Rattle.tm_pass.proofs.streams.stream_of.Goals as goal
