@@ -1,9 +1,10 @@
 -- What is owed of a simulation and of its end (this project's own).
-use Rattle.std.specs.Prelude.{◌≡◌, ◌≢◌, ℕ, ◌<◌, ◌≤◌, ◌==◌, Bool, true, false, List, [], length, filter, All}
+use Rattle.std.specs.Prelude.{◌≡◌, ℕ, ◌≤◌, ◌==◌, Bool, true, false, List, [], length, All, Option, None, Some}
 use Rattle.std.specs.List.{count_by}
 use Rattle.tm_base.specs.Lists.{count_from}
 use Rattle.tm_plan_cases.specs.declared.program.Program.{Program}
 use Rattle.tm_plan_cases.specs.declared.journal.Event.{Event}
+use Rattle.tm_plan_journal.specs.Journaled.{Journaled}
 use Rattle.tm_world.specs.Place.{harts, halt_of}
 use Rattle.tm_world.specs.Kinds.{Plain, Legal}
 use Rattle.tm_world_script.specs.Script.{FaultedRun}
@@ -12,6 +13,11 @@ use Rattle.tm_guest.specs.Guested.{Guested, state, fresh}
 use Rattle.tm_guest.specs.Rounds.{Goes, AllHalted}
 use Rattle.tm_report_run.specs.Verdicts.{verdicts_of}
 use Rattle.tm_report_run.specs.Report.{report, full_line}
+
+-- the events of a journal, if there is one
+abbrev pub events_in : Option Journaled → Option (List Event)
+events_in None = None
+events_in (Some journal) = Some journal.events
 
 -- the simulated machine that has made these events of at most so many, under no script
 abbrev pub guest_of : Program → (limit : ℕ) → List Event → Guested
