@@ -1,18 +1,28 @@
 -- How a call ended, and what follows of it.
-use Rattle.std.proofs.Common.{◌≡◌, ◌∙◌, ap, sym, refl, ℕ, List, IsTrue, ◌⊎◌, inl, inr, Option, None, Some}
+use Rattle.std.proofs.Common.{◌≡◌, ◌∙◌, ap, sym, refl, ℕ, List, IsTrue, ◌⊎◌, inl, inr, Option, None, Some, Result, Ok, Err}
 use Rattle.tm_desk.specs.declared.desk.DeskError.TheVariants.{Failed}
 use Rattle.tm_faults.specs.declared.role.Role.{Role}
 use Rattle.tm_top_line.specs.declared.fault.AnyFault.{AnyFault}
 use Rattle.tm_top_line.specs.declared.fault.AnyFault.TheVariants.{Desk}
 use Rattle.tm_top_owed.specs.declared.stop.Stop.{Stop}
 use Rattle.tm_top_owed.specs.declared.stop.Stop.TheVariants as stop
-use Rattle.tm_top_owed.specs.Words.{Command, command_of}
-use Rattle.tm_top_owed.specs.Words.Command.{to_build, to_list}
+use Rattle.tm_words.specs.Words.{Command}
+use Rattle.tm_words.specs.Words.Command.{to_build, to_list, to_run, to_sample}
 use Rattle.tm_top_line.specs.Lines.{fault_text}
 use Rattle.tm_top_owed.specs.Texts.{usage}
-use Rattle.tm_top_owed.specs.Inputs.{first_fault}
+use Rattle.tm_top_owed.specs.Inputs.{first_fault, fault_of_texts}
+use Rattle.tm_top_owed.specs.Sample.{sample_topology, sample_template}
+use Rattle.tm_plan_cases.specs.declared.journal.Event.{Event}
+use Rattle.tm_plan_cases.specs.declared.program.Program.{Program}
+use Rattle.tm_plan_map.specs.declared.admitted.Admitted.{Admitted}
+use Rattle.tm_topo.specs.declared.system.Topology.{Topology}
+use Rattle.tm_topo.specs.declared.system.TopoFault.{TopoFault}
+use Rattle.tm_topo.specs.Reading.{topology_of}
+use Rattle.tm_faults.specs.declared.inputs.InputFault.{InputFault}
+use Rattle.tm_image_inputs.specs.Inputs.{inputs, behind_topology, topology_refusal, refusal_of}
+use Rattle.tm_image_build.specs.Built.{program_from}
 use Rattle.tm_top_owed.specs.Changes.{DeskChange, SinkChange, DeskFailed, SinkFailed, FilesStay, OtherFilesStay, Silent}
-use Rattle.tm_top_owed.specs.Owed.{Owes, Ended, IsDone, IsReady, IsRefusal, IsFailure, IsUntouched, RestStays}
+use Rattle.tm_top_owed.specs.Owed.{Ending, IsSampleOf, Owes, Ended, IsDone, IsReady, IsRefusal, IsFailure, IsUntouched, RestStays}
 use Rattle.tm_top_owed.specs.Owed.{AlwaysAtFault, AlwaysDone, status_of}
 use Rattle.tm_top_owed.specs.Owed.MayBegin.{no_line, refusal_line, failure_line}
 use Rattle.tm_top_owed.specs.Owed.Ended.{done, no_command, refused, failed, no_memory_for_usage, no_memory}
@@ -23,11 +33,11 @@ use Rattle.tm_top_owed.specs.Steps.Told.{told_whole, told_short}
 
 -- ---- how a call ended
 
--- words that are no command
-pub ended_usage : (words : List (List ℕ)) (desk : DeskChange) (out err : SinkChange) (status : ℕ)
-    → command_of words ≡ None → FilesStay desk → Silent out → Told err usage 2 status → Ended words desk out err status
-ended_usage words desk out err status none files silent (told_whole two said) = no_command two none files silent said
-ended_usage words desk out err status none files silent (told_short six fronts) = no_memory_for_usage six none files silent fronts
+-- asked that are no command
+pub ended_usage : (asked : Option Command) (desk : DeskChange) (out err : SinkChange) (status : ℕ)
+    → asked ≡ None → FilesStay desk → Silent out → Told err usage 2 status → Ended asked desk out err None status
+ended_usage asked desk out err status none files silent (told_whole two said) = no_command two refl none files silent said
+ended_usage asked desk out err status none files silent (told_short six fronts) = no_memory_for_usage six refl none files silent fronts
 
 -- a stop's fault has a line
 pub tellable : (s : Stop) (c : Command) (desk : DeskChange) (out : SinkChange) → Stopped s c desk out → IsTellable s
@@ -42,50 +52,52 @@ others_stay desk name stay = λ told other differs. ap (λ (files : List ℕ →
 rest_stays : (c : Command) (desk : DeskChange) → FilesStay desk → RestStays c desk
 rest_stays (to_build b) desk stay = others_stay desk b.out stay
 rest_stays (to_list image) desk stay = stay
+rest_stays (to_run r) desk stay = stay
+rest_stays (to_sample number) desk stay = stay
 
-ended_refused : (words : List (List ℕ)) (c : Command) (desk : DeskChange) (out err : SinkChange) (role : Role)
-    (fault : AnyFault) (status : ℕ) → command_of words ≡ Some c → IsRefusal c desk role fault → IsUntouched desk out
-    → Told err (fault_text role fault) 3 status → Ended words desk out err status
-ended_refused words c desk out err role fault status is_c refusal kept (told_whole three said) =
-    refused c role fault three is_c refusal kept said
-ended_refused words c desk out err role fault status is_c refusal kept (told_short six fronts) =
-    no_memory c (fault_text role fault) six is_c (rest_stays c desk kept.files)
+ended_refused : (asked : Option Command) (c : Command) (desk : DeskChange) (out err : SinkChange) (role : Role)
+    (fault : AnyFault) (status : ℕ) → asked ≡ Some c → IsRefusal c desk role fault → IsUntouched desk out
+    → Told err (fault_text role fault) 3 status → Ended asked desk out err None status
+ended_refused asked c desk out err role fault status is_c refusal kept (told_whole three said) =
+    refused c role fault three refl is_c refusal kept said
+ended_refused asked c desk out err role fault status is_c refusal kept (told_short six fronts) =
+    no_memory c (fault_text role fault) six refl is_c (rest_stays c desk kept.files)
     (refusal_line role fault refusal kept refl) fronts
 
-ended_failed : (words : List (List ℕ)) (c : Command) (desk : DeskChange) (out err : SinkChange) (role : Role)
-    (status : ℕ) → command_of words ≡ Some c → IsFailure c desk out role → RestStays c desk
-    → Told err (fault_text role (Desk Failed)) 5 status → Ended words desk out err status
-ended_failed words c desk out err role status is_c failure others (told_whole five said) =
-    failed c role five is_c failure others said
-ended_failed words c desk out err role status is_c failure others (told_short six fronts) =
-    no_memory c (fault_text role (Desk Failed)) six is_c others (failure_line role failure refl) fronts
+ended_failed : (asked : Option Command) (c : Command) (desk : DeskChange) (out err : SinkChange) (role : Role)
+    (status : ℕ) → asked ≡ Some c → IsFailure c desk out role → RestStays c desk
+    → Told err (fault_text role (Desk Failed)) 5 status → Ended asked desk out err None status
+ended_failed asked c desk out err role status is_c failure others (told_whole five said) =
+    failed c role five refl is_c failure others said
+ended_failed asked c desk out err role status is_c failure others (told_short six fronts) =
+    no_memory c (fault_text role (Desk Failed)) six refl is_c others (failure_line role failure refl) fronts
 
 -- a command that stopped
-pub ended_stopped : (s : Stop) (words : List (List ℕ)) (c : Command) (desk : DeskChange) (out err : SinkChange) (status : ℕ)
-    → command_of words ≡ Some c → Stopped s c desk out → RestStays c desk → Reported s err status → Ended words desk out err status
-ended_stopped (stop.Refused role fault) words c desk out err status is_c (refusal, kept) others reported =
-    ended_refused words c desk out err role fault status is_c refusal kept reported
-ended_stopped (stop.Failed role) words c desk out err status is_c failure others reported =
-    ended_failed words c desk out err role status is_c failure others reported
-ended_stopped stop.NoMemory words c desk out err status is_c unfinished others (six, fronts) =
-    no_memory c _ six is_c others (no_line refl unfinished) fronts
+pub ended_stopped : (s : Stop) (asked : Option Command) (c : Command) (desk : DeskChange) (out err : SinkChange) (status : ℕ)
+    → asked ≡ Some c → Stopped s c desk out → RestStays c desk → Reported s err status → Ended asked desk out err None status
+ended_stopped (stop.Refused role fault) asked c desk out err status is_c (refusal, kept) others reported =
+    ended_refused asked c desk out err role fault status is_c refusal kept reported
+ended_stopped (stop.Failed role) asked c desk out err status is_c failure others reported =
+    ended_failed asked c desk out err role status is_c failure others reported
+ended_stopped stop.NoMemory asked c desk out err status is_c unfinished others (six, fronts) =
+    no_memory c _ six refl is_c others (no_line refl unfinished) fronts
 
 -- ---- what follows
 
-no_words : (words : List (List ℕ)) (c : Command) → command_of words ≡ None → command_of words ≡ Some c → ⊥
-no_words words c none some = let apart : ◌≡◌ {A = Option Command} None (Some c) = sym none ∙ some in cc
+no_words : (asked : Option Command) (c : Command) → asked ≡ None → asked ≡ Some c → ⊥
+no_words asked c none some = let apart : ◌≡◌ {A = Option Command} None (Some c) = sym none ∙ some in cc
 
-same_command : (words : List (List ℕ)) (c other : Command) → command_of words ≡ Some c → command_of words ≡ Some other → c ≡ other
-same_command words c other is_c is_other = let same : ◌≡◌ {A = Option Command} (Some c) (Some other) = sym is_c ∙ is_other in cc
+same_command : (asked : Option Command) (c other : Command) → asked ≡ Some c → asked ≡ Some other → c ≡ other
+same_command asked c other is_c is_other = let same : ◌≡◌ {A = Option Command} (Some c) (Some other) = sym is_c ∙ is_other in cc
 
-always_usage : (words : List (List ℕ)) (desk : DeskChange) (out err : SinkChange) (status : ℕ) → Ended words desk out err status
-    → command_of words ≡ None → (status ≡ 2) ⊎ (status ≡ 6)
-always_usage words desk out err status (done c zero is_c job others silent) none = absurd (no_words words c none is_c)
-always_usage words desk out err status (no_command two _ stay silent said) none = inl two
-always_usage words desk out err status (refused c role fault three is_c refusal kept said) none = absurd (no_words words c none is_c)
-always_usage words desk out err status (failed c role five is_c failure others said) none = absurd (no_words words c none is_c)
-always_usage words desk out err status (no_memory_for_usage six _ stay silent fronts) none = inr six
-always_usage words desk out err status (no_memory c text six is_c others begun fronts) none = inr six
+always_usage : (asked : Option Command) (desk : DeskChange) (out err : SinkChange) (journal : Option (List Event)) (status : ℕ) → Ended asked desk out err journal status
+    → asked ≡ None → (status ≡ 2) ⊎ (status ≡ 6)
+always_usage asked desk out err journal status (done c is_c job others silent) none = absurd (no_words asked c none is_c)
+always_usage asked desk out err journal status (no_command two bare _ stay silent said) none = inl two
+always_usage asked desk out err journal status (refused c role fault three bare is_c refusal kept said) none = absurd (no_words asked c none is_c)
+always_usage asked desk out err journal status (failed c role five bare is_c failure others said) none = absurd (no_words asked c none is_c)
+always_usage asked desk out err journal status (no_memory_for_usage six bare _ stay silent fronts) none = inr six
+always_usage asked desk out err journal status (no_memory c text six bare is_c others begun fronts) none = inr six
 
 no_first : (c : Command) (desk : DeskChange) (role : Role) (fault : AnyFault) → first_fault c desk.held ≡ None → first_fault c desk.held ≡ Some (role, fault) → ⊥
 no_first c desk role fault none some = let apart : ◌≡◌ {A = Option (Role × AnyFault)} None (Some (role, fault)) = sym none ∙ some in cc
@@ -98,11 +110,36 @@ same_fault : (c : Command) (desk : DeskChange) (role other_role : Role) (fault o
 same_fault c desk role other_role fault other is is_other =
     ap (λ (p : Role × AnyFault). p.1) (same_first (role, fault) (other_role, other) (sym is ∙ is_other))
 
--- where a text is ready, no input is at fault
-ready_accepted : (c : Command) (desk : DeskChange) (text : List ℕ) → IsReady c desk text → IsTrue desk.tells
+-- what is built has no fault in its texts
+refused_none : (r : Result Topology TopoFault) (template : List ℕ) (a : Admitted) → behind_topology r template ≡ Ok a → refusal_of r ≡ None
+refused_none (Ok topo) template a h = refl
+refused_none (Err e) template a h = absurd (cc)
+
+read_none : (topo template : List ℕ) (a : Admitted) → inputs topo template ≡ Ok a → topology_refusal topo ≡ None
+unfolding inputs topology_refusal
+read_none topo template a h = refused_none (topology_of topo) template a h
+
+read_of : (seed : ℕ) (r : Result Admitted InputFault) (p : Program) → program_from seed r ≡ Ok p → (a : Admitted) × (r ≡ Ok a)
+read_of seed (Ok a) p h = (a, refl)
+read_of seed (Err f) p h = absurd (cc)
+
+texts_accepted : (topo template : List ℕ) (seed : ℕ) (p : Program) → program_from seed (inputs topo template) ≡ Ok p → fault_of_texts topo template ≡ None
+texts_accepted topo template seed p h =
+    let test = read_of seed (inputs topo template) p h in
+    rw (read_none topo template test.0 test.1, test.1) refl
+
+sample_accepted : (number : ℕ) (desk : DeskChange) (e : Ending) → IsSampleOf number e → first_fault (to_sample number) desk.held ≡ None
+unfolding first_fault
+sample_accepted number desk e ready =
+    texts_accepted (sample_topology number) (sample_template number) number ready.program ready.its.its_program
+
+-- where an end is ready, no input is at fault
+ready_accepted : (c : Command) (desk : DeskChange) (e : Ending) → IsReady c desk e → IsTrue desk.tells
     → first_fault c desk.held ≡ None
-ready_accepted (to_build b) desk text ready tells = ready.image.accepted tells
-ready_accepted (to_list image) desk text ready tells = ready.accepted tells
+ready_accepted (to_build b) desk e ready tells = ready.0.image.accepted tells
+ready_accepted (to_list image) desk e ready tells = ready.0.accepted tells
+ready_accepted (to_run r) desk e ready tells = ready.accepted tells
+ready_accepted (to_sample number) desk e ready tells = sample_accepted number desk e ready
 
 -- a failure with no count risen is that of the first fault
 failure_first : (c : Command) (desk : DeskChange) (out : SinkChange) (role wrong : Role) (fault : AnyFault) → IsFailure c desk out role → IsTrue desk.tells
@@ -112,21 +149,21 @@ failure_first c desk out role wrong fault (at_input (missing _ first) kept) tell
     ap status_of (same_fault c desk role wrong (Desk Failed) fault first is)
 failure_first c desk out role wrong fault (at_write output rose left) tells calm is = absurd (calm rose)
 failure_first c desk out role wrong fault (at_print output rose left) tells calm is =
-    absurd (no_first c desk wrong fault (ready_accepted c desk left.text left.ready tells) is)
+    absurd (no_first c desk wrong fault (ready_accepted c desk left.ending left.ready tells) is)
 
-at_fault : (words : List (List ℕ)) (c : Command) (desk : DeskChange) (out err : SinkChange) (status : ℕ) → Ended words desk out err status
-    → command_of words ≡ Some c → AlwaysAtFault c desk status
-at_fault words c desk out err status (done other zero is_other job others silent) is_c = λ wrong fault tells calm is.
-    absurd (no_first c desk wrong fault (rw (same_command words c other is_c is_other) (ready_accepted other desk job.text job.ready tells)) is)
-at_fault words c desk out err status (no_command two none stay silent said) is_c = absurd (no_words words c none is_c)
-at_fault words c desk out err status (refused other role fault three is_other refusal kept said) is_c = λ wrong first tells calm is.
-    let same = rw (← same_command words c other is_c is_other) at refusal.first tells in
+at_fault : (asked : Option Command) (c : Command) (desk : DeskChange) (out err : SinkChange) (journal : Option (List Event)) (status : ℕ) → Ended asked desk out err journal status
+    → asked ≡ Some c → AlwaysAtFault c desk status
+at_fault asked c desk out err journal status (done other is_other job others silent) is_c = λ wrong fault tells calm is.
+    absurd (no_first c desk wrong fault (rw (same_command asked c other is_c is_other) (ready_accepted other desk _ job.ready tells)) is)
+at_fault asked c desk out err journal status (no_command two bare none stay silent said) is_c = absurd (no_words asked c none is_c)
+at_fault asked c desk out err journal status (refused other role fault three bare is_other refusal kept said) is_c = λ wrong first tells calm is.
+    let same = rw (← same_command asked c other is_c is_other) at refusal.first tells in
     inl (three ∙ sym refusal.status ∙ ap status_of (same_fault c desk role wrong fault first same is))
-at_fault words c desk out err status (failed other role five is_other failure others said) is_c = λ wrong first tells calm is.
-    let same = rw (← same_command words c other is_c is_other) at failure in
+at_fault asked c desk out err journal status (failed other role five bare is_other failure others said) is_c = λ wrong first tells calm is.
+    let same = rw (← same_command asked c other is_c is_other) at failure in
     inl (five ∙ failure_first c desk out role wrong first same tells calm is)
-at_fault words c desk out err status (no_memory_for_usage six none stay silent fronts) is_c = absurd (no_words words c none is_c)
-at_fault words c desk out err status (no_memory other text six is_other others begun fronts) is_c = λ wrong first tells calm is. inr six
+at_fault asked c desk out err journal status (no_memory_for_usage six bare none stay silent fronts) is_c = absurd (no_words asked c none is_c)
+at_fault asked c desk out err journal status (no_memory other text six bare is_other others begun fronts) is_c = λ wrong first tells calm is. inr six
 
 -- with no count risen and no fault of an input, nothing failed
 failure_none : (c : Command) (desk : DeskChange) (out : SinkChange) (role : Role) → IsFailure c desk out role
@@ -136,22 +173,22 @@ failure_none c desk out role (at_input (missing _ first) kept) calm quiet none =
 failure_none c desk out role (at_write output rose left) calm quiet none = calm rose
 failure_none c desk out role (at_print output rose left) calm quiet none = quiet rose
 
-always_done : (words : List (List ℕ)) (c : Command) (desk : DeskChange) (out err : SinkChange) (status : ℕ) → Ended words desk out err status
-    → command_of words ≡ Some c → AlwaysDone c desk out status
-always_done words c desk out err status (done other zero is_other job others silent) is_c = λ tells calm quiet none. inl zero
-always_done words c desk out err status (no_command two none stay silent said) is_c = absurd (no_words words c none is_c)
-always_done words c desk out err status (refused other role fault three is_other refusal kept said) is_c = λ tells calm quiet none.
-    let same = rw (← same_command words c other is_c is_other) at refusal.first tells in absurd (no_first c desk role fault none same)
-always_done words c desk out err status (failed other role five is_other failure others said) is_c = λ tells calm quiet none.
-    let same = rw (← same_command words c other is_c is_other) at failure in absurd (failure_none c desk out role same calm quiet none)
-always_done words c desk out err status (no_memory_for_usage six none stay silent fronts) is_c = absurd (no_words words c none is_c)
-always_done words c desk out err status (no_memory other text six is_other others begun fronts) is_c = λ tells calm quiet none. inr six
+always_done : (asked : Option Command) (c : Command) (desk : DeskChange) (out err : SinkChange) (journal : Option (List Event)) (status : ℕ) → Ended asked desk out err journal status
+    → asked ≡ Some c → AlwaysDone c desk out journal status
+always_done asked c desk out err journal status (done other is_other job others silent) is_c = λ tells calm quiet none. inl (rw (same_command asked c other is_c is_other) job)
+always_done asked c desk out err journal status (no_command two bare none stay silent said) is_c = absurd (no_words asked c none is_c)
+always_done asked c desk out err journal status (refused other role fault three bare is_other refusal kept said) is_c = λ tells calm quiet none.
+    let same = rw (← same_command asked c other is_c is_other) at refusal.first tells in absurd (no_first c desk role fault none same)
+always_done asked c desk out err journal status (failed other role five bare is_other failure others said) is_c = λ tells calm quiet none.
+    let same = rw (← same_command asked c other is_c is_other) at failure in absurd (failure_none c desk out role same calm quiet none)
+always_done asked c desk out err journal status (no_memory_for_usage six bare none stay silent fronts) is_c = absurd (no_words asked c none is_c)
+always_done asked c desk out err journal status (no_memory other text six bare is_other others begun fronts) is_c = λ tells calm quiet none. inr six
 
 -- all that a call owes follows of how it ended
-pub owes : (words : List (List ℕ)) (desk : DeskChange) (out err : SinkChange) (status : ℕ) → Ended words desk out err status → Owes words desk out err status
-owes words desk out err status how = record {
+pub owes : (asked : Option Command) (desk : DeskChange) (out err : SinkChange) (journal : Option (List Event)) (status : ℕ) → Ended asked desk out err journal status → Owes asked desk out err journal status
+owes asked desk out err journal status how = record {
   ended = how;
-  always_usage = always_usage words desk out err status how;
-  always_at_fault = λ c is_c. at_fault words c desk out err status how is_c;
-  always_done = λ c is_c. always_done words c desk out err status how is_c;
+  always_usage = always_usage asked desk out err journal status how;
+  always_at_fault = λ c is_c. at_fault asked c desk out err journal status how is_c;
+  always_done = λ c is_c. always_done asked c desk out err journal status how is_c;
 }

@@ -1,43 +1,23 @@
 // All that the program does, but for what waits.
-ghost use Rattle.std.specs.Prelude.{◌≡◌, None, IfErr, OnOk};
-ghost use Rattle.tm_top_owed.specs.Words.{bytes_of_words, command_in};
+ghost use Rattle.std.specs.Prelude.{◌≡◌, None};
+ghost use Rattle.tm_words.specs.Words.{bytes_of_words};
+ghost use Rattle.tm_top.specs.Asked.{asked_by};
 ghost use Rattle.tm_top_owed.specs.Changes.{desk_change, sink_change};
-ghost use Rattle.tm_top_owed.specs.Owed.{Owes, Ended, IsDone, RestStays};
-ghost use Rattle.tm_top_owed.specs.Steps.{Stopped};
+ghost use Rattle.tm_top_owed.specs.Owed.{Owes, Ended};
 
-use crate::build::build_command;
 use std::alloc::Global;
 use tm_desk::{Desk, Sink};
 use tm_plan_journal::Journal;
+use tm_top_build::build_command;
 use tm_top_list::list_command;
-use tm_top_owed::{CommandWords, Stop, read_words, tell_stop, tell_usage};
+use tm_top_owed::{tell_stop, tell_usage};
+use tm_words::{CommandWords, read_words};
 
 /// How a call ended: its status, and the journal of a simulation where the command made one.
 #[derive(Drop)]
 pub struct Outcome {
     pub status: u8,
     pub journal: Option<Journal>,
-}
-
-// Does what a command asks for, or stops with the cause.
-fn run_command<D: Desk, O: Sink>(
-    alloc: Global,
-    command: &CommandWords<'_>,
-    desk: &mut D,
-    out: &mut O,
-) -> Result<(), Stop>
-    ensures done { OnOk result (IsDone (command_in command.now)
-        (desk_change D.tells D.held D.faults desk.old desk.new)
-        (sink_change O.tells O.taken O.faults out.old out.new)) }
-    ensures stopped { IfErr result (λ stop. Stopped stop (command_in command.now)
-        (desk_change D.tells D.held D.faults desk.old desk.new)
-        (sink_change O.tells O.taken O.faults out.old out.new)) }
-    ensures rest { RestStays (command_in command.now) (desk_change D.tells D.held D.faults desk.old desk.new) }
-{
-    match command {
-        CommandWords::Build(build) => build_command(alloc, build, desk, out),
-        CommandWords::List(image) => list_command(alloc, image, desk, out),
-    }
 }
 
 // Does what the words say, and answers the status.
@@ -49,18 +29,25 @@ fn status_of_call<D: Desk, O: Sink, E: Sink>(
     out: &mut O,
     err: &mut E,
 ) -> u8
-    ensures { Ended (bytes_of_words words.now)
+    ensures { Ended (asked_by (bytes_of_words words.now))
         (desk_change D.tells D.held D.faults desk.old desk.new)
         (sink_change O.tells O.taken O.faults out.old out.new)
         (sink_change E.tells E.taken E.faults err.old err.new)
-        result }
+        None result }
 {
-    let Some(command) = read_words(words) else {
+    let Some(command) = read_words(words, true) else {
         return tell_usage(err);
     };
-    match run_command(alloc, &command, desk, out) {
-        Ok(()) => 0,
-        Err(stop) => tell_stop(alloc, err, &stop),
+    match command {
+        CommandWords::Build(build) => match build_command(alloc, &build, desk, out) {
+            Ok(()) => 0,
+            Err(stop) => tell_stop(alloc, err, &stop),
+        },
+        CommandWords::List(image) => match list_command(alloc, image, desk, out) {
+            Ok(()) => 0,
+            Err(stop) => tell_stop(alloc, err, &stop),
+        },
+        CommandWords::Run(_) | CommandWords::Sample(_) => tell_usage(err),
     }
 }
 
@@ -77,11 +64,11 @@ pub fn still<D: Desk, O: Sink, E: Sink>(
     out: &mut O,
     err: &mut E,
 ) -> Outcome
-    ensures owed { Owes (bytes_of_words words.now)
+    ensures owed { Owes (asked_by (bytes_of_words words.now))
         (desk_change D.tells D.held D.faults desk.old desk.new)
         (sink_change O.tells O.taken O.faults out.old out.new)
         (sink_change E.tells E.taken E.faults err.old err.new)
-        result.status }
+        None result.status }
     ensures journal { result.journal ≡ None }
 {
     let status = status_of_call(alloc, words, desk, out, err);

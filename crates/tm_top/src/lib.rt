@@ -1,11 +1,7 @@
 //! All that the program does, over a desk of files and two sinks that are handed in.
 #![tactic(auto)]
 
-mod build;
 mod call;
-mod image;
-mod inputs;
-mod made;
 mod program;
 
 pub use call::{Outcome, still};

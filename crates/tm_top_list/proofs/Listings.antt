@@ -9,8 +9,8 @@ use Rattle.tm_top_line.specs.declared.fault.AnyFault.{AnyFault}
 use Rattle.tm_top_line.specs.declared.fault.AnyFault.TheVariants.{Desk}
 use Rattle.tm_top_owed.specs.declared.stop.Stop.{Stop}
 use Rattle.tm_top_owed.specs.declared.stop.Stop.TheVariants as stop
-use Rattle.tm_top_owed.specs.Words.Command.{to_list}
-use Rattle.tm_top_owed.specs.Inputs.{image_limit, not_opened, refused_image, fault_of_image, role_of, first_fault}
+use Rattle.tm_words.specs.Words.Command.{to_list}
+use Rattle.tm_top_owed.specs.Inputs.{image_limit, not_opened, refused_image, fault_of_image, first_fault}
 use Rattle.tm_top_owed.specs.Changes.{DeskChange}
 use Rattle.tm_top_owed.specs.Owed.{IsListingIn, IsListingOf}
 use Rattle.tm_top_owed.specs.Owed.InputFailure.{unread, missing}
@@ -21,7 +21,7 @@ use Rattle.tm_top_owed.proofs.Limits.{long, short}
 -- ---- the image that is held
 
 at_image : (image : List ℕ) (files : Files) (fault : AnyFault) → fault_of_image image files ≡ Some fault
-    → first_fault (to_list image) files ≡ Some (role_of roles.Image fault, fault)
+    → first_fault (to_list image) files ≡ Some (roles.Image, fault)
 unfolding first_fault
 at_image image files fault is = rw is refl
 

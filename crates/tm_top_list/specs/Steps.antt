@@ -1,4 +1,4 @@
--- What the steps of a listing leave. Source: this project.
+-- What the steps of a listing leave (this project's own).
 use Rattle.std.specs.Prelude.{◌≡◌, ℕ, false, List, Result, Err}
 use Rattle.tm_faults.specs.declared.role.Role.TheVariants as roles
 use Rattle.tm_faults.specs.declared.image.ImageFault.{ImageFault}

@@ -1,7 +1,7 @@
 // The command that lists an image.
-ghost use Rattle.std.specs.Prelude.{◌≡◌, ◌≤◌, IsTrue, IfErr, IfOk, OnOk};
+ghost use Rattle.std.specs.Prelude.{◌≡◌, ◌≤◌, IsTrue, IfErr, IfOk, OnOk, None};
 ghost use Rattle.tm_image_build.specs.Opened.{opened};
-ghost use Rattle.tm_top_owed.specs.Words.Command.{to_list};
+ghost use Rattle.tm_words.specs.Words.Command.{to_list};
 ghost use Rattle.tm_top_owed.specs.Changes.{desk_change, sink_change, FilesStay};
 ghost use Rattle.tm_top_owed.specs.Owed.{IsDone, IsListingIn, IsListingOf};
 ghost use Rattle.tm_top_owed.specs.Steps.{InputStop, Stopped};
@@ -64,7 +64,7 @@ pub fn list_command<D: Desk, O: Sink>(
 ) -> Result<(), Stop>
     ensures done { OnOk result (IsDone (to_list image.now)
         (desk_change D.tells D.held D.faults desk.old desk.new)
-        (sink_change O.tells O.taken O.faults out.old out.new)) }
+        (sink_change O.tells O.taken O.faults out.old out.new) 0 None) }
     ensures stopped { IfErr result (λ stop. Stopped stop (to_list image.now)
         (desk_change D.tells D.held D.faults desk.old desk.new)
         (sink_change O.tells O.taken O.faults out.old out.new)) }

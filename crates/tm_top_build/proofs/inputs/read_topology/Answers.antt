@@ -1,8 +1,8 @@
 use Rattle.std.proofs.Common.{sym, ◌∙◌}
-use Rattle.tm_top_owed.specs.Words.{build_in}
+use Rattle.tm_words.specs.Words.{build_in}
 use Rattle.tm_top_owed.specs.Changes.{desk_change}
-use Rattle.tm_top.proofs.Refusals.{topology_stop, topology_refused}
-use Rattle.tm_top.proofs.inputs.read_topology.Goals as goal
+use Rattle.tm_top_build.proofs.Refusals.{topology_stop, topology_refused}
+use Rattle.tm_top_build.proofs.inputs.read_topology.Goals as goal
 
 pub returns-in-Err-clause-cause : goal.returns-in-Err-clause-cause
 returns-in-Err-clause-cause g c =

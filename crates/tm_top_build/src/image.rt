@@ -1,17 +1,15 @@
 // The image of a build's two texts.
 ghost use Rattle.std.specs.Prelude.{◌≡◌, ◌≤◌, IfOk, IfErr, length};
 ghost use Rattle.tm_image_inputs.specs.Inputs.{inputs};
-ghost use Rattle.tm_faults.specs.declared.role.Role.TheVariants as roles;
-ghost use Rattle.tm_top_line.specs.declared.fault.AnyFault.TheVariants.{Input};
 ghost use Rattle.tm_top_owed.specs.Texts.{built_line};
-ghost use Rattle.tm_top_owed.specs.Inputs.{topology_limit, template_limit, role_of as role_of_fault};
+ghost use Rattle.tm_top_owed.specs.Inputs.{topology_limit, template_limit};
 ghost use Rattle.tm_top_owed.specs.Owed.{IsMadeOf};
-ghost use Rattle.tm_top.specs.Steps.{ImageStop};
+ghost use Rattle.tm_top_build.specs.Steps.{ImageStop};
 
 use crate::made::Made;
 use std::alloc::Global;
 use tm_base::{Bytes, NoMemory, Text, push_decimal};
-use tm_faults::{BuildFault, InputFault, Role};
+use tm_faults::{BuildFault, Role};
 use tm_image_build::build;
 use tm_plan_cases::Program;
 use tm_top_line::AnyFault;
@@ -33,16 +31,6 @@ fn line_of(alloc: Global, program: &Program, file: &[u8]) -> Result<Text, NoMemo
     Ok(text)
 }
 
-// The role of the text that a fault speaks of, where the topology is accepted.
-fn role_of(fault: &InputFault) -> Role
-    ensures { result ≡ role_of_fault roles.Template (Input fault.now) }
-{
-    match fault {
-        InputFault::NotYet { file, line: _ } => *file,
-        InputFault::Topo(_) | InputFault::Tmpl(_) | InputFault::Rule(_) => Role::Template,
-    }
-}
-
 /// Builds the image of two texts.
 pub fn image_of(alloc: Global, topo: &Bytes, template: &Bytes, seed: u64) -> Result<Made, Stop>
     requires topo { length topo.now ≤ topology_limit }
@@ -53,7 +41,7 @@ pub fn image_of(alloc: Global, topo: &Bytes, template: &Bytes, seed: u64) -> Res
     let image = match build(alloc, topo.as_slice(), template.as_slice(), seed) {
         Ok(image) => image,
         Err(BuildFault::Input(fault)) => {
-            return Err(Stop::Refused(role_of(&fault), AnyFault::Input(fault)));
+            return Err(Stop::Refused(Role::Template, AnyFault::Input(fault)));
         }
         Err(BuildFault::NoMemory) => return Err(Stop::NoMemory),
     };

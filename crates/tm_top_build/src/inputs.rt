@@ -1,11 +1,11 @@
 // The inputs of a build, read and refused in the order of work.
 ghost use Rattle.std.specs.Prelude.{◌≡◌, ◌≤◌, IsTrue, IfOk, IfErr};
-ghost use Rattle.tm_top_owed.specs.Words.{build_in};
-ghost use Rattle.tm_top_owed.specs.Words.Command.{to_build};
+ghost use Rattle.tm_words.specs.Words.{build_in};
+ghost use Rattle.tm_words.specs.Words.Command.{to_build};
 ghost use Rattle.tm_top_owed.specs.Changes.{desk_change};
 ghost use Rattle.tm_top_owed.specs.Owed.{IsImageOf};
 ghost use Rattle.tm_top_owed.specs.Steps.{InputStop};
-ghost use Rattle.tm_top.specs.Steps.{IsTopology};
+ghost use Rattle.tm_top_build.specs.Steps.{IsTopology};
 
 use crate::image::image_of;
 use crate::made::Made;
@@ -15,7 +15,8 @@ use tm_desk::Desk;
 use tm_faults::Role;
 use tm_image_inputs::topology_fault;
 use tm_top_line::AnyFault;
-use tm_top_owed::{BuildWords, Stop, read_input};
+use tm_top_owed::{Stop, read_input};
+use tm_words::BuildWords;
 
 // in bytes
 const TOPOLOGY_LIMIT: u64 = 65_536;

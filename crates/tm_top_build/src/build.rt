@@ -1,7 +1,7 @@
 // The command that builds an image.
-ghost use Rattle.std.specs.Prelude.{IfErr, OnOk};
-ghost use Rattle.tm_top_owed.specs.Words.{build_in};
-ghost use Rattle.tm_top_owed.specs.Words.Command.{to_build};
+ghost use Rattle.std.specs.Prelude.{IfErr, OnOk, None};
+ghost use Rattle.tm_words.specs.Words.{build_in};
+ghost use Rattle.tm_words.specs.Words.Command.{to_build};
 ghost use Rattle.tm_top_owed.specs.Changes.{desk_change, sink_change, OtherFilesStay};
 ghost use Rattle.tm_top_owed.specs.Owed.{IsDone};
 ghost use Rattle.tm_top_owed.specs.Steps.{Stopped};
@@ -9,7 +9,8 @@ ghost use Rattle.tm_top_owed.specs.Steps.{Stopped};
 use crate::inputs::make_image;
 use std::alloc::Global;
 use tm_desk::{Desk, Sink};
-use tm_top_owed::{BuildWords, Stop, print_text, write_output};
+use tm_top_owed::{Stop, print_text, write_output};
+use tm_words::BuildWords;
 
 /// Reads and refuses the inputs, builds, writes and prints.
 #[tactic(auto, using(tm_top_owed::proofs::Stops::input_stopped, tm_top_owed::proofs::Stops::write_stopped))]
@@ -21,7 +22,7 @@ pub fn build_command<D: Desk, O: Sink>(
 ) -> Result<(), Stop>
     ensures done { OnOk result (IsDone (to_build (build_in b.now))
         (desk_change D.tells D.held D.faults desk.old desk.new)
-        (sink_change O.tells O.taken O.faults out.old out.new)) }
+        (sink_change O.tells O.taken O.faults out.old out.new) 0 None) }
     ensures stopped { IfErr result (λ stop. Stopped stop (to_build (build_in b.now))
         (desk_change D.tells D.held D.faults desk.old desk.new)
         (sink_change O.tells O.taken O.faults out.old out.new)) }

@@ -18,24 +18,24 @@ use Rattle.tm_top_line.specs.declared.fault.AnyFault.{AnyFault}
 use Rattle.tm_top_line.specs.declared.fault.AnyFault.TheVariants.{Input, Desk}
 use Rattle.tm_top_owed.specs.declared.stop.Stop.{Stop}
 use Rattle.tm_top_owed.specs.declared.stop.Stop.TheVariants as stop
-use Rattle.tm_top_owed.specs.Words.{Build}
-use Rattle.tm_top_owed.specs.Words.Command.{to_build}
+use Rattle.tm_words.specs.Words.{Build}
+use Rattle.tm_words.specs.Words.Command.{to_build}
 use Rattle.tm_top_owed.proofs.Limits.{long, short}
-use Rattle.tm_top_owed.specs.Inputs.{topology_limit, template_limit, refusal_of, as_fault, text_of, role_of, refused_topology, refused_template, fault_of_topology, fault_of_template, first_fault}
+use Rattle.tm_top_owed.specs.Inputs.{topology_limit, template_limit, refusal_of, as_fault, text_of, refused_topology, refused_template, fault_of_topology, fault_of_template, first_fault}
 use Rattle.tm_top_owed.specs.Changes.{DeskChange, DeskFailed}
 use Rattle.tm_top_owed.specs.Owed.{IsRefusal, IsMadeOf, IsImageOf}
 use Rattle.tm_top_owed.specs.Owed.InputFailure.{unread, missing}
 use Rattle.tm_top_owed.specs.Steps.{ReadStop, InputStop}
-use Rattle.tm_top.specs.Steps.{IsTopology, ImageStop}
+use Rattle.tm_top_build.specs.Steps.{IsTopology, ImageStop}
 
 -- ---- which fault is the first
 
-at_topology : (b : Build) (files : Files) (fault : AnyFault) → fault_of_topology b files ≡ Some fault → first_fault (to_build b) files ≡ Some (role_of Topology fault, fault)
+at_topology : (b : Build) (files : Files) (fault : AnyFault) → fault_of_topology b files ≡ Some fault → first_fault (to_build b) files ≡ Some (Topology, fault)
 unfolding first_fault
 at_topology b files fault is = rw is refl
 
 at_template : (b : Build) (files : Files) (fault : AnyFault) → fault_of_topology b files ≡ None → fault_of_template b files ≡ Some fault
-    → first_fault (to_build b) files ≡ Some (role_of Template fault, fault)
+    → first_fault (to_build b) files ≡ Some (Template, fault)
 unfolding first_fault
 at_template b files fault none is = rw (none, is) refl
 
@@ -72,15 +72,6 @@ topology_stop (stop.Failed by) b desk (role_is, inr (told, none)) =
     rw role_is (missing told (at_topology b desk.held _ (topology_missing b desk.held none)))
 topology_stop stop.NoMemory b desk h = tt
 
--- the fault of a topology speaks of the topology
-topology_role : (r : Result Topology_ TopoFault) (refusal : InputFault) → Some refusal ≡ topology_refusal_of r → role_of Topology (Input refusal) ≡ Topology
-topology_role (Ok t) refusal h = absurd (cc)
-topology_role (Err e) refusal h = let same : refusal ≡ Topo e = cc in rw same refl
-
-its_role : (text : List ℕ) (refusal : InputFault) → Some refusal ≡ topology_refusal text → role_of Topology (Input refusal) ≡ Topology
-unfolding topology_refusal
-its_role text refusal h = topology_role (topology_of text) refusal h
-
 -- a topology that is refused
 pub topology_refused : (b : Build) (desk : DeskChange) (text : List ℕ) (refusal : InputFault)
     → (IsTrue desk.tells → desk.held b.topo ≡ Some text) → length text ≤ topology_limit → Some refusal ≡ topology_refusal text → IsNamed refusal
@@ -89,8 +80,7 @@ topology_refused b desk text refusal held h is named = record {
   status = refl;
   has_line = input_calm refusal named;
   first = λ told.
-      at_topology b desk.held _ (topology_read b desk.held text (held told) h ∙ ap as_fault (sym is))
-      ∙ ap (λ role. Some (role, Input refusal)) (its_role text refusal is);
+      at_topology b desk.held _ (topology_read b desk.held text (held told) h ∙ ap as_fault (sym is));
 }
 
 -- a topology that is accepted has no fault
@@ -182,5 +172,5 @@ image_of_held b desk topo template file line topology there h made = record {
   template = template;
   made = made;
   read = λ told. (topology.there told, there told);
-  accepted = no_fault b desk topo template file topology there h made.its_file;
+  accepted = no_fault b desk topo template file topology there h made.its.its_file;
 }

@@ -1,8 +1,8 @@
 use Rattle.std.proofs.Common.{◌∙◌, ap, sym, Option, List, ℕ}
-use Rattle.tm_top_owed.specs.Words.{build_in}
+use Rattle.tm_words.specs.Words.{build_in}
 use Rattle.tm_top_owed.specs.Changes.{desk_change}
-use Rattle.tm_top.proofs.Refusals.{template_stop, image_stop, image_of_held}
-use Rattle.tm_top.proofs.inputs.make_image.Goals as goal
+use Rattle.tm_top_build.proofs.Refusals.{template_stop, image_stop, image_of_held}
+use Rattle.tm_top_build.proofs.inputs.make_image.Goals as goal
 
 pub returns-in-Err-read_input-clause-cause : goal.returns-in-Err-read_input-clause-cause
 returns-in-Err-read_input-clause-cause g c =

@@ -1,4 +1,4 @@
--- What the steps of a build leave. Source: this project.
+-- What the steps of a build leave (this project's own).
 use Rattle.std.specs.Prelude.{◌≡◌, ◌≤◌, ℕ, Bool, false, List, length, IsTrue, None, Some, Result, Err}
 use Rattle.tm_desk.specs.Causes.{Files}
 use Rattle.tm_plan_map.specs.declared.admitted.Admitted.{Admitted}
@@ -8,9 +8,9 @@ use Rattle.tm_image_inputs.specs.Inputs.{topology_refusal}
 use Rattle.tm_top_line.specs.declared.fault.AnyFault.TheVariants.{Input}
 use Rattle.tm_top_owed.specs.declared.stop.Stop.{Stop}
 use Rattle.tm_top_owed.specs.declared.stop.Stop.TheVariants as stop
-use Rattle.tm_top_owed.specs.Words.{Build}
+use Rattle.tm_words.specs.Words.{Build}
 use Rattle.tm_top_line.specs.Lines.{wants_memory}
-use Rattle.tm_top_owed.specs.Inputs.{topology_limit, role_of}
+use Rattle.tm_top_owed.specs.Inputs.{topology_limit}
 
 -- The topology is held, within its limit and accepted.
 pub record IsTopology (b : Build) (tells : Bool) (held : Files) (text : List ℕ) : Type 0 where
@@ -21,7 +21,7 @@ pub record IsTopology (b : Build) (tells : Bool) (held : Files) (text : List ℕ
 -- why no image is built of two texts
 abbrev pub ImageStop : Stop → Result Admitted InputFault → Type 0
 ImageStop (stop.Refused by fault) reading =
-    (refusal : InputFault) × (reading ≡ Err refusal) × (by ≡ role_of roles.Template (Input refusal))
+    (refusal : InputFault) × (reading ≡ Err refusal) × (by ≡ roles.Template)
     × (fault ≡ Input refusal) × (wants_memory (Input refusal) ≡ false)
 ImageStop (stop.Failed by) reading = ⊥
 ImageStop stop.NoMemory reading = Unit {0}
