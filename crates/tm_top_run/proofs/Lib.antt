@@ -1,1 +1,4 @@
-mod Silent
+pub mod Silent
+pub mod Halting
+pub mod Telling
+pub mod Running

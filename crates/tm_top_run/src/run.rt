@@ -20,8 +20,10 @@ use tm_plan_cases::Program;
 use tm_plan_script::Faults;
 use tm_top_owed::{Done, Stop, print_text};
 use tm_words::RunWords;
+use tm_world_script::laws::scripts;
 
 // Simulates a program in round order, of at most so many events, and tells it.
+#[tactic(auto, using(crate::proofs::Running::never_stuck, crate::proofs::Running::over))]
 fn simulate(alloc: Global, program: &Program, events: u64) -> Result<Simulated, NoMemory>
     requires typed { IsTyped program.now }
     requires sound { Sound program.now }
@@ -30,6 +32,8 @@ fn simulate(alloc: Global, program: &Program, events: u64) -> Result<Simulated, 
     ensures told { IfOk result (λ s. IsToldOf program.now events s.journal.events s.text s.status) }
     ensures order { IfOk result (λ s. IsRoundOrder program.now events s.journal.events) }
 {
+    // no hart of it gets stuck
+    scripts(program);
     let mut guest = Guest::start(alloc, program, Faults::nothing(alloc), events)?;
     let _ = guest.run_round();
     told(alloc, program, guest)
@@ -37,11 +41,11 @@ fn simulate(alloc: Global, program: &Program, events: u64) -> Result<Simulated, 
 
 /// Prints the text of a simulation that was told, and keeps its status and its journal.
 pub fn tell_run<O: Sink>(simulated: Simulated, out: &mut O) -> Result<Done, Stop>
-    ensures status { IfOk result (λ d. d.status ≡ simulated.entry.status) }
-    ensures journal { IfOk result (λ d. events_in d.journal ≡ Some simulated.entry.journal.events) }
-    ensures all { IsTrue O.tells → IfOk result (λ _. O.taken out.new ≡ O.taken out.old ++ simulated.entry.text) }
+    ensures status { IfOk result (λ d. d.status ≡ simulated.status) }
+    ensures journal { IfOk result (λ d. events_in d.journal ≡ Some simulated.journal.events) }
+    ensures all { IsTrue O.tells → IfOk result (λ _. O.taken out.new ≡ O.taken out.old ++ simulated.text) }
     ensures front { IsTrue O.tells
-        → OnErr result ((n : ℕ) × (O.taken out.new ≡ O.taken out.old ++ take n simulated.entry.text)) }
+        → OnErr result ((n : ℕ) × (O.taken out.new ≡ O.taken out.old ++ take n simulated.text)) }
     ensures cause { IfErr result (λ stop. PutStop stop (O.faults out.old) (O.faults out.new)) }
 {
     match print_text(out, &simulated.text) {
@@ -57,6 +61,7 @@ pub fn tell_run<O: Sink>(simulated: Simulated, out: &mut O) -> Result<Done, Stop
 /// where all harts came to their halt marks, and else with the line that says so, and status 4.
 ///
 /// Asked: 1 to 100,000,000 events, as the words of a run have.
+#[tactic(auto, using(tm_top_owed::proofs::Stops::input_stopped))]
 pub fn run_command<D: Desk, O: Sink>(
     alloc: Global,
     run: &RunWords<'_>,

@@ -1,6 +1,5 @@
 // How a simulation is told that has ended.
 ghost use Rattle.std.specs.Prelude.{◌≡◌, IfOk};
-ghost use Rattle.tm_plan_cases.specs.Shaped.{IsTyped};
 ghost use Rattle.tm_guest.specs.Rounds.{AllHalted};
 ghost use Rattle.tm_world.specs.Sound.{Sound};
 ghost use Rattle.tm_top_owed.specs.Runs.{halted_of};
@@ -47,7 +46,6 @@ fn status_of(verdicts: &[u64]) -> u8
 
 // The report on a simulation at whose end all harts are at halt, and its status.
 fn reported(alloc: Global, program: &Program, guest: &Guest<'_>) -> Result<(Text, u8), NoMemory>
-    requires typed { IsTyped program.now }
     requires sound { Sound program.now }
     requires over { IsOver program.now guest.now }
     requires halted { AllHalted guest.now }
@@ -62,7 +60,6 @@ fn reported(alloc: Global, program: &Program, guest: &Guest<'_>) -> Result<(Text
 
 // The line on a simulation whose journal is full while some hart isn't at halt, and its status.
 fn cut(alloc: Global, program: &Program, guest: &Guest<'_>) -> Result<(Text, u8), NoMemory>
-    requires typed { IsTyped program.now }
     requires sound { Sound program.now }
     requires over { IsOver program.now guest.now }
     requires running { ¬ AllHalted guest.now }
@@ -82,9 +79,8 @@ pub fn told(
     program: &Program,
     guest: Guest<'_>,
 ) -> Result<Simulated, NoMemory>
-    requires typed { IsTyped program.now }
     requires sound { Sound program.now }
-    requires over { IsOver program.now guest.entry }
+    requires over { IsOver program.now guest }
     ensures told { IfOk result (λ s.
         IsToldOf program.now guest.entry.limit guest.entry.journal s.text s.status) }
     ensures journal { IfOk result (λ s. s.journal.events ≡ guest.entry.journal) }
