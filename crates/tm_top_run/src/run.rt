@@ -23,7 +23,7 @@ use tm_words::RunWords;
 use tm_world_script::laws::scripts;
 
 // Simulates a program in round order, of at most so many events, and tells it.
-#[tactic(auto, using(crate::proofs::Running::never_stuck, crate::proofs::Running::over))]
+#[tactic(auto, using(crate::proofs::Running::over))]
 fn simulate(alloc: Global, program: &Program, events: u64) -> Result<Simulated, NoMemory>
     requires typed { IsTyped program.now }
     requires sound { Sound program.now }
@@ -87,5 +87,8 @@ pub fn run_command<D: Desk, O: Sink>(
         Ok(simulated) => simulated,
         Err(_) => return Err(Stop::NoMemory),
     };
-    tell_run(simulated, out)
+    match tell_run(simulated, out) {
+        Ok(done) => Ok(done),
+        Err(stop) => Err(stop),
+    }
 }

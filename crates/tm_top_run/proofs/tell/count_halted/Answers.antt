@@ -13,6 +13,10 @@ loop-h-preserved c =
     let test = λ (k : ℕ). (state g k).pc == halt_of g.program k in
     let same = marks (state g h).pc (halt_of g.program h) c.halted.result c.halted.ensures in
     elim c.if-halted.branch [
-      | then-halted w ↦ (omega (arith, few, w.halted-is), w.halted-is ∙ counts test h c.loop-h.halted count (same ∙ w.if-halted))
-      | else-halted w ↦ (omega (arith, few, w.halted-is), w.halted-is ∙ skips test h c.loop-h.halted count (same ∙ w.if-halted))
+      | then-halted w ↦
+        (omega (arith, few, w.halted-is),
+        w.halted-is ∙ counts test h c.loop-h.halted count (same ∙ w.if-halted.true))
+      | else-halted w ↦
+        (omega (arith, few, w.halted-is),
+        w.halted-is ∙ skips test h c.loop-h.halted count (same ∙ w.if-halted.false))
     ]
