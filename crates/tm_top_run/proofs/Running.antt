@@ -1,5 +1,6 @@
 -- A simulation in round order, and the run of an image.
-use Rattle.std.proofs.Common.{◌≡◌, ℕ, ◌≤◌, ◌<◌, List, [], length, Option, Some, None, false, Bool, IsTrue, ◌⊎◌, inl, inr, refl, sym, ap, ap₂, subst, ◌∙◌}
+use Rattle.std.proofs.Common.{◌≡◌, ℕ, ◌≤◌, ◌<◌, List, [], length, Option, Some, None, false, Bool, IsTrue, ◌⊎◌, inl}
+use Rattle.std.proofs.Common.{inr, refl, sym, ap, ap₂, subst, ◌∙◌}
 use Rattle.std.specs.Prelude.{IsSomeAnd}
 use Rattle.std.proofs.lemmas.List.Elements.{All-nil}
 use Rattle.tm_desk.specs.Causes.{Files}
@@ -140,7 +141,7 @@ pub in-order : (p : Program) (lines : List FaultLine) (limit : ℕ) (g t : Guest
 in-order p lines limit g t events is none same ended journal (h, goes) =
     let start = is ∙ ap (λ (ls : List FaultLine). fresh p ls limit) none in
     let end = as-guest p t ended
-        ∙ ap₂ (guest_of p) (limit-of p lines limit g t is same) (sym journal) in
+    ∙ ap₂ (guest_of p) (limit-of p lines limit g t is same) (sym journal) in
     (h, subst (λ (x : Guested). Goes (fresh p [] limit) h x) end (subst (λ (x : Guested). Goes x h t) start goes))
 
 -- ---- the run of an image

@@ -1,7 +1,8 @@
 -- On a legal run of a sound program every verdict is 0.
-use Rattle.std.proofs.Common.{◌≡◌, ℕ, zero, suc, ◌+◌, ◌*◌, ◌<◌, ◌≤◌, List, [], ◌∷◌, ◌++◌, length, map, Bool, true, false, ◌==◌, ◌&&◌, Option, None, Some, refl, sym, ap, subst, ◌∙◌, arith, eqb-true}
+use Rattle.std.proofs.Common.{◌≡◌, ℕ, zero, suc, ◌+◌, ◌<◌, ◌≤◌, List, [], ◌∷◌, ◌++◌, length, map, Bool, true, false}
+use Rattle.std.proofs.Common.{◌==◌, ◌&&◌, Option, None, Some, refl, ap, subst, arith, eqb-true}
 use Rattle.std.specs.Prelude.{IsTrue, unwrap_or, reverse, flat_map, nat_lt, All, if◌then◌else◌}
-use Rattle.std.proofs.lemmas.Bool.{cases_Bool, lt-ltb}
+use Rattle.std.proofs.lemmas.Bool.{lt-ltb}
 use Rattle.std.proofs.lemmas.List.{reverse-append}
 use Rattle.std.proofs.lemmas.List.Elements.{All-nil, All-cons, All-append}
 use Rattle.tm_table.specs.declared.state.Access.{Access}
@@ -13,7 +14,6 @@ use Rattle.tm_plan_script.specs.declared.faults.FaultLine.{FaultLine}
 use Rattle.tm_base.specs.Lists.{count_from}
 use Rattle.tm_world.specs.Lists.{or_else}
 use Rattle.tm_world.specs.Place.{harts, round_count}
-use Rattle.tm_world.specs.Run.{Run, Step, Always, access_of}
 use Rattle.tm_world.specs.Course.{writes_in}
 use Rattle.tm_world.specs.Kinds.{Legal}
 use Rattle.tm_world.specs.Sound.{Sound, NotReported}

@@ -1,11 +1,12 @@
 -- How simulations that have ended are told.
-use Rattle.std.proofs.Common.{◌≡◌, ◌≢◌, ℕ, ◌+◌, ◌*◌, ◌<◌, ◌≤◌, List, [], length, ◌⊎◌, inl, inr, refl, sym, ap, ap₂, subst, ◌∙◌, arith}
+use Rattle.std.proofs.Common.{◌≡◌, ℕ, ◌+◌, ◌*◌, ◌<◌, ◌≤◌, List, [], length, ◌⊎◌, inl, inr, sym, ap, ap₂, subst, ◌∙◌}
+use Rattle.std.proofs.Common.{arith}
 use Rattle.std.specs.Prelude.{slice_index}
 use Rattle.tm_plan_cases.specs.declared.program.Program.{Program}
 use Rattle.tm_plan_cases.specs.declared.journal.Event.{Event}
 use Rattle.tm_plan_script.specs.declared.faults.FaultLine.{FaultLine}
 use Rattle.tm_world.specs.Place.{harts}
-use Rattle.tm_world.specs.Kinds.{Plain, Legal}
+use Rattle.tm_world.specs.Kinds.{Plain}
 use Rattle.tm_world.specs.Sound.{Sound}
 use Rattle.tm_world_script.specs.Script.{FaultedRun}
 use Rattle.tm_guest.specs.Replay.{run_of}
@@ -77,7 +78,7 @@ pub told-cut : (p : Program) (g : Guested) (text : List ℕ) (events halted all 
 told-cut p g text events halted all sound over tells running count halted_is all_is text_is =
     let room : length g.journal ≡ g.limit = by over.ended in
     let whole = text_is ∙ (ap (λ (n : ℕ). full_line n halted all) count
-        ∙ ap₂ (full_line (length g.journal)) halted_is all_is) in
+    ∙ ap₂ (full_line (length g.journal)) halted_is all_is) in
     record {
       simulated = simulated p g sound over tells;
       told = subst (λ (x : Guested). IsTold x text 4) (as-guest p g over) (full (room, running) whole);

@@ -37,11 +37,7 @@ fn opened_of(alloc: Global, file: &Bytes) -> Result<Image, Stop>
 }
 
 /// Reads and opens the image that a run names, or stops where it isn't held, is too long or isn't opened.
-pub fn open_input<D: Desk>(
-    alloc: Global,
-    run: &RunWords<'_>,
-    desk: &mut D,
-) -> Result<Image, Stop>
+pub fn open_input<D: Desk>(alloc: Global, run: &RunWords<'_>, desk: &mut D) -> Result<Image, Stop>
     ensures ok { IfOk result (λ image.
         IsOpenedFor (run_in run.now) D.tells (D.held desk.old) image.program image.seed) }
     ensures typed { IfOk result (λ image. IsTyped image.program) }

@@ -1,8 +1,8 @@
 //! The command that runs an image in round order, and the steps of it that any order has.
 #![tactic(auto)]
 
-pub mod laws;
 mod input;
+pub mod laws;
 mod run;
 mod tell;
 

@@ -67,18 +67,19 @@ fn cut(alloc: Global, program: &Program, guest: &Guest<'_>) -> Result<(Text, u8)
         IsToldOf program.now guest.now.limit guest.now.journal both.0 both.1) }
 {
     let _ = program;
-    let text = full_text(alloc, guest.journal().len(), count_halted(guest), guest.harts())?;
+    let text = full_text(
+        alloc,
+        guest.journal().len(),
+        count_halted(guest),
+        guest.harts(),
+    )?;
     Ok((text, 4))
 }
 
 /// Tells a simulation under no script that has ended, since all harts are at halt or the journal is full: with the
 /// report, and status 0, where all harts are at halt, and else with the line that says so, and status 4. Of a sound
 /// program no case is reported, so that status 1, which would say so, never comes.
-pub fn told(
-    alloc: Global,
-    program: &Program,
-    guest: Guest<'_>,
-) -> Result<Simulated, NoMemory>
+pub fn told(alloc: Global, program: &Program, guest: Guest<'_>) -> Result<Simulated, NoMemory>
     requires sound { Sound program.now }
     requires over { IsOver program.now guest }
     ensures told { IfOk result (λ s.

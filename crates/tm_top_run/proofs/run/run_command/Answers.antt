@@ -15,6 +15,6 @@ returns-clause-stopped g c =
     (sink_change g.O.Sink.tells g.O.Sink.taken g.O.Sink.faults c.args.out.now c.tell_run.new.out)
     (record { text = told.text; status = told.status; journal = Some events })
     (run_of_held (run_in c.args.run.now) g.D.Desk.tells (g.D.Desk.held c.args.desk.now) c.in-Ok.image.program
-        c.in-Ok.image.seed events told.text told.status (Some events) c.in-Ok.ensures.ok
-        c.in-Ok-simulate.ensures.told c.in-Ok-simulate.ensures.order c.requires.order refl)
+    c.in-Ok.image.seed events told.text told.status (Some events) c.in-Ok.ensures.ok
+    c.in-Ok-simulate.ensures.told c.in-Ok-simulate.ensures.order c.requires.order refl)
     c.in-Err-tell_run.ensures.front c.in-Err-tell_run.ensures.cause

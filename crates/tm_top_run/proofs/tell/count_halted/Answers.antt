@@ -1,4 +1,4 @@
-use Rattle.std.proofs.Common.{◌≡◌, ◌∙◌, ℕ, ◌==◌, arith}
+use Rattle.std.proofs.Common.{◌∙◌, ℕ, ◌==◌, arith}
 use Rattle.tm_world.specs.Place.{halt_of}
 use Rattle.tm_guest.specs.Guested.{state}
 use Rattle.tm_top_run.proofs.Halting.{counts, skips, marks}
@@ -13,10 +13,12 @@ loop-h-preserved c =
     let test = λ (k : ℕ). (state g k).pc == halt_of g.program k in
     let same = marks (state g h).pc (halt_of g.program h) c.halted.result c.halted.ensures in
     elim c.if-halted.branch [
-      | then-halted w ↦
-        (omega (arith, few, w.halted-is),
-        w.halted-is ∙ counts test h c.loop-h.halted count (same ∙ w.if-halted.true))
-      | else-halted w ↦
-        (omega (arith, few, w.halted-is),
-        w.halted-is ∙ skips test h c.loop-h.halted count (same ∙ w.if-halted.false))
+      | then-halted w ↦ (
+        omega (arith, few, w.halted-is),
+        w.halted-is ∙ counts test h c.loop-h.halted count (same ∙ w.if-halted.true),
+      )
+      | else-halted w ↦ (
+        omega (arith, few, w.halted-is),
+        w.halted-is ∙ skips test h c.loop-h.halted count (same ∙ w.if-halted.false),
+      )
     ]
