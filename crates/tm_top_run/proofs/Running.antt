@@ -109,8 +109,8 @@ never_stuck p lines keeps typed sound none =
     subst (NeverStuck p) (sym none) (keeps typed sound [] (All-nil _)).unstuck
 
 -- turns that have ended from a fresh guest on
-pub over : (p : Program) (lines : List FaultLine) (limit : ℕ) (g t : Guested) (end : RoundEnd) → g ≡ fresh p lines limit
-    → lines ≡ [] → IsSame g t → EndsAs end t → IsOver p t
+pub over : (p : Program) (lines : List FaultLine) (limit : ℕ) (g t : Guested) (end : RoundEnd)
+    → g ≡ fresh p lines limit → lines ≡ [] → IsSame g t → EndsAs end t → IsOver p t
 over p lines limit g t end is none same ended = record {
   its_program = same.program ∙ ap (λ (x : Guested). x.program) is;
   no_script = same.faults ∙ (ap (λ (x : Guested). x.faults) is ∙ none);

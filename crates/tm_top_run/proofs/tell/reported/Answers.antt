@@ -17,5 +17,6 @@ returns c =
     told-reported c.args.program.now c.args.guest.now c.in_ok-found.found c.in_ok-text.text c.status_of.result
     c.len.result c.requires.sound c.requires.over
     (record { faulted = its.faulted; plain = its.plain; few = its.few }) c.requires.halted
-    (c.in_ok-found.ensures.is ∙ ap (verdicts_of c.args.program.now.cases) its.events) (c.len.ensures ∙ ap length its.events)
-    c.in_ok-text.ensures (subst (λ (v : List ℕ). IsStatusOf v c.status_of.result) c.as_slice.ensures c.status_of.ensures)
+    (c.in_ok-found.ensures.is ∙ ap (verdicts_of c.args.program.now.cases) its.events)
+    (c.len.ensures ∙ ap length its.events) c.in_ok-text.ensures
+    (subst (λ (v : List ℕ). IsStatusOf v c.status_of.result) c.as_slice.ensures c.status_of.ensures)
