@@ -1,0 +1,4 @@
+pub mod Silent
+pub mod Halting
+pub mod Telling
+pub mod Running
