@@ -1,0 +1,3 @@
+mod Rows
+mod Puts
+pub mod Lengths
