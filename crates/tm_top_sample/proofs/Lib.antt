@@ -1,3 +1,4 @@
 mod Rows
 mod Puts
+mod Sums
 pub mod Lengths

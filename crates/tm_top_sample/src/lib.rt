@@ -1,6 +1,8 @@
 //! Samples: the test that a number stands for, and what is said of its run.
 #![tactic(auto)]
 
+mod summary;
 mod texts;
 
+pub use summary::summary_text;
 pub use texts::sample_texts;
