@@ -1,5 +1,5 @@
 -- How long the texts of a sample may be.
-use Rattle.std.proofs.Common.{◌≡◌, ◌≤◌, ◌<◌, ℕ, zero, suc, ◌+◌, ◌*◌, ◌%◌, List, ◌++◌, length, length-append, arith, codes}
+use Rattle.std.proofs.Common.{◌≤◌, ◌<◌, ℕ, zero, suc, ◌+◌, ◌*◌, ◌%◌, List, ◌++◌, length, length-append, arith, codes}
 use Rattle.std.specs.Prelude.{flat_map, Bool, true, false, ◌==◌, if◌then◌else◌}
 use Rattle.std.specs.Fmt.{decimal}
 use Rattle.std.proofs.lemmas.Fmt.{length-decimal-le}
@@ -39,10 +39,10 @@ pub topology_short : (n : ℕ) → length (sample_topology n) ≤ topology_limit
 unfolding sample_topology
 topology_short n =
     let all = short-4 (key_line (codes "cores") (1 + n % 2)) (codes "threads = 2\n")
-        (key_line (codes "line") (sample_line (n % 3))) (key_line (codes "bias") (n % 101)) 15 15 15 15
-        (key_short (codes "cores") (1 + n % 2) (omega arith) (omega arith)) (omega arith)
-        (key_short (codes "line") (sample_line (n % 3)) (omega arith) (line_low (n % 3)))
-        (key_short (codes "bias") (n % 101) (omega arith) (omega arith)) in
+    (key_line (codes "line") (sample_line (n % 3))) (key_line (codes "bias") (n % 101)) 15 15 15 15
+    (key_short (codes "cores") (1 + n % 2) (omega arith) (omega arith)) (omega arith)
+    (key_short (codes "line") (sample_line (n % 3)) (omega arith) (line_low (n % 3)))
+    (key_short (codes "bias") (n % 101) (omega arith) (omega arith)) in
     omega (arith, all)
 
 case_short : (c : ℕ) → c < 1000 → length (sample_case c) ≤ 109
@@ -54,13 +54,13 @@ cases_short : (k a : ℕ) → a + k ≤ 1000 → length (flat_map sample_case (c
 cases_short zero a h = omega arith
 cases_short (suc k) a h =
     let both = short-2 (sample_case a) (flat_map sample_case (count_from (suc a) k)) 109 (109 * k)
-        (case_short a (omega arith)) (cases_short k (suc a) (omega arith)) in
+    (case_short a (omega arith)) (cases_short k (suc a) (omega arith)) in
     omega (arith, both)
 
 pub template_short : (n : ℕ) → length (sample_template n) ≤ template_limit
 unfolding sample_template
 template_short n =
     let all = short-4 (codes "template sample\npasses ") (decimal (2 + n % 3))
-        (codes "\nwindow 0 true 2\nwindow 1 false 2\nwindow 2 own 8\n") (flat_map sample_case (count_from 0 8)) 100 3 100 872
-        (omega arith) (few_digits (2 + n % 3) (omega arith)) (omega arith) (cases_short 8 0 (omega arith)) in
+    (codes "\nwindow 0 true 2\nwindow 1 false 2\nwindow 2 own 8\n") (flat_map sample_case (count_from 0 8)) 100 3 100 872
+    (omega arith) (few_digits (2 + n % 3) (omega arith)) (omega arith) (cases_short 8 0 (omega arith)) in
     omega (arith, all)

@@ -1,4 +1,5 @@
 mod Rows
 mod Puts
 mod Sums
+mod Building
 pub mod Lengths

@@ -1,5 +1,5 @@
 -- Parts that are put one behind another.
-use Rattle.std.proofs.Common.{◌≡◌, ◌∙◌, ap, List, [], ℕ, ◌++◌, append_assoc, Result, Ok, Err, OnOk}
+use Rattle.std.proofs.Common.{◌≡◌, ◌∙◌, ap, List, ℕ, ◌++◌, append_assoc, Result, Ok, Err, OnOk}
 
 -- three parts, the last of which may want memory
 pub three-put : {X E : Type 0} (result : Result X E) (start one two three a b c : List ℕ) → one ≡ start ++ a → two ≡ one ++ b

@@ -1,5 +1,5 @@
 -- How many slots shaped cases may have.
-use Rattle.std.proofs.Common.{◌≡◌, ◌≤◌, ◌<◌, ℕ, ◌+◌, ◌*◌, ◌^◌, List, length, take, get_or, arith, Some}
+use Rattle.std.proofs.Common.{◌≡◌, ◌≤◌, ◌<◌, ℕ, ◌^◌, List, length, get_or, arith, Some}
 use Rattle.std.specs.Prelude.{slice_get}
 use Rattle.std.specs.List.{All, sum_by}
 use Rattle.std.proofs.lemmas.List.Sums.{sum_by-le}
@@ -25,6 +25,6 @@ pub slots_low : (all : Cases) → AreShaped all
     → sum_by (λ (case : Case). sum_by (λ (s : Stream). length s.words) case.streams) all.cases < 2 ^ 64
 slots_low all shaped =
     let sum = sum_by-le (λ (case : Case). sum_by (λ (s : Stream). length s.words) case.streams) 2048 all.cases
-        (λ k d h. case_low all (get_or all.cases k d) shaped (shaped.each k d h)) in
+    (λ k d h. case_low all (get_or all.cases k d) shaped (shaped.each k d h)) in
     let count = shaped.count in
     omega (arith, sum, count.1)

@@ -1,8 +1,10 @@
 //! Samples: the test that a number stands for, and what is said of its run.
 #![tactic(auto)]
 
+mod made;
 mod summary;
 mod texts;
 
+pub use made::sample_image;
 pub use summary::summary_text;
 pub use texts::sample_texts;
