@@ -61,6 +61,7 @@ pub template_short : (n : ℕ) → length (sample_template n) ≤ template_limit
 unfolding sample_template
 template_short n =
     let all = short-4 (codes "template sample\npasses ") (decimal (2 + n % 3))
-    (codes "\nwindow 0 true 2\nwindow 1 false 2\nwindow 2 own 8\n") (flat_map sample_case (count_from 0 8)) 100 3 100 872
+    (codes "\nwindow 0 true 2\nwindow 1 false 2\nwindow 2 own 8\n") (flat_map sample_case
+    (count_from 0 8)) 100 3 100 872
     (omega arith) (few_digits (2 + n % 3) (omega arith)) (omega arith) (cases_short 8 0 (omega arith)) in
     omega (arith, all)

@@ -9,11 +9,13 @@ use Rattle.tm_plan_cases.specs.declared.cases.Case.{Case}
 use Rattle.tm_plan_cases.specs.declared.cases.Stream.{Stream}
 use Rattle.tm_plan_cases.specs.Shaped.{AreShaped, IsShapedCase, IsShapedStream}
 
-streams_low : (all : Cases) (streams : List Stream) → ((h : ℕ) (s : Stream) → slice_get streams h ≡ Some s → IsShapedStream all h s)
+streams_low : (all : Cases) (streams : List Stream) → ((h : ℕ) (s : Stream) → slice_get streams h ≡ Some s
+    → IsShapedStream all h s)
     → All (λ (s : Stream). length s.words ≤ 256) streams
 streams_low all streams each = λ k d h. (each k (get_or streams k d) (slice_get-get_or streams k d h)).few
 
-case_low : (all : Cases) (case : Case) → AreShaped all → IsShapedCase all case → sum_by (λ (s : Stream). length s.words) case.streams ≤ 2048
+case_low : (all : Cases) (case : Case) → AreShaped all → IsShapedCase all case
+    → sum_by (λ (s : Stream). length s.words) case.streams ≤ 2048
 case_low all case shaped its =
     let sum = sum_by-le (λ (s : Stream). length s.words) 256 case.streams (streams_low all case.streams its.each) in
     let harts = shaped.harts in

@@ -41,8 +41,8 @@ fn count_reported(verdicts: &[u64]) -> usize
     verdicts.iter().filter(|verdict| **verdict != 0).count()
 }
 
-/// The line of sample `n`, by its cases and the verdicts on them: how many harts, cases, passes and slots there are, and
-/// how many verdicts aren't 0.
+/// The line of sample `n`, by its cases and the verdicts on them: how many harts, cases, passes and slots there are,
+/// and how many verdicts aren't 0.
 #[tactic(auto, using(crate::proofs::Sums::slots_low), unfolding(tm_top_owed::specs::Sample::summary))]
 pub fn summary_text(alloc: Global, n: u64, cases: &Cases, v: &Verdicts) -> Result<Text, NoMemory>
     requires shaped { AreShaped cases.now }

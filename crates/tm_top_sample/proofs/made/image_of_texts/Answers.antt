@@ -11,5 +11,7 @@ returns-in-Ok-build-clause-ok c =
 
 pub returns-in-Err-Input-clause-err : goal.returns-in-Err-Input-clause-err
 returns-in-Err-Input-clause-err c =
-    let told = rw (c.in-Err-Input.field-0-is, c.as_slice.ensures, c.as_slice-2.ensures) at c.in-Err-Input.ensures.err in
-    template_refused c.args.topo.now c.args.template.now c.args.seed c.in-Err-Input.fault c.in-Ok.ensures.ok told.1 told.0
+    let told =
+    rw (c.in-Err-Input.field-0-is, c.as_slice.ensures, c.as_slice-2.ensures) at c.in-Err-Input.ensures.err in
+    template_refused c.args.topo.now c.args.template.now c.args.seed c.in-Err-Input.fault
+    c.in-Ok.ensures.ok told.1 told.0

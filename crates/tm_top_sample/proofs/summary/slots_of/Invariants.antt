@@ -6,4 +6,5 @@ use Rattle.tm_top_sample.proofs.summary.slots_of.Given as goal
 
 abbrev pub invariant-loop-case : goal.invariant-loop-case
 invariant-loop-case l =
-    l.slots ≡ sum_by (λ (case : Case). sum_by (λ (s : Stream). length s.words) case.streams) (take l.case-index l.cases)
+    l.slots ≡ sum_by (λ (case : Case). sum_by (λ (s : Stream). length s.words) case.streams)
+    (take l.case-index l.cases)
