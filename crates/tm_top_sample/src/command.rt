@@ -1,0 +1,41 @@
+// The command that builds and runs a sample.
+ghost use Rattle.std.specs.Prelude.{IfOk, IfErr};
+ghost use Rattle.tm_words.specs.Words.Command.{to_sample};
+ghost use Rattle.tm_top_owed.specs.Changes.{DeskChange, sink_change, FilesStay};
+ghost use Rattle.tm_top_owed.specs.Owed.{IsDone};
+ghost use Rattle.tm_top_owed.specs.Runs.{events_in};
+ghost use Rattle.tm_top_owed.specs.Steps.{Stopped};
+
+use crate::made::sample_image;
+use crate::simulated::simulated;
+use std::alloc::Global;
+use tm_desk::Sink;
+use tm_top_owed::{Done, Stop, print_text};
+
+/// Builds the sample of a number, simulates it and prints its line. The status is 0 where all harts come to halt, and
+/// 4 where the journal is full before.
+///
+/// It stops where a text of the sample is refused, where the sink fails, or for want of memory. It reads and writes no
+/// file, so that what it owes holds of each desk that stays as it is.
+pub fn sample_command<O: Sink>(alloc: Global, n: u64, out: &mut O) -> Result<Done, Stop>
+    ensures done { IfOk result (λ ended. (desk : DeskChange) → IsDone (to_sample n) desk
+        (sink_change O.tells O.taken O.faults out.old out.new) ended.status (events_in ended.journal)) }
+    ensures stopped { IfErr result (λ stop. (desk : DeskChange) → FilesStay desk → Stopped stop (to_sample n) desk
+        (sink_change O.tells O.taken O.faults out.old out.new)) }
+{
+    let image = match sample_image(alloc, n) {
+        Ok(image) => image,
+        Err(stop) => return Err(stop),
+    };
+    let summed = match simulated(alloc, n, &image.program) {
+        Ok(summed) => summed,
+        Err(_) => return Err(Stop::NoMemory),
+    };
+    match print_text(out, &summed.text) {
+        Ok(()) => Ok(Done {
+            status: summed.status,
+            journal: Some(summed.journal),
+        }),
+        Err(stop) => Err(stop),
+    }
+}
