@@ -3,6 +3,8 @@ pub mod Runs
 pub mod NoLines
 pub mod Rows
 pub mod Stepping
+pub mod Bytes
+pub mod Unique
 pub mod Starting
 pub mod Image
 pub mod Opening
