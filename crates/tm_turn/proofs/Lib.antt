@@ -1,0 +1,9 @@
+pub mod Places
+pub mod Entries
+pub mod Views
+pub mod Moving
+pub mod Turns
+pub mod Recording
+pub mod Dealing
+pub mod Joining
+pub mod Closing
