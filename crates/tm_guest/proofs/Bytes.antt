@@ -1,5 +1,5 @@
 -- Numbers with the same bytes, once they are xored with one number.
-use Rattle.std.proofs.Common.{◌≡◌, ℕ, zero, suc, ◌*◌, ◌/◌, ◌%◌, ◌^◌, ◌<◌, sym, ap, ap₂, ◌∙◌, arith}
+use Rattle.std.proofs.Common.{◌≡◌, ℕ, zero, suc, ◌/◌, ◌%◌, ◌^◌, ◌<◌, sym, ap, ◌∙◌, arith}
 use Rattle.std.specs.Prelude.{bit_xor}
 use Rattle.std.specs.Int.Bits.{xor_self, xor_zero_r, xor_assoc}
 use Rattle.std.proofs.lemmas.Nat.{xor_mod, xor_shr}
@@ -28,5 +28,5 @@ same-xored (suc n) x v u l m h =
     xor-same (v % 256) (u % 256) (x % 256) (sym (xor_mod v x 8) ∙ (low-xored ∙ xor_mod u x 8)) in
     let rest : v / 256 ≡ u / 256 =
     same-xored n (x / 256) (v / 256) (u / 256) (omega arith) (omega arith)
-        (λ i k. sym (next-byte v x i) ∙ (h (suc i) (omega arith) ∙ next-byte u x i)) in
+    (λ i k. sym (next-byte v x i) ∙ (h (suc i) (omega arith) ∙ next-byte u x i)) in
     omega arith

@@ -3,7 +3,7 @@ use Rattle.std.proofs.Common.{◌≡◌, ℕ, ◌+◌, ◌-◌, ◌*◌, ◌/◌
 use Rattle.std.specs.Prelude.{slice_index, if◌then◌else◌}
 use Rattle.std.proofs.lemmas.Bool.{cases_lt}
 use Rattle.tm_plan_cases.specs.declared.program.Program.{Program}
-use Rattle.tm_plan_map.specs.Map.{guest_base, guest_end, text_base, tables_base}
+use Rattle.tm_plan_map.specs.Map.{guest_base, text_base, tables_base}
 use Rattle.tm_plan_cases.specs.Shaped.{IsProgram}
 use Rattle.tm_ram.specs.Region.{Region}
 use Rattle.tm_runs.proofs.Bytes.{within-true, within-false}
@@ -31,8 +31,8 @@ image-by p b t v e f = ap (λ (x : Bool). byte_by p b x (is_table p b)) e ∙ ap
 -- ---- the region
 
 module _ (p : Program) (zeros r t : Region) (sh : IsProgram p) (zero : (k : ℕ) → slice_index zeros.bytes k ≡ 0)
-  (g : IsGuestRegion t) (x : HasText p.text (length p.text) zeros r)
-  (y : HasTables p.tables (length p.tables) r t) where
+    (g : IsGuestRegion t) (x : HasText p.text (length p.text) zeros r)
+    (y : HasTables p.tables (length p.tables) r t) where
   -- outside the tables the region is as the text has left it
   before : (b : ℕ) → 2147483648 ≤ b → (b < 2155872256) ⊎ (2155872256 + length p.tables ≤ b)
       → byte_at t b ≡ slice_index r.bytes (b - t.base)

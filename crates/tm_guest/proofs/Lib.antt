@@ -1,10 +1,12 @@
 pub mod Acts
 pub mod Runs
+pub mod Harts
 pub mod NoLines
 pub mod Rows
 pub mod Stepping
 pub mod Bytes
 pub mod Unique
+pub mod Waits
 pub mod Starting
 pub mod Image
 pub mod Opening

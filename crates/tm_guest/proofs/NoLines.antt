@@ -1,5 +1,5 @@
 -- A script without lines changes nothing: its runs are the plain ones, and each step is the row's.
-use Rattle.std.proofs.Common.{◌≡◌, ℕ, zero, suc, List, [], ◌∷◌, Option, None, Some, refl, ap, subst, ◌∙◌}
+use Rattle.std.proofs.Common.{◌≡◌, ℕ, zero, suc, List, [], Option, None, Some, refl, ap, subst, ◌∙◌}
 use Rattle.std.specs.Prelude.{slice_index, bit_xor}
 use Rattle.std.specs.Int.Bits.{xor_zero_r}
 use Rattle.std.proofs.lemmas.List.{set-get_or}

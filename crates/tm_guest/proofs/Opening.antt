@@ -3,7 +3,6 @@ use Rattle.std.proofs.Common.{◌≡◌, ℕ, ◌^◌, ◌≤◌, ◌<◌, List,
 use Rattle.std.specs.Prelude.{replicate}
 use Rattle.std.proofs.lemmas.Bool.{cases_eq, cases_lt}
 use Rattle.std.proofs.lemmas.List.{get_or-replicate, get_or_past}
-use Rattle.tm_table.specs.declared.state.Cpu.{Cpu}
 use Rattle.tm_plan_cases.specs.declared.program.Program.{Program}
 use Rattle.tm_plan_cases.specs.Shaped.{IsProgram}
 use Rattle.tm_plan_script.specs.declared.faults.FaultLine.{FaultLine}
@@ -11,6 +10,7 @@ use Rattle.tm_ram.specs.Region.{Region}
 use Rattle.tm_world.specs.Kinds.{IsOpening}
 use Rattle.tm_world_script.specs.Script.{NeverStuck}
 use Rattle.tm_guest.specs.declared.decoded.Decoded.{Decoded}
+use Rattle.tm_guest.specs.declared.hart.HartState.{HartState}
 use Rattle.tm_guest.specs.Replay.{opening, steps_of}
 use Rattle.tm_guest.specs.Fields.{AreDecoded, IsMemory, Keeps}
 use Rattle.tm_guest.specs.Start.{AreOpened}
@@ -31,12 +31,12 @@ pub is-opening : (h : ℕ) → h < 2 ^ 64 → IsOpening h (opening h)
 unfolding opening
 is-opening h l = record { count = refl; fits = λ r. opening-fits h r l; zero = refl; number = refl }
 
-pub keeps-fresh : (p : Program) (lines : List FaultLine) (limit : ℕ) (decodes : List Decoded) (cpus : List Cpu)
+pub keeps-fresh : (p : Program) (lines : List FaultLine) (limit : ℕ) (decodes : List Decoded) (states : List HartState)
     (r : Region) → IsProgram p → lines ≡ [] → NeverStuck p lines → limit ≤ 100000000 → AreDecoded p.text decodes
-    → AreOpened p.cases.harts cpus → IsMemory p [] r
-    → Keeps p lines limit decodes cpus r (record { events = []; room = limit })
+    → AreOpened p.cases.harts states → IsMemory p [] r
+    → Keeps p lines limit decodes states r (record { events = []; room = limit })
 unfolding steps_of
-keeps-fresh p lines limit decodes cpus r shaped none never few rows opened memory = record {
+keeps-fresh p lines limit decodes states r shaped none never few rows opened memory = record {
   program = shaped;
   none = none;
   unstuck = never;
@@ -44,7 +44,10 @@ keeps-fresh p lines limit decodes cpus r shaped none never few rows opened memor
   room = refl;
   within = omega arith;
   rows = rows;
-  states = record { count = opened.count; each = opened.each };
+  each_hart = record {
+    count = opened.count;
+    each = λ h d l. let o = opened.each h d l in record { state = o.state; exits = o.exits; flag = o.flag };
+  };
   memory = memory;
   goes_on = record { opening = λ h l. is-opening h (omega (arith, shaped.cases.harts)); only = tt; steps = tt };
 }

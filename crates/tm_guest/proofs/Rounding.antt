@@ -5,10 +5,9 @@ use Rattle.tm_plan_cases.specs.declared.journal.Event.{Event}
 use Rattle.tm_world.specs.Place.{harts}
 use Rattle.tm_guest.specs.declared.turn.Turn.{Turn}
 use Rattle.tm_guest.specs.declared.turn.Turn.TheVariants.{Stepped, Halted, Full}
-use Rattle.tm_guest.specs.declared.turn.RoundEnd.TheVariants as ends
 use Rattle.tm_guest.specs.Guested.{Guested, IsHalted, with_event}
 use Rattle.tm_guest.specs.Turns.{Answers, IsNextEvent, Makes}
-use Rattle.tm_guest.specs.Rounds.{Goes, Begins, Steps, Skips, Wraps, AllHalted, EndsAs, IsSame, Grows}
+use Rattle.tm_guest.specs.Rounds.{Goes, Begins, Steps, Skips, Wraps, AllHalted, IsSame, Grows}
 
 -- Inside one round, before hart h's turn: a hart has stepped, or all harts below h are at halt and nothing has
 -- changed.

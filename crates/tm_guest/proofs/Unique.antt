@@ -50,8 +50,8 @@ module _ (p : Program) (past : List Step) where
       let u = read_value b in
       let same =
       same-value change addr width v u (subst HasShape (sym m.made) m.shape) (subst HasShape (sym k.made) k.shape)
-          (subst (λ (x : Access). Reads (plain_owed p past) (unloaded change x)) (sym m.made) m.reads)
-          (subst (λ (x : Access). Reads (plain_owed p past) (unloaded change x)) (sym k.made) k.reads) in
+      (subst (λ (x : Access). Reads (plain_owed p past) (unloaded change x)) (sym m.made) m.reads)
+      (subst (λ (x : Access). Reads (plain_owed p past) (unloaded change x)) (sym k.made) k.reads) in
       sym m.made ∙ (ap (Read addr width) same ∙ k.made)
 
   -- ---- what is known of a next step, whatever the script
@@ -149,30 +149,32 @@ module _ (p : Program) (past : List Step) where
 
 -- ---- at a guest
 
--- what a next event is, of hart h
+-- the change that is made to the next step of hart h
+abbrev change_at : Program → List FaultLine → List Step → ℕ → Change
+change_at p lines past h =
+    change_in p past (stream_at p h (state_after past h).pc) (change_next p lines past h)
+
+-- what a next event is
 step-known : (p : Program) (lines : List FaultLine) (events : List Event) (h : ℕ) (e : Event) → e.hart ≡ h
     → FaultedRun p lines (run_of p lines (events ++ e ∷ []))
-    → Known p (steps_of p lines events)
-    (change_in p (steps_of p lines events) (stream_at p h (state_after (steps_of p lines events) h).pc)
-    (change_next p lines (steps_of p lines events) h))
+    → Known p (steps_of p lines events) (change_at p lines (steps_of p lines events) h)
     (state_after (steps_of p lines events) h) (stepped p lines (steps_of p lines events) e)
 step-known p lines events h e is goes =
     let past = steps_of p lines events in
     let s = stepped p lines past e in
     let faulted = subst (λ (x : List Step). FaultedRun p lines (opened x)) (steps-more p lines events e) goes in
-    subst (λ (g : ℕ). Known p past (change_in p past (stream_at p g (state_after past g).pc) (change_next p lines past g))
-    (state_after past g) s) is
-    (known p past e.hart (change_next p lines past e.hart) (stream_at p e.hart (state_after past e.hart).pc)
-    (state_after past e.hart) s faulted.steps.0)
+    let hart = state_after past e.hart in
+    subst (λ (g : ℕ). Known p past (change_at p lines past g) (state_after past g) s) is
+    (known p past e.hart (change_next p lines past e.hart) (stream_at p e.hart hart.pc) hart s faulted.steps.0)
 
 pub one-next : (g : Guested) (h : ℕ) (d e : Event) → IsNextEvent g h d → IsNextEvent g h e → d ≡ e
 one-next g h d e m n =
-    let past = steps_of g.program g.faults g.journal in
-    let before = state_after past h in
-    let change = change_in g.program past (stream_at g.program h before.pc) (change_next g.program g.faults past h) in
-    one g.program past h change before (stepped g.program g.faults past d) (stepped g.program g.faults past e) m.hart
-    n.hart (step-known g.program g.faults g.journal h d m.hart m.goes_on)
-    (step-known g.program g.faults g.journal h e n.hart n.goes_on)
+    let p = g.program in
+    let lines = g.faults in
+    let past = steps_of p lines g.journal in
+    one p past h (change_at p lines past h) (state_after past h) (stepped p lines past d) (stepped p lines past e)
+    m.hart n.hart (step-known p lines g.journal h d m.hart m.goes_on)
+    (step-known p lines g.journal h e n.hart n.goes_on)
 
 pub one-next-event : (p : Program) → OneNextEvent p
 one-next-event p g h d e is m n = one-next g h d e m n

@@ -1,8 +1,8 @@
 -- How a guest keeps its state (this project's own).
 use Rattle.std.specs.Prelude.{◌≡◌, ℕ, ◌≤◌, ◌<◌, List, [], length, slice_index, slice_index_or, Some, unwrap_or}
 use Rattle.tm_table.specs.declared.instr.Instr.{Instr}
-use Rattle.tm_table.specs.declared.state.Cpu.{Cpu}
-use Rattle.tm_table.specs.State.{hart_of}
+use Rattle.tm_table.specs.State.{Hart, hart_of}
+use Rattle.tm_table.specs.Row.{row, row_word}
 use Rattle.tm_table.specs.Words.{Fits}
 use Rattle.tm_plan_map.specs.Slots.{instr_of}
 use Rattle.tm_plan_cases.specs.declared.program.Program.{Program}
@@ -10,11 +10,15 @@ use Rattle.tm_plan_map.specs.Map.{guest_base, guest_end}
 use Rattle.tm_plan_journal.specs.Journaled.{Journaled}
 use Rattle.tm_plan_cases.specs.Shaped.{IsProgram}
 use Rattle.tm_ram.specs.Region.{Region}
-use Rattle.tm_world.specs.Place.{harts, image_byte}
-use Rattle.tm_world.specs.Run.{Step, last_write}
+use Rattle.tm_base.specs.Lists.{any}
+use Rattle.tm_world.specs.Place.{harts, exit_of, image_byte, word_at}
+use Rattle.tm_world.specs.Run.{Step, own, phase, last_write}
+use Rattle.tm_world.specs.Kinds.{IsPossible}
+use Rattle.tm_world.specs.Course.{signals, this_phase}
 use Rattle.tm_plan_script.specs.declared.faults.FaultLine.{FaultLine}
 use Rattle.tm_world_script.specs.Script.{FaultedRun, NeverStuck}
 use Rattle.tm_guest.specs.declared.decoded.Decoded.{Decoded}
+use Rattle.tm_guest.specs.declared.hart.HartState.{HartState}
 use Rattle.tm_guest.specs.Replay.{run_of, steps_of, state_after}
 use Rattle.tm_guest.specs.Memory.{IsGuestRegion, byte_at}
 
@@ -29,10 +33,24 @@ pub record AreDecoded (text : List ℕ) (rows : List Decoded) : Type 0 where
   pub count : length rows ≡ length text
   pub each : (k : ℕ) (d : Decoded) → k < length text → IsDecoded (slice_index text k) (slice_index_or rows k d)
 
--- the harts' states after these steps
-pub record AreStates (p : Program) (steps : List Step) (cpus : List Cpu) : Type 0 where
-  pub count : length cpus ≡ harts p
-  pub each : (h : ℕ) (d : Cpu) → h < harts p → hart_of (slice_index_or cpus h d) ≡ state_after steps h
+-- The row of a word that stands at a hart's program counter: the hart's next step is that of the row's instruction,
+-- and its access can be made.
+pub record IsRow (p : Program) (hart : Hart) (at : Decoded) : Type 0 where
+  pub word : word_at p hart.pc ≡ Some at.word
+  pub fits : Fits at.instr
+  pub made : (read : ℕ) → row_word hart at.word read ≡ Some (row hart at.instr read)
+  pub possible : (read : ℕ) → IsPossible (row hart at.instr read).1
+
+-- hart h after these steps: its state, the phase that it is in, and whether it has signalled in it
+pub record IsState (p : Program) (steps : List Step) (h : ℕ) (s : HartState) : Type 0 where
+  pub state : hart_of s.cpu ≡ state_after steps h
+  pub exits : s.phase ≡ phase (exit_of p h) (own h steps)
+  pub flag : s.signalled ≡ any (signals h) (this_phase p h (own h steps))
+
+-- all harts after these steps
+pub record AreStates (p : Program) (steps : List Step) (states : List HartState) : Type 0 where
+  pub count : length states ≡ harts p
+  pub each : (h : ℕ) (d : HartState) → h < harts p → IsState p steps h (slice_index_or states h d)
 
 -- the memory after these steps: at each byte the last write of it, else the image's
 pub record IsMemory (p : Program) (steps : List Step) (r : Region) : Type 0 where
@@ -41,7 +59,7 @@ pub record IsMemory (p : Program) (steps : List Step) (r : Region) : Type 0 wher
 
 -- The fields of a guest: its state is what replaying its journal gives, and its journal is a run that the script has
 -- changed. So far the script has no lines.
-pub record Keeps (p : Program) (lines : List FaultLine) (limit : ℕ) (decodes : List Decoded) (cpus : List Cpu)
+pub record Keeps (p : Program) (lines : List FaultLine) (limit : ℕ) (decodes : List Decoded) (states : List HartState)
     (ram : Region) (journal : Journaled) : Type 0 where
   pub program : IsProgram p
   pub none : lines ≡ []
@@ -50,6 +68,6 @@ pub record Keeps (p : Program) (lines : List FaultLine) (limit : ℕ) (decodes :
   pub room : journal.room ≡ limit
   pub within : length journal.events ≤ limit
   pub rows : AreDecoded p.text decodes
-  pub states : AreStates p (steps_of p lines journal.events) cpus
+  pub each_hart : AreStates p (steps_of p lines journal.events) states
   pub memory : IsMemory p (steps_of p lines journal.events) ram
   pub goes_on : FaultedRun p lines (run_of p lines journal.events)

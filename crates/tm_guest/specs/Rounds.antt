@@ -1,5 +1,5 @@
 -- Turns in round order (this project's own).
-use Rattle.std.specs.Prelude.{◌≡◌, ◌⊎◌, ℕ, suc, ◌<◌, ◌≤◌, length}
+use Rattle.std.specs.Prelude.{◌≡◌, ℕ, suc, ◌<◌, ◌≤◌, length}
 use Rattle.tm_plan_cases.specs.declared.journal.Event.{Event}
 use Rattle.tm_world.specs.Place.{harts}
 use Rattle.tm_guest.specs.declared.turn.RoundEnd.{RoundEnd}

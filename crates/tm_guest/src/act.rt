@@ -1,6 +1,6 @@
 // One step of one hart.
 ghost use Rattle.std.specs.Prelude.{◌≡◌, ℕ};
-ghost use Rattle.tm_table.specs.State.{hart_of};
+ghost use Rattle.tm_table.specs.State.{Hart, hart_of};
 ghost use Rattle.tm_table.specs.Words.{Fits};
 ghost use Rattle.tm_table.specs.Row.{row, effect_by, HasWidth};
 ghost use Rattle.tm_world.specs.Run.{Reads, HasShape, read_value};
@@ -10,7 +10,7 @@ ghost use Rattle.tm_guest.specs.Memory.{IsGuestRegion, LoadsIn, LoadsExactly, Wr
 use crate::decoded::Decoded;
 use tm_plan_cases::Event;
 use tm_ram::Ram;
-use tm_table::{Access, Action, Cpu, action_at, apply};
+use tm_table::{Access, Action, Cpu, Instr, action_at, apply};
 
 /// Makes the step of an instruction at a hart.
 pub fn act(cpu: &mut Cpu, ram: &mut Ram, at: Decoded, hart: u32) -> Event
@@ -27,9 +27,7 @@ pub fn act(cpu: &mut Cpu, ram: &mut Ram, at: Decoded, hart: u32) -> Event
     ensures memory { IsWritten ram.old result.access ram.new }
 {
     let pc = cpu.pc;
-    let action = action_at(cpu, at.instr);
-    let read = read_for(ram, action);
-    let access = apply(cpu, action, at.instr, read);
+    let access = make(cpu, ram, at.instr);
     write_for(ram, access);
     Event {
         hart,
@@ -37,6 +35,34 @@ pub fn act(cpu: &mut Cpu, ram: &mut Ram, at: Decoded, hart: u32) -> Event
         word: at.word,
         access,
     }
+}
+
+/// What the step of an instruction at a hart would do in memory.
+pub fn next_access(cpu: &Cpu, ram: &Ram, instr: Instr) -> Access
+    requires fits { Fits instr }
+    requires possible { (bytes : ℕ) → IsPossible (row (hart_of cpu.now) instr bytes).1 }
+    requires region { IsGuestRegion ram.now }
+    ensures step { (after : Hart) × (row (hart_of cpu.now) instr (read_value result)
+        ≡ (after, result)) }
+    ensures shape { HasShape result }
+    ensures reads { Reads (owed_of ram.now) result }
+{
+    let mut copy = *cpu;
+    make(&mut copy, ram, instr)
+}
+
+/// Makes the step of an instruction at a hart, but for what it writes to memory.
+fn make(cpu: &mut Cpu, ram: &Ram, instr: Instr) -> Access
+    requires fits { Fits instr }
+    requires possible { (bytes : ℕ) → IsPossible (row (hart_of cpu.old) instr bytes).1 }
+    requires region { IsGuestRegion ram.now }
+    ensures step { row (hart_of cpu.old) instr (read_value result) ≡ (hart_of cpu.new, result) }
+    ensures shape { HasShape result }
+    ensures reads { Reads (owed_of ram.now) result }
+{
+    let action = action_at(cpu, instr);
+    let read = read_for(ram, action);
+    apply(cpu, action, instr, read)
 }
 
 /// What an action reads.

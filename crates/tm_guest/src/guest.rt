@@ -1,15 +1,24 @@
 // The guest: one state, stepped hart by hart.
-ghost use Rattle.std.specs.Prelude.{◌≡◌, ◌↔◌, ◌<◌, ◌≤◌, [], length, IsTrue, IfOk};
+ghost use Rattle.std.specs.Prelude.{◌≡◌, ◌↔◌, ◌+◌, ◌<◌, ◌≤◌, ◌^◌, [], length, IsTrue, IfOk};
+ghost use Rattle.tm_base.specs.Lists.{any};
+ghost use Rattle.tm_plan_cases.specs.declared.journal.Event.{Event};
+ghost use Rattle.tm_table.specs.State.{hart_of};
 ghost use Rattle.tm_plan_cases.specs.Shaped.{IsProgram};
-ghost use Rattle.tm_world.specs.Place.{harts};
+ghost use Rattle.tm_world.specs.Place.{harts, exit_of};
+ghost use Rattle.tm_world.specs.Run.{own, phase};
 ghost use Rattle.tm_world.specs.Kinds.{Plain};
+ghost use Rattle.tm_world.specs.Course.{signals, this_phase};
 ghost use Rattle.tm_world_script.specs.Script.{FaultedRun, NeverStuck};
-ghost use Rattle.tm_guest.specs.Guested.{IsHalted, fresh, run, with_event};
+ghost use Rattle.tm_guest.specs.Guested.{IsHalted, fresh, run, state, steps, with_event};
+ghost use Rattle.tm_guest.specs.Fields.{IsRow};
 ghost use Rattle.tm_guest.specs.Turns.{Answers, IsNextEvent};
+ghost use Rattle.tm_guest.specs.Waiting.{Waits};
 
-use crate::act::act;
+use crate::act::next_access;
 use crate::decoded::{Decoded, decoded_text};
-use crate::start::{image, opened};
+use crate::hart::HartState;
+use crate::idle::finds_less;
+use crate::start::{TEXT, image, opened};
 use crate::turn::Turn;
 use std::alloc::Global;
 use std::marker::Model;
@@ -18,7 +27,7 @@ use tm_plan_cases::{Event, Program};
 use tm_plan_journal::Journal;
 use tm_plan_script::Faults;
 use tm_ram::Ram;
-use tm_table::Cpu;
+use tm_table::{Access, Cpu};
 
 /// A machine that runs a program: one memory, and harts that step one at a time. Contracts see the program, the lines
 /// of the script, the limit and the events so far, which give the state of each hart by being replayed. So far the
@@ -28,7 +37,7 @@ pub struct Guest<'a> {
     program: &'a Program,
     faults: Faults,
     decodes: Vec<Decoded>,
-    cpus: Vec<Cpu>,
+    harts: Vec<HartState>,
     ram: Ram,
     journal: Journal,
     limit: u64,
@@ -41,10 +50,14 @@ impl<'a> Model for Guest<'a> {
     ghost Value = { Guested };
 
     ghost view = { λ g. record {
-        program = g.program.now; faults = g.faults; limit = g.limit; journal = g.journal.events } };
+      program = g.program.now;
+      faults = g.faults;
+      limit = g.limit;
+      journal = g.journal.events;
+    } };
 
     ghost invariant = { λ g.
-        Keeps g.program.now g.faults g.limit g.decodes.items g.cpus.items g.ram g.journal };
+        Keeps g.program.now g.faults g.limit g.decodes.items g.harts.items g.ram g.journal };
 }
 
 impl<'a> Guest<'a> {
@@ -66,14 +79,14 @@ impl<'a> Guest<'a> {
         ensures { IfOk result (λ g. g ≡ fresh program.now faults limit) }
     {
         let decodes = decoded_text(alloc, program.text.as_slice())?;
-        let cpus = opened(alloc, program.cases.harts)?;
+        let harts = opened(alloc, program.cases.harts)?;
         let ram = image(alloc, program)?;
         let journal = Journal::start(alloc, limit)?;
         Ok(Guest {
             program,
             faults,
             decodes,
-            cpus,
+            harts,
             ram,
             journal,
             limit,
@@ -86,7 +99,7 @@ impl<'a> Guest<'a> {
         ensures { IsTrue result ↔ IsHalted self.now h }
     {
         let halt = self.program.marks.halts.as_slice()[h as usize];
-        self.cpus[h as usize].pc == halt
+        self.cpu(h).pc == halt
     }
 
     /// Lets hart `h` make its next step, if it isn't at its halt mark and the journal isn't full.
@@ -103,6 +116,23 @@ impl<'a> Guest<'a> {
         }
         let event = self.step(h);
         Turn::Stepped { place, event }
+    }
+
+    /// Whether hart `h` waits for another one: it isn't at its halt mark, and its next step would be an idle read.
+    /// That is a read of another hart's flag, after the hart has written its own in its phase, that finds less than
+    /// the phase's number and 1: the other hart isn't there yet, and the hart has to read again.
+    pub fn waits(&self, h: u32) -> bool
+        requires { h < harts self.now.program }
+        ensures { IsTrue result ↔ Waits self.now h }
+    {
+        if self.halted(h) {
+            return false;
+        }
+        if !self.has_signalled(h) {
+            return false;
+        }
+        let harts = self.program.cases.harts;
+        finds_less(self.next_access(h), h, harts, self.phase(h) + 1)
     }
 
     /// How many harts the program has.
@@ -141,12 +171,59 @@ impl<'a> Guest<'a> {
             program: _,
             faults: _,
             decodes: _,
-            cpus: _,
+            harts: _,
             ram: _,
             journal,
             limit: _,
         } = self;
         journal
+    }
+
+    /// The registers and the program counter of a hart.
+    fn cpu(&self, h: u32) -> &Cpu
+        requires { h < harts self.now.program }
+        ensures { hart_of result.now ≡ state self.now h }
+    {
+        &self.harts[h as usize].cpu
+    }
+
+    /// How many steps a hart has made at its exit mark.
+    fn phase(&self, h: u32) -> u64
+        requires { h < harts self.now.program }
+        ensures value { result ≡ phase (exit_of self.now.program h) (own h (steps self.now)) }
+        ensures room { result + 1 < 2 ^ 64 }
+    {
+        self.harts[h as usize].phase
+    }
+
+    /// Whether a hart has written its flag in its phase.
+    fn has_signalled(&self, h: u32) -> bool
+        requires { h < harts self.now.program }
+        ensures { result
+            ≡ any (signals h) (this_phase self.now.program h (own h (steps self.now))) }
+    {
+        self.harts[h as usize].signalled
+    }
+
+    /// The row at the program counter of a hart that isn't at its halt mark.
+    fn row(&self, h: u32) -> Decoded
+        requires below { h < harts self.now.program }
+        requires off_halt { ¬ IsHalted self.now h }
+        ensures { IsRow self.now.program (state self.now h) result }
+    {
+        let hart = &self.harts[h as usize];
+        let place = (hart.cpu.pc - TEXT) / 4;
+        self.decodes[place as usize]
+    }
+
+    /// What the next step of a hart that isn't at its halt mark would do in memory.
+    fn next_access(&self, h: u32) -> Access
+        requires below { h < harts self.now.program }
+        requires off_halt { ¬ IsHalted self.now h }
+        ensures { (e : Event) × IsNextEvent self.now h e × (e.access ≡ result) }
+    {
+        let at = self.row(h);
+        next_access(self.cpu(h), &self.ram, at.instr)
     }
 
     /// Makes the next step of a hart that isn't at its halt mark.
@@ -157,10 +234,10 @@ impl<'a> Guest<'a> {
         ensures next { IsNextEvent self.old h result }
         ensures after { self.new ≡ with_event self.old result }
     {
-        let cpu = &mut self.cpus[h as usize];
-        let place = (cpu.pc - 0x8000_0000) / 4;
-        let at = self.decodes[place as usize];
-        let event = act(cpu, &mut self.ram, at, h);
+        let at = self.row(h);
+        let exit = self.program.marks.exits.as_slice()[h as usize];
+        let hart = &mut self.harts[h as usize];
+        let event = hart.step(&mut self.ram, at, h, exit);
         self.journal.put(event);
         event
     }

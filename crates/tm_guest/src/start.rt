@@ -5,41 +5,55 @@ ghost use Rattle.tm_plan_cases.specs.Shaped.{IsProgram};
 ghost use Rattle.tm_world.specs.Run.{first_state};
 ghost use Rattle.tm_guest.specs.Replay.{opening};
 ghost use Rattle.tm_guest.specs.Memory.{IsGuestRegion};
-ghost use Rattle.tm_guest.specs.Start.{HasText, HasTables, AreOpened};
+ghost use Rattle.tm_guest.specs.Start.{HasText, HasTables, IsOpened, AreOpened};
 ghost use Rattle.tm_guest.specs.Fields.{IsMemory};
 
+use crate::hart::HartState;
 use std::alloc::Global;
 use tm_base::NoMemory;
 use tm_plan_cases::Program;
 use tm_ram::Ram;
 use tm_table::Cpu;
 
-const TEXT: u64 = 0x8000_0000;
+/// Where the guest's memory and in it the text begin.
+pub const TEXT: u64 = 0x8000_0000;
 
+// Where the tables begin.
 const TABLES: u64 = 0x8080_0000;
 
+// How long the guest's memory is.
 const SIZE: u64 = 0x100_0000;
 
 /// The harts before their first steps.
-pub fn opened(alloc: Global, harts: u32) -> Result<Vec<Cpu>, NoMemory>
+pub fn opened(alloc: Global, harts: u32) -> Result<Vec<HartState>, NoMemory>
     ensures { IfOk result (λ v. AreOpened harts v.items) }
 {
-    let mut cpus = match Vec::with_capacity(alloc, harts as usize) {
-        Ok(cpus) => cpus,
+    let mut states = match Vec::with_capacity(alloc, harts as usize) {
+        Ok(states) => states,
         Err(_) => return Err(NoMemory),
     };
     for h in 0..harts {
-        match cpus.push(opened_at(h)) {
+        match states.push(opened_at(h)) {
             Ok(()) => {}
             Err(_) => return Err(NoMemory),
         }
     }
-    Ok(cpus)
+    Ok(states)
 }
 
 /// A hart before its first step.
+fn opened_at(h: u32) -> HartState
+    ensures { IsOpened h result }
+{
+    HartState {
+        cpu: first_cpu(h),
+        phase: 0,
+        signalled: false,
+    }
+}
+
 #[tactic(auto, unfolding(crate::specs::Replay::opening, tm_plan_map::specs::Map::text_base))]
-fn opened_at(h: u32) -> Cpu
+fn first_cpu(h: u32) -> Cpu
     ensures { hart_of result ≡ first_state (opening h) }
 {
     let mut x = [0; 32];
@@ -47,7 +61,7 @@ fn opened_at(h: u32) -> Cpu
     Cpu::new(TEXT, x)
 }
 
-/// The memory before the first step.
+/// The memory before the first step: the text's words, the tables' bytes, and 0 elsewhere.
 pub fn image(alloc: Global, program: &Program) -> Result<Ram, NoMemory>
     requires { IsProgram program.now }
     ensures { IfOk result (λ r. IsMemory program.now [] r) }
@@ -58,6 +72,7 @@ pub fn image(alloc: Global, program: &Program) -> Result<Ram, NoMemory>
     Ok(ram)
 }
 
+// Puts the words of the text at its begin.
 fn put_text(ram: &mut Ram, text: &[u32])
     requires region { IsGuestRegion ram.old }
     requires few { length text.now ≤ 2097152 }
@@ -69,6 +84,7 @@ fn put_text(ram: &mut Ram, text: &[u32])
     }
 }
 
+// Puts the bytes of the tables at their begin.
 fn put_tables(ram: &mut Ram, tables: &[u8])
     requires region { IsGuestRegion ram.old }
     requires few { length tables.now ≤ 4194304 }

@@ -1,47 +1,15 @@
-use Rattle.std.proofs.Common.{sym, subst}
-use Rattle.tm_table.specs.State.{hart_of}
-use Rattle.tm_table.specs.Row.{effect_by}
-use Rattle.tm_world.specs.Run.{Reads, HasShape}
+use Rattle.std.proofs.Common.{ap, subst}
+use Rattle.tm_table.specs.declared.state.Access.{Access}
+use Rattle.tm_table.specs.State.{Hart}
+use Rattle.tm_world.specs.Run.{read_value}
 use Rattle.tm_world.specs.Kinds.{IsPossible}
-use Rattle.tm_guest.specs.Memory.{owed_of}
-use Rattle.tm_guest.proofs.Acts.{loads-in, writes-in, shape-after, reads-after, possible-after, row-made}
+use Rattle.tm_guest.proofs.Acts.{writes-in}
 use Rattle.tm_guest.proofs.act.act.Goals as goal
-
-pub read_for-read-requires : goal.read_for-read-requires
-read_for-read-requires c =
-    let effect = effect_by c.action_at-action.result in
-    let hart = hart_of c.args.cpu.now in
-    let action = c.action_at-action.ensures in
-    loads-in c.args.ram.now effect hart _ _ c.requires.region action.width
-    (possible-after hart c.args.at.instr effect action.effect c.requires.possible)
 
 pub write_for-requires : goal.write_for-requires
 write_for-requires c =
-    let effect = effect_by c.action_at-action.result in
-    let hart = hart_of c.args.cpu.now in
-    let action = c.action_at-action.ensures in
-    let read = c.read_for-read.result in
-    let made = sym c.apply-access.ensures.access in
-    let shape = shape-after c.args.ram.now effect hart _ _ read action.width c.read_for-read.ensures in
-    let possible = possible-after hart c.args.at.instr effect action.effect c.requires.possible read in
-    writes-in c.args.ram.now c.apply-access.result c.requires.region (subst HasShape made shape)
-    (subst IsPossible made possible)
-
-pub returns-clause-step : goal.returns-clause-step
-returns-clause-step c =
-    let applied = c.apply-access in
-    row-made (hart_of c.args.cpu.now) (hart_of applied.new.cpu) c.args.at.instr
-    (effect_by c.action_at-action.result) c.read_for-read.result applied.result
-    c.action_at-action.ensures.effect applied.ensures.state applied.ensures.access
-
-pub returns-clause-shape : goal.returns-clause-shape
-returns-clause-shape c =
-    subst HasShape (sym c.apply-access.ensures.access)
-    (shape-after c.args.ram.now (effect_by c.action_at-action.result) (hart_of c.args.cpu.now) _ _
-    c.read_for-read.result c.action_at-action.ensures.width c.read_for-read.ensures)
-
-pub returns-clause-reads : goal.returns-clause-reads
-returns-clause-reads c =
-    subst (Reads (owed_of c.args.ram.now)) (sym c.apply-access.ensures.access)
-    (reads-after c.args.ram.now (effect_by c.action_at-action.result) (hart_of c.args.cpu.now) _ _
-    c.read_for-read.result c.read_for-read.ensures)
+    let made = c.make-access.ensures in
+    let access = c.make-access.result in
+    let done = ap (λ (r : Hart × Access). r.1) made.step in
+    writes-in c.args.ram.now access c.requires.region made.shape
+    (subst IsPossible done (c.requires.possible (read_value access)))

@@ -9,10 +9,10 @@ invariant_of-result c =
     let p = c.args.program.now in
     let lines = c.args.faults in
     let decodes = c.in_ok-decodes.decodes.items in
-    let cpus = c.in_ok-cpus.cpus.items in
+    let harts = c.in_ok-harts.harts.items in
     let ram = c.in_ok-ram.ram in
     let asked = c.requires in
     let rows = subst (λ (ws : List ℕ). AreDecoded ws decodes) c.as_slice.ensures c.in_ok-decodes.ensures in
-    subst (λ (j : Journaled). Keeps p lines c.args.limit decodes cpus ram j) (sym c.in_ok-journal.ensures)
-    (keeps-fresh p lines c.args.limit decodes cpus ram asked.program asked.none asked.unstuck asked.few rows
-    c.in_ok-cpus.ensures c.in_ok-ram.ensures)
+    subst (λ (j : Journaled). Keeps p lines c.args.limit decodes harts ram j) (sym c.in_ok-journal.ensures)
+    (keeps-fresh p lines c.args.limit decodes harts ram asked.program asked.none asked.unstuck asked.few rows
+    c.in_ok-harts.ensures c.in_ok-ram.ensures)

@@ -1,69 +1,65 @@
-use Rattle.std.proofs.Common.{arith, set, sym, subst}
-use Rattle.tm_table.specs.State.{hart_of}
+use Rattle.std.proofs.Common.{◌≡◌, ℕ, List, get_or, refl, set, sym, subst}
+use Rattle.tm_table.specs.State.{Hart, hart_of}
 use Rattle.tm_table.specs.Row.{row}
-use Rattle.tm_table.specs.Words.{Fits}
-use Rattle.tm_plan_map.specs.Map.{text_base}
-use Rattle.tm_plan_journal.specs.Journaled.{Journaled}
 use Rattle.tm_world.specs.Kinds.{IsPossible}
-use Rattle.tm_guest.specs.declared.decoded.Decoded.{Decoded}
 use Rattle.tm_guest.specs.Fields.{Keeps}
-use Rattle.tm_guest.proofs.Stepping.{finds-row, turned}
+use Rattle.tm_guest.specs.Waiting.{phase_after, signalled_after}
+use Rattle.tm_guest.proofs.Stepping.{Acts, state-shown, phase-shown, next-one, turned}
 use Rattle.tm_guest.proofs.guest.Guest.step.Goals as goal
 
-pub overflow_sub-place : goal.overflow_sub-place
-unfolding text_base
-overflow_sub-place c =
-    (finds-row c.args.self.now _ _ _ c.args.h _ _ _ _ c.index_mut-cpu.result.now c.self.view_is c.self.invariant
-    c.requires.below c.requires.off_halt c.index_mut-cpu.ensures.value).from
+pub step-event-requires-clause-possible : goal.step-event-requires-clause-possible
+step-event-requires-clause-possible c = λ read.
+    let kept =
+    state-shown c.args.self.now _ _ _ c.args.h _ _ _ _ c.index_mut-hart.result.now c.self.view_is c.self.invariant
+    c.requires.below c.index_mut-hart.ensures.value in
+    subst (λ (hart : Hart). IsPossible (row hart c.row-at.result.instr read).1) (sym kept.state)
+    (c.row-at.ensures.possible read)
 
-pub index-at-requires : goal.index-at-requires
-unfolding text_base
-index-at-requires c =
-    let f =
-    finds-row c.args.self.now _ _ _ c.args.h _ _ _ _ c.index_mut-cpu.result.now c.self.view_is c.self.invariant
-    c.requires.below c.requires.off_halt c.index_mut-cpu.ensures.value in
-    omega (arith, f.few)
-
-pub act-event-requires-clause-fits : goal.act-event-requires-clause-fits
-unfolding text_base
-act-event-requires-clause-fits c =
-    let f =
-    finds-row c.args.self.now _ _ _ c.args.h _ _ _ _ c.index_mut-cpu.result.now c.self.view_is c.self.invariant
-    c.requires.below c.requires.off_halt c.index_mut-cpu.ensures.value in
-    subst (λ (x : Decoded). Fits x.instr) (sym c.index-at.ensures) (f.fits c.index-at.result.now)
-
-pub act-event-requires-clause-possible : goal.act-event-requires-clause-possible
-unfolding text_base
-act-event-requires-clause-possible c = λ read.
-    let f =
-    finds-row c.args.self.now _ _ _ c.args.h _ _ _ _ c.index_mut-cpu.result.now c.self.view_is c.self.invariant
-    c.requires.below c.requires.off_halt c.index_mut-cpu.ensures.value in
-    subst (λ (x : Decoded). IsPossible (row (hart_of c.index_mut-cpu.result.now) x.instr read).1)
-    (sym c.index-at.ensures) (f.possible c.index-at.result.now read)
+pub step-event-requires-clause-room : goal.step-event-requires-clause-room
+step-event-requires-clause-room c =
+    phase-shown c.args.self.now _ _ _ c.args.h _ _ _ _ c.index_mut-hart.result.now c.self.view_is c.self.invariant
+    c.requires.below c.index_mut-hart.ensures.value
 
 pub invariant_of-self : goal.invariant_of-self
-unfolding text_base
 invariant_of-self c =
-    let e = c.act-event.ensures in
-    let old = c.self.inside in
-    let acted = c.act-event in
+    let e = c.step-event.ensures in
+    let held = c.self.inside in
+    let h = c.args.h in
+    let old = c.index_mut-hart.result.now in
+    let new = c.step-event.new.self in
+    let ram = c.step-event.new.ram in
+    let event = c.step-event.result in
+    let at = c.row-at.result in
     let kept =
-    (turned c.args.self.now _ _ _ c.args.h _ _ _ _ _ acted.result c.index_mut-cpu.result.now acted.new.cpu
-    c.index-at.result.now c.self.view_is c.self.invariant c.requires.below c.requires.off_halt c.requires.room
-    c.index_mut-cpu.ensures.value c.index-at.ensures (record {
-      hart = e.hart; pc = e.pc; word = e.word; step = e.step; shape = e.shape; reads = e.reads; memory = e.memory;
-    })).0 in
-    let cpus = set old.cpus.items c.args.h acted.new.cpu in
-    subst (λ (j : Journaled). Keeps old.program.now old.faults old.limit old.decodes.items cpus acted.new.ram j)
-    (sym c.put.ensures) kept
+    state-shown c.args.self.now _ _ _ h _ _ _ _ old c.self.view_is c.self.invariant c.requires.below
+    c.index_mut-hart.ensures.value in
+    let acts : Acts h (hart_of old.cpu) at held.ram event (hart_of new.cpu) =
+    record { hart = e.hart; pc = e.pc; word = e.word; step = e.step; shape = e.shape; reads = e.reads } in
+    let exits =
+    subst (λ (marks : List ℕ). new.phase ≡ phase_after (get_or marks h 0) event.pc old.phase) c.as_slice.ensures
+    e.phase in
+    let flag =
+    subst (λ (marks : List ℕ). new.signalled ≡ signalled_after (get_or marks h 0) h event old.signalled)
+    c.as_slice.ensures e.signalled in
+    subst (Keeps held.program.now held.faults held.limit held.decodes.items (set held.harts.items h new) ram)
+    (sym c.put.ensures)
+    (turned c.args.self.now _ _ _ h _ _ _ _ c.self.view_is c.self.invariant c.requires.below c.requires.off_halt at
+    c.row-at.ensures event (hart_of new.cpu)
+    (subst (λ (hart : Hart). Acts h hart at held.ram event (hart_of new.cpu)) kept.state acts) old new ram
+    c.requires.room c.index_mut-hart.ensures.value refl (record { exits = exits; flag = flag; memory = e.memory }))
 
 pub returns-clause-next : goal.returns-clause-next
-unfolding text_base
 returns-clause-next c =
-    let e = c.act-event.ensures in
-    let acted = c.act-event in
-    (turned c.args.self.now _ _ _ c.args.h _ _ _ _ _ acted.result c.index_mut-cpu.result.now acted.new.cpu
-    c.index-at.result.now c.self.view_is c.self.invariant c.requires.below c.requires.off_halt c.requires.room
-    c.index_mut-cpu.ensures.value c.index-at.ensures (record {
-      hart = e.hart; pc = e.pc; word = e.word; step = e.step; shape = e.shape; reads = e.reads; memory = e.memory;
-    })).1
+    let e = c.step-event.ensures in
+    let h = c.args.h in
+    let old = c.index_mut-hart.result.now in
+    let next = hart_of c.step-event.new.self.cpu in
+    let event = c.step-event.result in
+    let at = c.row-at.result in
+    let kept =
+    state-shown c.args.self.now _ _ _ h _ _ _ _ old c.self.view_is c.self.invariant c.requires.below
+    c.index_mut-hart.ensures.value in
+    let acts : Acts h (hart_of old.cpu) at c.self.inside.ram event next =
+    record { hart = e.hart; pc = e.pc; word = e.word; step = e.step; shape = e.shape; reads = e.reads } in
+    next-one c.args.self.now _ _ _ h _ _ _ _ c.self.view_is c.self.invariant c.requires.below c.requires.off_halt at
+    c.row-at.ensures event next (subst (λ (hart : Hart). Acts h hart at c.self.inside.ram event next) kept.state acts)
