@@ -1,0 +1,105 @@
+// The guest under the lock.
+ghost use Rattle.std.specs.Prelude.{◌≡◌, ◌↔◌, ◌<◌, ◌^◌, [], length, IsTrue};
+ghost use Rattle.tm_world.specs.Place.{harts};
+ghost use Rattle.tm_world_script.specs.Script.{FaultedRun};
+ghost use Rattle.tm_guest.specs.Guested.{run};
+ghost use Rattle.tm_harts.specs.Idle.{NoIdle};
+ghost use Rattle.tm_harts.specs.Turns.{HoldsBack, AnswersOrNone};
+
+use std::marker::Model;
+use tm_guest::{Guest, Turn};
+use tm_plan_cases::{Event, Program};
+use tm_plan_script::Faults;
+use tm_turn::Kept;
+
+/// What never changes of a guest. Contracts speak of it, and no value of it is made.
+pub struct Setup {
+    pub program: Program,
+    pub faults: Faults,
+    pub limit: u64,
+}
+
+/// A guest in whose journal no step is an idle read: none reads another hart's flag, behind its own write of its flag in
+/// this phase, and finds less than the phase's number and 1. Contracts see the guest.
+#[derive(Drop)]
+pub struct Held<'a> {
+    guest: Guest<'a>,
+}
+
+impl<'a> Model for Held<'a> {
+    ghost use Rattle.tm_guest.specs.Guested.{Guested};
+    ghost use Rattle.tm_harts.specs.Idle.{NoIdle};
+
+    ghost Value = { Guested };
+
+    ghost view = { λ h. h.guest };
+
+    ghost invariant = { λ h. NoIdle h.guest };
+}
+
+impl<'a> Kept for Held<'a> {
+    type Entry = Event;
+
+    type Fixed = Setup;
+
+    ghost use Rattle.tm_harts.specs.Mills.{maker_of, setup_of};
+
+    ghost history = { λ h. h.journal };
+
+    ghost maker = { maker_of };
+
+    ghost fixed = { setup_of };
+
+    fn entries(&self) -> u64 {
+        self.guest.journal().len()
+    }
+}
+
+impl<'a> Held<'a> {
+    /// A guest before its first step.
+    pub fn new(guest: Guest<'a>) -> Held<'a>
+        requires { guest.journal ≡ [] }
+        ensures { result ≡ guest.entry }
+    {
+        Held { guest }
+    }
+
+    /// How many harts the program has.
+    pub fn harts(&self) -> u32
+        ensures { result ≡ harts self.now.program }
+    {
+        self.guest.harts()
+    }
+
+    /// A turn of a hart. It makes no event where the hart holds back, and answers `None` there.
+    pub fn turn(&mut self, hart: u32) -> Option<Turn>
+        requires { hart < harts self.old.program }
+        ensures answer { AnswersOrNone self.old hart result self.new }
+        ensures small { self.old.limit < 2 ^ 64 }
+    {
+        if self.holds_back(hart) {
+            return None;
+        }
+        Some(self.guest.advance(hart))
+    }
+
+    /// The guest.
+    pub fn into_guest(self) -> Guest<'a>
+        ensures same { result ≡ self.entry }
+        ensures run { FaultedRun result.program result.faults (run result) }
+        ensures no_idle { NoIdle result }
+    {
+        let Held { guest } = self;
+        let _ = guest.journal();
+        guest
+    }
+
+    /// Whether the hart could step, but would only read a flag that isn't there yet.
+    fn holds_back(&self, hart: u32) -> bool
+        requires { hart < harts self.now.program }
+        ensures answer { IsTrue result ↔ HoldsBack self.now hart }
+        ensures small { self.now.limit < 2 ^ 64 }
+    {
+        self.guest.journal().len() < self.guest.limit() && self.guest.waits(hart)
+    }
+}
