@@ -15,6 +15,10 @@ pub record Milled : Type 0 where
   pub faults : List FaultLine
   pub limit : ℕ
 
+-- the mill of a guest
+abbrev pub mill_of : LineId Setup → Guested → Milled
+mill_of line g = record { line = line; program = g.program; faults = g.faults; limit = g.limit }
+
 -- the mill's guest after these events
 abbrev pub guest_after : Milled → List Event → Guested
 guest_after m events = record { program = m.program; faults = m.faults; limit = m.limit; journal = events }

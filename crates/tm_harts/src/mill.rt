@@ -34,16 +34,11 @@ pub struct Mill<'a> {
 impl<'a> Model for Mill<'a> {
     ghost use Rattle.std.specs.Prelude.{◌≡◌, Some};
     ghost use Rattle.tm_world.specs.Place.{harts};
-    ghost use Rattle.tm_harts.specs.Mills.{Milled, setup_of};
+    ghost use Rattle.tm_harts.specs.Mills.{Milled, mill_of, setup_of};
 
     ghost Value = { Milled };
 
-    ghost view = { λ m. record {
-      line = m.line;
-      program = m.start.value.program;
-      faults = m.start.value.faults;
-      limit = m.start.value.limit;
-    } };
+    ghost view = { λ m. mill_of m.line m.start.value };
 
     ghost invariant = { λ m. (m.line.fixed ≡ Some (setup_of m.start.value))
         × (m.line.seats ≡ harts m.start.value.program) };
@@ -60,6 +55,10 @@ impl<'a> Mill<'a> {
     {
         let held = Held::new(guest);
         let harts = held.harts();
+        if harts == 0 {
+            // No program is without harts, but no call of the guest says so.
+            return Err(NoMemory);
+        }
         let start = Snapshot::of(&held);
         let (line, seats) = Line::start(alloc, held, harts)?;
         Ok((Mill { line, start }, seats))
