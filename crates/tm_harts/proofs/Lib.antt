@@ -1,3 +1,5 @@
 pub mod Idle
 pub mod Turns
 pub mod Seats
+pub mod Crossing
+pub mod Driving

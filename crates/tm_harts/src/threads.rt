@@ -91,7 +91,8 @@ impl<'b, 'a, R: Wait + Sync, G: Gate> Work<Seat<'a>> for Driver<'b, 'a, R, G> {
                     }
                 }
                 Some(Turn::Stepped { .. }) => held_back = 0,
-                Some(Turn::Halted | Turn::Full) => return,
+                Some(Turn::Halted) => return,
+                Some(Turn::Full) => return,
             }
         }
         unreachable!()
