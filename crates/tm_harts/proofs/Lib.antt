@@ -3,3 +3,4 @@ pub mod Turns
 pub mod Seats
 pub mod Crossing
 pub mod Driving
+pub mod Callers

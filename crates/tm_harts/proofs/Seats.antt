@@ -4,7 +4,7 @@ use Rattle.tm_plan_cases.specs.declared.journal.Event.{Event}
 use Rattle.tm_world.specs.Place.{harts}
 use Rattle.tm_guest.specs.Guested.{Guested}
 use Rattle.tm_turn.specs.Seats.{LineId, SeatState, AreNew, AreAllOutside, HasNumber}
-use Rattle.tm_turn.proofs.Places.{got_within, in_bounds, written_back}
+use Rattle.tm_turn.proofs.Places.{got_within, in_bounds}
 use Rattle.tm_harts.specs.declared.held.Setup.{Setup}
 use Rattle.tm_harts.specs.Mills.{Milled, mill_of, AreAllOf}
 use Rattle.tm_harts.specs.Driven.{AreDriven}

@@ -1,5 +1,5 @@
 // The guest under the lock.
-ghost use Rattle.std.specs.Prelude.{◌≡◌, ◌↔◌, ◌<◌, ◌^◌, [], length, IsTrue};
+ghost use Rattle.std.specs.Prelude.{◌≡◌, ◌↔◌, ◌<◌, ◌^◌, [], IsTrue};
 ghost use Rattle.tm_world.specs.Place.{harts};
 ghost use Rattle.tm_world_script.specs.Script.{FaultedRun};
 ghost use Rattle.tm_guest.specs.Guested.{run};
@@ -19,8 +19,8 @@ pub struct Setup {
     pub limit: u64,
 }
 
-/// A guest in whose journal no step is an idle read: none reads another hart's flag, behind its own write of its flag in
-/// this phase, and finds less than the phase's number and 1. Contracts see the guest.
+/// A guest in whose journal no step is an idle read, which is a read of another hart's flag, after the hart has written
+/// its own in its phase, that finds less than the phase's number and 1. Contracts see the guest.
 #[derive(Drop)]
 pub struct Held<'a> {
     guest: Guest<'a>,
@@ -57,7 +57,7 @@ impl<'a> Kept for Held<'a> {
 
 impl<'a> Held<'a> {
     /// A guest before its first step.
-    pub fn new(guest: Guest<'a>) -> Held<'a>
+    pub(crate) fn new(guest: Guest<'a>) -> Held<'a>
         requires { guest.journal ≡ [] }
         ensures { result ≡ guest.entry }
     {
@@ -65,17 +65,17 @@ impl<'a> Held<'a> {
     }
 
     /// How many harts the program has.
-    pub fn harts(&self) -> u32
+    pub(crate) fn harts(&self) -> u32
         ensures { result ≡ harts self.now.program }
     {
         self.guest.harts()
     }
 
     /// A turn of a hart. It makes no event where the hart holds back, and answers `None` there.
-    pub fn turn(&mut self, hart: u32) -> Option<Turn>
+    pub(crate) fn turn(&mut self, hart: u32) -> Option<Turn>
         requires { hart < harts self.old.program }
         ensures answer { AnswersOrNone self.old hart result self.new }
-        ensures small { self.old.limit < 2 ^ 64 }
+        ensures limit { self.old.limit < 2 ^ 64 }
     {
         if self.holds_back(hart) {
             return None;
@@ -83,22 +83,23 @@ impl<'a> Held<'a> {
         Some(self.guest.advance(hart))
     }
 
-    /// The guest.
-    pub fn into_guest(self) -> Guest<'a>
+    /// The guest. Its journal is a run of its program that its script has changed.
+    pub(crate) fn into_guest(self) -> Guest<'a>
         ensures same { result ≡ self.entry }
         ensures run { FaultedRun result.program result.faults (run result) }
         ensures no_idle { NoIdle result }
     {
         let Held { guest } = self;
+        // What the guest's type keeps of its journal, the call that lends the journal says.
         let _ = guest.journal();
         guest
     }
 
-    /// Whether the hart could step, but would only read a flag that isn't there yet.
+    /// Whether a hart isn't at its halt mark, and there is room for its next step, but this would be an idle read.
     fn holds_back(&self, hart: u32) -> bool
         requires { hart < harts self.now.program }
         ensures answer { IsTrue result ↔ HoldsBack self.now hart }
-        ensures small { self.now.limit < 2 ^ 64 }
+        ensures limit { self.now.limit < 2 ^ 64 }
     {
         self.guest.journal().len() < self.guest.limit() && self.guest.waits(hart)
     }

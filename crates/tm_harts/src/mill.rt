@@ -18,8 +18,9 @@ use tm_base::NoMemory;
 use tm_guest::{Guest, Turn};
 use tm_turn::{Line, LineSeat};
 
-/// A seat of a mill. Its number is that of its hart; contracts see too what it has `seen` of the journal, `mine`, the
-/// events of its hart among these, and `counted`, the greatest number of events that it was told.
+/// A seat of a mill, with which one thread at a time takes a hart's turns. Its number is that of the hart. Contracts see
+/// besides what it has `seen` of the journal, `mine`, the events of its hart in it, and `counted`, the greatest number
+/// of events that it was told.
 pub type Seat<'a> = LineSeat<Held<'a>>;
 
 /// A guest whose harts take turns, each with a seat of its own.
@@ -28,6 +29,7 @@ pub type Seat<'a> = LineSeat<Held<'a>>;
 #[derive(Drop)]
 pub struct Mill<'a> {
     line: Line<Held<'a>>,
+    // The guest at the start, as contracts see it.
     start: Snapshot<Held<'a>>,
 }
 
@@ -45,7 +47,7 @@ impl<'a> Model for Mill<'a> {
 }
 
 impl<'a> Mill<'a> {
-    /// A mill of a guest before its first step, and a seat for each hart, in the order of the harts.
+    /// A mill of a guest before its first step, and one seat for each hart, in the order of the harts.
     pub fn start(alloc: Global, guest: Guest<'a>) -> Result<(Mill<'a>, Vec<Seat<'a>>), NoMemory>
         requires { guest.journal ≡ [] }
         ensures guest { IfOk result (λ r. guest_after r.0 [] ≡ guest.entry) }
@@ -56,7 +58,7 @@ impl<'a> Mill<'a> {
         let held = Held::new(guest);
         let harts = held.harts();
         if harts == 0 {
-            // No program is without harts, but no call of the guest says so.
+            // No guest is without harts: its type keeps that, but none of its calls says it.
             return Err(NoMemory);
         }
         let start = Snapshot::of(&held);
@@ -64,9 +66,9 @@ impl<'a> Mill<'a> {
         Ok((Mill { line, start }, seats))
     }
 
-    /// A turn of the seat's hart, which makes one event at most, while it holds the guest. It answers what the guest's
-    /// `advance` answers there; and `None`, where the hart holds back: where it isn't at its halt mark, there is room
-    /// for an event, and its next step would be an idle read. It may wait for the guest.
+    /// A turn of the seat's hart, which makes at most one event while it holds the guest. It answers `None`, and makes no
+    /// event, where the hart holds back: where it isn't at its halt mark, the journal has fewer events than the limit,
+    /// and the hart's next step would be an idle read. Else it answers what the guest's `advance` gives. It may wait.
     pub fn turn<R: Wait>(&self, rt: &R, seat: &mut Seat<'a>) -> Option<Turn>
         requires { IsOf self.now seat.old }
         ensures stays { Stays self.now seat.old seat.new }
@@ -80,8 +82,8 @@ impl<'a> Mill<'a> {
         answer
     }
 
-    /// How many events there are, by one load, whoever is at work on the guest. It doesn't wait. It is never less than
-    /// what the seat has seen, or was told before.
+    /// How many events there are, by one load. It doesn't wait, whoever holds the guest. The number is at least that of
+    /// the events that the seat has seen, and at least what the seat was told before.
     pub fn progress(&self, seat: &mut Seat<'a>) -> u64
         requires { IsOf self.now seat.old }
         ensures stays { IsOf self.now seat.new }

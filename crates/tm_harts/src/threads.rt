@@ -10,12 +10,12 @@ use std::thread::Threads;
 use tm_desk::Gate;
 use tm_guest::Turn;
 
-/// How many times in a row a hart may hold back before its work ends.
+/// How many times in a row a hart may hold back until its work ends.
 const PATIENCE: u32 = 10_000_000;
 
-/// Drives each seat by work of its own, which a thread does where threads are to be had. The work passes the gate and
-/// takes a turn, again and again, until the hart is at its halt mark, there is no room, or the hart has held back
-/// 10,000,000 times in a row. It may wait, and takes no memory.
+/// Drives each seat by work of its own, which a thread does where threads are to be had, and returns when all are done.
+/// The work on a seat passes the gate and takes a turn, over and over, until the turn answers `Halted` or `Full`, or has
+/// answered `None` 10,000,000 times in a row. It may wait, and takes no memory.
 pub fn run_threads<'a, R: Threads + Wait + Sync, G: Gate>(
     rt: &R,
     mill: &Mill<'a>,
@@ -30,8 +30,8 @@ pub fn run_threads<'a, R: Threads + Wait + Sync, G: Gate>(
     work_on_each(rt, &Driver { rt, mill, gate }, seats);
 }
 
-/// What is done to a value, by any thread. (A closure that holds the mill can't be passed where many threads may call
-/// it, since the seats that it is called with name the lifetime of the mill's guest.)
+/// Work on a value, which any thread may do. (A closure won't do in its place: the seats name the lifetime of the guest
+/// of the mill that it would hold, and a closure's parameters have lifetimes of their own.)
 trait Work<T>: Sync {
     ghost accepts: { Self → T → Type 0 };
 
@@ -42,7 +42,7 @@ trait Work<T>: Sync {
         ensures { leaves self.now value.old value.new };
 }
 
-/// Does the work on each value, by a thread of its own where threads are to be had.
+/// Works on each value, in a thread of its own where threads are to be had.
 fn work_on_each<R: Threads + Sync, W: Work<T>, T: Send>(rt: &R, work: &W, values: &mut [T])
     requires { (k : ℕ) (x : T) → slice_get values.old k ≡ Some x → W.accepts work.now x }
     ensures same { length values.new ≡ length values.old }

@@ -14,7 +14,7 @@ leave-requires-clause-history g c = may_leave c.args.seat.now c.enter-held.new.s
 pub leave-requires-clause-small : goal.leave-requires-clause-small
 leave-requires-clause-small g c =
     stays_small c.enter-held.result c.turn-answer.new.self _ _ c.turn-answer.result c.turn-answer.ensures.answer
-    c.enter-held.ensures.small c.turn-answer.ensures.small
+    c.enter-held.ensures.small c.turn-answer.ensures.limit
 
 is_left : (g : Over) (c : goal.After-leave g) → IsLeft c.args.seat.now c.enter-held.new.seat c.enter-held.result
     c.turn-answer.new.self c.number.result c.turn-answer.result c.args.self.now c.leave.new.seat
