@@ -3,17 +3,18 @@ use Rattle.std.proofs.Common.{◌≡◌, ◌⊎◌, ℕ, zero, suc, List, [], �
 use Rattle.std.proofs.Common.{inl, inr, refl, sym, ap, ◌∙◌, subst}
 use Rattle.tm_plan_cases.specs.declared.journal.Event.{Event}
 use Rattle.tm_turn.specs.Seats.{SeatState, HasNumber}
-use Rattle.tm_turn.proofs.Places.{one_value, none_some, written_back}
+use Rattle.tm_turn.proofs.Places.{one_value, written_back}
 use Rattle.tm_harts.specs.declared.held.Setup.{Setup}
 use Rattle.tm_harts.specs.Mills.{Milled, IsOf, AreAllOf}
 
 -- They were lent as the Vec's slice and came back.
-pub all_back : (m : Milled) (n : ℕ) (old new : List (SeatState Event Setup)) → n ≡ length old → length new ≡ length old
-    → AreAllOf m new → AreAllOf m (take n (new ++ drop (length new) old))
+pub all_back : (m : Milled) (n : ℕ) (old new : List (SeatState Event Setup)) → n ≡ length old
+    → length new ≡ length old → AreAllOf m new → AreAllOf m (take n (new ++ drop (length new) old))
 all_back m n old new long same a = subst (AreAllOf m) (sym (written_back n new old (long ∙ sym same))) a
 
 module _ {A : Type 0} where
-  put_or_old : (l : List A) (k j : ℕ) (a b : A) → slice_get (set l k a) j ≡ Some b → (b ≡ a) ⊎ (slice_get l j ≡ Some b)
+  put_or_old : (l : List A) (k j : ℕ) (a b : A) → slice_get (set l k a) j ≡ Some b
+      → (b ≡ a) ⊎ (slice_get l j ≡ Some b)
   put_or_old [] k j a b e = inr e
   put_or_old (x ∷ xs) zero zero a b e = inl (one_value (sym e))
   put_or_old (x ∷ xs) zero (suc j) a b e = inr e
@@ -40,11 +41,11 @@ all_after m seats k s t at of number a = record {
     each j x (inl e) = subst (IsOf m) (sym e) of
     each j x (inr e) = a.each j x e
 
+    found : (h j : ℕ) (x : SeatState Event Setup) → x.number ≡ h
+        → (slice_get (set seats k t) j ≡ Some x) ⊎ ((x ≡ s) × (slice_get (set seats k t) j ≡ Some t))
+        → HasNumber h (set seats k t)
+    found h j x is (inl e) = (j, x, e, is)
+    found h j x is (inr e) = (j, t, e.1, number ∙ (sym (ap (λ (y : SeatState Event Setup). y.number) e.0) ∙ is))
+
     all : (h : ℕ) → HasNumber h seats → HasNumber h (set seats k t)
     all h (j, x, e, is) = found h j x is (stays_or_put seats k j t s x at e)
-      where
-        found : (h j : ℕ) (x : SeatState Event Setup) → x.number ≡ h
-            → (slice_get (set seats k t) j ≡ Some x) ⊎ ((x ≡ s) × (slice_get (set seats k t) j ≡ Some t))
-            → HasNumber h (set seats k t)
-        found h j x is (inl e) = (j, x, e, is)
-        found h j x is (inr e) = (j, t, e.1, number ∙ (sym (ap (λ (y : SeatState Event Setup). y.number) e.0) ∙ is))

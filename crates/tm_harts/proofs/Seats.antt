@@ -1,12 +1,11 @@
 -- Seats of a mill: those that are new, and those that were driven.
-use Rattle.std.proofs.Common.{◌≡◌, ℕ, ◌+◌, ◌<◌, List, length, slice_get, Some, sym, ap, ◌∙◌, subst, arith, refl}
+use Rattle.std.proofs.Common.{◌≡◌, ℕ, List, length, ap, ◌∙◌, arith}
 use Rattle.tm_plan_cases.specs.declared.journal.Event.{Event}
 use Rattle.tm_world.specs.Place.{harts}
-use Rattle.tm_guest.specs.Guested.{Guested}
 use Rattle.tm_turn.specs.Seats.{LineId, SeatState, AreNew, AreAllOutside, HasNumber}
 use Rattle.tm_turn.proofs.Places.{got_within, in_bounds}
 use Rattle.tm_harts.specs.declared.held.Setup.{Setup}
-use Rattle.tm_harts.specs.Mills.{Milled, mill_of, AreAllOf}
+use Rattle.tm_harts.specs.Mills.{Milled, AreAllOf}
 use Rattle.tm_harts.specs.Driven.{AreDriven}
 
 -- New seats, one for each hart, are all the mill's.

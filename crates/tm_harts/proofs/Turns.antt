@@ -1,5 +1,6 @@
 -- What follows from the answer of a turn.
-use Rattle.std.proofs.Common.{◌≡◌, ℕ, ◌<◌, List, [], ◌∷◌, ◌++◌, length, drop, Option, Some, None, inl, inr, sym, ap, ◌∙◌, subst, true, false}
+use Rattle.std.proofs.Common.{◌≡◌, ℕ, ◌<◌, List, [], ◌∷◌, ◌++◌, length, drop, Option, Some, None}
+use Rattle.std.proofs.Common.{true, false, inl, inr, sym, ap, ◌∙◌, subst}
 use Rattle.std.proofs.Common.{arith, append_assoc, append-nil, length-append}
 use Rattle.tm_plan_cases.specs.declared.journal.Event.{Event}
 use Rattle.tm_guest.specs.declared.turn.Turn.{Turn}
@@ -14,15 +15,26 @@ use Rattle.tm_harts.specs.Turns.{AnswersOrNone, IsTurn, event_in}
 
 -- ---- the guest after a turn
 
--- The journal goes on by the event that the turn answers.
-pub goes_on : (g after : Guested) (h : ℕ) (answer : Option Turn) → AnswersOrNone g h answer after
-    → after.journal ≡ g.journal ++ event_in answer
-goes_on g after h None a = ap (λ (x : Guested). x.journal) a.1 ∙ sym (append-nil g.journal)
-goes_on g after h (Some Halted) a = ap (λ (x : Guested). x.journal) a.1.1 ∙ sym (append-nil g.journal)
-goes_on g after h (Some Full) a = ap (λ (x : Guested). x.journal) a.1.2 ∙ sym (append-nil g.journal)
-goes_on g after h (Some (Stepped place e)) a = ap (λ (x : Guested). x.journal) a.1.longer
+as_it_was : (g : Guested) → g ≡ record g { journal = g.journal ++ [] }
+as_it_was g = ap (λ (events : List Event). record g { journal = events }) (sym (append-nil g.journal))
 
--- That is one event at most, of the turn's hart.
+-- The turn leaves the guest with the event more that it answers.
+left : (g after : Guested) (h : ℕ) (answer : Option Turn) → AnswersOrNone g h answer after
+    → after ≡ record g { journal = g.journal ++ event_in answer }
+left g after h None a = a.1 ∙ as_it_was g
+left g after h (Some Halted) a = a.1.1 ∙ as_it_was g
+left g after h (Some Full) a = a.1.2 ∙ as_it_was g
+left g after h (Some (Stepped place e)) a = a.1.longer
+
+journal_of : (g after : Guested) (h : ℕ) (answer : Option Turn) → AnswersOrNone g h answer after
+    → after.journal ≡ g.journal ++ event_in answer
+journal_of g after h answer a = ap (λ (x : Guested). x.journal) (left g after h answer a)
+
+same_setup : (g after : Guested) (h : ℕ) (answer : Option Turn) → AnswersOrNone g h answer after
+    → setup_of after ≡ setup_of g
+same_setup g after h answer a = ap setup_of (left g after h answer a)
+
+-- It adds one event at most, of the turn's hart.
 pub adds_one : (g after : Guested) (h : ℕ) (answer : Option Turn) → AnswersOrNone g h answer after
     → AddsAtMostOne maker_of h g.journal after.journal
 adds_one g after h None a = inl (ap (λ (x : Guested). x.journal) a.1)
@@ -30,30 +42,25 @@ adds_one g after h (Some Halted) a = inl (ap (λ (x : Guested). x.journal) a.1.1
 adds_one g after h (Some Full) a = inl (ap (λ (x : Guested). x.journal) a.1.2)
 adds_one g after h (Some (Stepped place e)) a = inr (e, ap (λ (x : Guested). x.journal) a.1.longer, a.1.next.hart)
 
--- The turn leaves program, script and limit.
-pub same_setup : (g after : Guested) (h : ℕ) (answer : Option Turn) → AnswersOrNone g h answer after
-    → setup_of after ≡ setup_of g
-same_setup g after h None a = ap setup_of a.1
-same_setup g after h (Some Halted) a = ap setup_of a.1.1
-same_setup g after h (Some Full) a = ap setup_of a.1.2
-same_setup g after h (Some (Stepped place e)) a = ap setup_of a.1.longer
-
 -- The journal stays below what is above the limit.
 pub stays_small : (g after : Guested) (h most : ℕ) (answer : Option Turn) → AnswersOrNone g h answer after
     → length g.journal < most → g.limit < most → length after.journal < most
-stays_small g after h most None a few room = omega (arith, ap (λ (x : Guested). length x.journal) a.1)
-stays_small g after h most (Some Halted) a few room = omega (arith, ap (λ (x : Guested). length x.journal) a.1.1)
-stays_small g after h most (Some Full) a few room = omega (arith, ap (λ (x : Guested). length x.journal) a.1.2)
+stays_small g after h most None a few room = subst (λ (x : Guested). length x.journal < most) (sym a.1) few
+stays_small g after h most (Some Halted) a few room = subst (λ (x : Guested). length x.journal < most) (sym a.1.1) few
+stays_small g after h most (Some Full) a few room = subst (λ (x : Guested). length x.journal < most) (sym a.1.2) few
 stays_small g after h most (Some (Stepped place e)) a few room =
     omega (arith, a.1.room, ap (λ (x : Guested). length x.journal) a.1.longer, length-append g.journal (e ∷ []))
 
 -- ---- the mill's guest
 
+-- the guest with this setup, after these events
+abbrev with_journal : List Event → Setup → Guested
+with_journal events s = record { program = s.program; faults = s.faults; limit = s.limit; journal = events }
+
 -- A guest with what the first one has that never changes is the mill's, after the events of its journal.
 as_guest_after : (line : LineId Setup) (first g : Guested) → setup_of g ≡ setup_of first
     → g ≡ guest_after (mill_of line first) g.journal
-as_guest_after line first g e =
-    ap (λ (s : Setup). record { program = s.program; faults = s.faults; limit = s.limit; journal = g.journal }) e
+as_guest_after line first g e = ap (with_journal g.journal) e
 
 pub is_guest_after : (m : Milled) (line : LineId Setup) (first g : Guested) → mill_of line first ≡ m
     → line.fixed ≡ Some (setup_of first) → Some (setup_of g) ≡ line.fixed → g ≡ guest_after m g.journal
@@ -68,8 +75,8 @@ begins_then before between after a b =
     (a.0 ++ b.0, b.1 ∙ (ap (λ l. l ++ b.0) a.1 ∙ append_assoc before a.0 b.0))
 
 module _ (old entered : SeatState Event Setup) (found after : Guested) (number : ℕ) (answer : Option Turn) where
-  -- what a turn was told between entering and leaving: of the seat that entered, whose number it read, and of the guest
-  -- that it found and left
+  -- what a turn was told between entering and leaving: of the seat that entered, whose number it read, and of the
+  -- guest that it found and left
   pub record IsInside : Type 0 where
     pub seat : entered ≡ record old { inside = true; seen = found.journal }
     pub begins : BeginsWith found.journal old.seen
@@ -101,21 +108,21 @@ module _ (old entered : SeatState Event Setup) (found after : Guested) (number :
   seen_is : {m : Milled} {new : SeatState Event Setup} → IsLeft m new → new.seen ≡ after.journal
   seen_is t = ap (λ (s : SeatState Event Setup). s.seen) t.left
 
-  goes_on_seen : {m : Milled} {new : SeatState Event Setup} → IsLeft m new → new.seen ≡ found.journal ++ event_in answer
-  goes_on_seen t = seen_is t ∙ goes_on found after old.number answer (answers_old t.told)
+  seen_grows : {m : Milled} {new : SeatState Event Setup} → IsLeft m new
+      → new.seen ≡ found.journal ++ event_in answer
+  seen_grows t = seen_is t ∙ journal_of found after old.number answer (answers_old t.told)
 
   after_is : {m : Milled} {new : SeatState Event Setup} → IsLeft m new → after ≡ guest_after m new.seen
   after_is {m = m} t =
       let same = same_setup found after old.number answer (answers_old t.told) ∙ ap setup_of t.guest in
-      ap (λ (s : Setup). record { program = s.program; faults = s.faults; limit = s.limit; journal = after.journal }) same
-      ∙ ap (guest_after m) (sym (seen_is t))
+      ap (with_journal after.journal) same ∙ ap (guest_after m) (sym (seen_is t))
 
   mine_is : {m : Milled} {new : SeatState Event Setup} → IsLeft m new → new.mine ≡ old.mine ++ event_in answer
   mine_is t =
       ap (λ (s : SeatState Event Setup). s.mine) t.left
       ∙ (ap (λ (s : SeatState Event Setup). s.mine ++ drop (length s.seen) after.journal) t.told.seat
       ∙ ap (λ l. old.mine ++ l)
-      (ap (drop (length found.journal)) (goes_on found after old.number answer (answers_old t.told))
+      (ap (drop (length found.journal)) (journal_of found after old.number answer (answers_old t.told))
       ∙ after_seen found.journal (event_in answer)))
 
   pub is_turn : (m : Milled) (new : SeatState Event Setup) → IsLeft m new → IsTurn m old answer new
@@ -124,9 +131,9 @@ module _ (old entered : SeatState Event Setup) (found after : Guested) (number :
     begins = t.told.begins;
     answers = subst (λ (g : Guested × Guested). AnswersOrNone g.0 old.number answer g.1)
         (λ i. (t.guest i, after_is t i)) (answers_old t.told);
-    seen = goes_on_seen t;
+    seen = seen_grows t;
     mine = mine_is t;
   }
 
   pub turn_begins : (m : Milled) (new : SeatState Event Setup) → IsLeft m new → BeginsWith new.seen old.seen
-  turn_begins m new t = begins_then old.seen found.journal new.seen t.told.begins (event_in answer, goes_on_seen t)
+  turn_begins m new t = begins_then old.seen found.journal new.seen t.told.begins (event_in answer, seen_grows t)

@@ -9,8 +9,8 @@ use Rattle.tm_harts.specs.declared.held.Setup.{Setup}
 use Rattle.tm_harts.specs.Mills.{Milled, guest_after, maker_of}
 use Rattle.tm_harts.specs.Turns.{Stays}
 
--- Hart h was driven to an end: it is at its halt mark, or there is no room for an event more, or its next step would be
--- an idle read.
+-- Hart h was driven to an end: it is at its halt mark, or the journal has as many events as the limit, or the hart's
+-- next step would be an idle read.
 abbrev pub IsAtEnd : Guested → ℕ → Type 0
 IsAtEnd g h = IsHalted g h ⊎ ((length g.journal ≡ g.limit) ⊎ Waits g h)
 

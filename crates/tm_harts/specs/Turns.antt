@@ -16,8 +16,8 @@ use Rattle.tm_harts.specs.Mills.{Milled, guest_after, IsOf}
 abbrev pub HoldsBack : Guested → ℕ → Type 0
 HoldsBack g h = Waits g h × (length g.journal < g.limit)
 
--- What hart h's turn under the lock answers at a guest, and how it leaves it: a hart that holds back makes no event, and
--- any other makes its turn.
+-- What hart h's turn under the lock answers at a guest, and how it leaves it: a hart that holds back makes no event,
+-- and any other makes its turn.
 abbrev pub AnswersOrNone : Guested → ℕ → Option Turn → Guested → Type 0
 AnswersOrNone g h None after = HoldsBack g h × (after ≡ g)
 AnswersOrNone g h (Some turn) after = (¬ HoldsBack g h) × Answers g h turn after

@@ -19,8 +19,8 @@ pub struct Setup {
     pub limit: u64,
 }
 
-/// A guest in whose journal no step is an idle read, which is a read of another hart's flag, after the hart has written
-/// its own in its phase, that finds less than the phase's number and 1. Contracts see the guest.
+/// A guest in whose journal no step is an idle read, which is a read of another hart's flag, after the hart has
+/// written its own in its phase, that finds less than the phase's number and 1. Contracts see the guest.
 #[derive(Drop)]
 pub struct Held<'a> {
     guest: Guest<'a>,

@@ -18,9 +18,9 @@ use tm_base::NoMemory;
 use tm_guest::{Guest, Turn};
 use tm_turn::{Line, LineSeat};
 
-/// A seat of a mill, with which one thread at a time takes a hart's turns. Its number is that of the hart. Contracts see
-/// besides what it has `seen` of the journal, `mine`, the events of its hart in it, and `counted`, the greatest number
-/// of events that it was told.
+/// A seat of a mill, with which one thread at a time takes a hart's turns. Its number is that of the hart. Contracts
+/// see besides what it has `seen` of the journal, `mine`, the events of its hart in it, and `counted`, the greatest
+/// number of events that it was told.
 pub type Seat<'a> = LineSeat<Held<'a>>;
 
 /// A guest whose harts take turns, each with a seat of its own.
@@ -66,9 +66,11 @@ impl<'a> Mill<'a> {
         Ok((Mill { line, start }, seats))
     }
 
-    /// A turn of the seat's hart, which makes at most one event while it holds the guest. It answers `None`, and makes no
-    /// event, where the hart holds back: where it isn't at its halt mark, the journal has fewer events than the limit,
-    /// and the hart's next step would be an idle read. Else it answers what the guest's `advance` gives. It may wait.
+    /// A turn of the seat's hart, which makes at most one event while it holds the guest.
+    ///
+    /// It answers `None`, and makes no event, where the hart holds back: where it isn't at its halt mark, the journal
+    /// has fewer events than the limit, and the hart's next step would be an idle read. Else it answers what the
+    /// guest's `advance` gives. It may wait.
     pub fn turn<R: Wait>(&self, rt: &R, seat: &mut Seat<'a>) -> Option<Turn>
         requires { IsOf self.now seat.old }
         ensures stays { Stays self.now seat.old seat.new }
@@ -82,8 +84,8 @@ impl<'a> Mill<'a> {
         answer
     }
 
-    /// How many events there are, by one load. It doesn't wait, whoever holds the guest. The number is at least that of
-    /// the events that the seat has seen, and at least what the seat was told before.
+    /// How many events there are, by one load. It doesn't wait, whoever holds the guest. The number is at least that
+    /// of the events that the seat has seen, and at least what the seat was told before.
     pub fn progress(&self, seat: &mut Seat<'a>) -> u64
         requires { IsOf self.now seat.old }
         ensures stays { IsOf self.now seat.new }

@@ -13,9 +13,9 @@ use tm_guest::Turn;
 /// How many times in a row a hart may hold back until its work ends.
 const PATIENCE: u32 = 10_000_000;
 
-/// Drives each seat by work of its own, which a thread does where threads are to be had, and returns when all are done.
-/// The work on a seat passes the gate and takes a turn, over and over, until the turn answers `Halted` or `Full`, or has
-/// answered `None` 10,000,000 times in a row. It may wait, and takes no memory.
+/// Drives each seat by work of its own, which a thread does where threads are to be had, and returns when all are
+/// done. The work on a seat passes the gate and takes a turn, over and over, until the turn answers `Halted` or
+/// `Full`, or has answered `None` 10,000,000 times in a row. It may wait, and takes no memory.
 pub fn run_threads<'a, R: Threads + Wait + Sync, G: Gate>(
     rt: &R,
     mill: &Mill<'a>,
@@ -30,8 +30,8 @@ pub fn run_threads<'a, R: Threads + Wait + Sync, G: Gate>(
     work_on_each(rt, &Driver { rt, mill, gate }, seats);
 }
 
-/// Work on a value, which any thread may do. (A closure won't do in its place: the seats name the lifetime of the guest
-/// of the mill that it would hold, and a closure's parameters have lifetimes of their own.)
+/// Work on a value, which any thread may do. (A closure won't do in its place: the seats name the lifetime of the
+/// guest of the mill that it would hold, and a closure's parameters have lifetimes of their own.)
 trait Work<T>: Sync {
     ghost accepts: { Self → T → Type 0 };
 

@@ -1,4 +1,4 @@
-use Rattle.std.proofs.Common.{◌≡◌, ◌∙◌, sym, ap}
+use Rattle.std.proofs.Common.{◌∙◌, sym, ap}
 use Rattle.tm_world.specs.Place.{harts}
 use Rattle.tm_guest.specs.Guested.{Guested}
 use Rattle.tm_harts.specs.Mills.{mill_of}

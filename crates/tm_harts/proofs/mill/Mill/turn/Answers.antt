@@ -1,4 +1,4 @@
-use Rattle.tm_harts.proofs.Turns.{stays_small, is_guest_after, IsInside, IsLeft, may_leave, is_turn, turn_begins}
+use Rattle.tm_harts.proofs.Turns.{stays_small, is_guest_after, IsLeft, may_leave, is_turn, turn_begins}
 use Rattle.tm_harts.proofs.mill.Mill.turn.Given.{Over}
 use Rattle.tm_harts.proofs.mill.Mill.turn.Goals as goal
 
