@@ -16,29 +16,22 @@ stays_then : (m : Milled) (a b c : SeatState Event Setup) → Stays m a b → St
 stays_then m a b c x y = (y.0, y.1 ∙ x.1, y.2 ∙ x.2)
 
 -- After an answer that is no event the hart is at an end.
-at_end : (g after : Guested) (h : ℕ) (answer : Option Turn)
-    → event_in answer ≡ [] → AnswersOrNone g h answer after → IsAtEnd after h
-at_end g after h None n a = subst (λ (x : Guested). IsAtEnd x h) (sym a.1) (inr (inr a.0.0))
-at_end g after h (Some Halted) n a = subst (λ (x : Guested). IsAtEnd x h) (sym a.1.1) (inl a.1.0)
-at_end g after h (Some Full) n a = subst (λ (x : Guested). IsAtEnd x h) (sym a.1.2) (inr (inl a.1.1))
-at_end g after h (Some (Stepped place e)) n a = absurd cc
+at_end : (g after : Guested) (h : ℕ) (answer : Option Turn) → event_in answer ≡ [] → AnswersOrNone g h answer after
+    → IsAtEnd after h
+at_end g after h None none a = subst (λ (x : Guested). IsAtEnd x h) (sym a.1) (inr (inr a.0.0))
+at_end g after h (Some Halted) none a = subst (λ (x : Guested). IsAtEnd x h) (sym a.1.1) (inl a.1.0)
+at_end g after h (Some Full) none a = subst (λ (x : Guested). IsAtEnd x h) (sym a.1.2) (inr (inl a.1.1))
+at_end g after h (Some (Stepped place e)) none a = absurd cc
 
-module _ (m : Milled) (old before new : SeatState Event Setup) (answer : Option Turn) where
-  -- a seat that was driven up to a turn, and the turn
-  pub record IsLast : Type 0 where
-    pub stayed : Stays m old before
-    pub began : BeginsWith before.seen old.seen
-    pub stays : Stays m before new
-    pub begins : BeginsWith new.seen before.seen
-    pub own : made_by maker_of new.number new.seen ≡ new.mine
-    pub turn : IsTurn m before answer new
-    pub no_event : event_in answer ≡ []
-
-  pub driven : IsLast → IsDriven m old new
-  driven l = record {
-    stays = stays_then m old before new l.stayed l.stays;
-    begins = begins_then old.seen before.seen new.seen l.began l.begins;
-    own = l.own;
-    ended = subst (λ (h : ℕ). IsAtEnd (guest_after m new.seen) h) (sym l.stays.1)
-        (at_end (guest_after m l.turn.found) (guest_after m new.seen) before.number answer l.no_event l.turn.answers);
-  }
+-- A seat that was driven up to a turn, and took this turn, which answered no event.
+pub driven : (m : Milled) (old before new : SeatState Event Setup) (answer : Option Turn) → Stays m old before
+    → BeginsWith before.seen old.seen → Stays m before new → BeginsWith new.seen before.seen
+    → made_by maker_of new.number new.seen ≡ new.mine → IsTurn m before answer new → event_in answer ≡ []
+    → IsDriven m old new
+driven m old before new answer stayed began stays begins own turn none = record {
+  stays = stays_then m old before new stayed stays;
+  begins = begins_then old.seen before.seen new.seen began begins;
+  own = own;
+  ended = subst (λ (h : ℕ). IsAtEnd (guest_after m new.seen) h) (sym stays.1)
+      (at_end (guest_after m turn.found) (guest_after m new.seen) before.number answer none turn.answers);
+}
