@@ -153,9 +153,15 @@ module _ {E F : Type 0} where
             ∙ (at_last v.joined (facts_of_seat s) (length v.joined) refl
             ∙ ap (λ (y : SeatState E F). some (facts_of_seat y)) (sym (here k t z got))),
       ))
-      (λ z.
-      let o = old k t (omega arith) got in
+      (λ z. let o = old k t (omega arith) got in
       (o.0, ap (λ l. get_elem? l o.0) e ∙ at_longer v.joined (facts_of_seat s ∷ []) o.0 (facts_of_seat t) o.1))
+
+  -- a seat with another number is in another place
+  other_place : (all : List (SeatState E F)) (place k : ℕ) (r s : SeatState E F) → slice_get all place ≡ Some r
+      → slice_get all k ≡ Some s → r.number ≡ 0 → 0 < s.number → k ≢ place
+  other_place all place k r s at there zeroth later e =
+      let same : s ≡ r = one_value (sym there ∙ (ap (slice_get all) e ∙ at)) in
+      let zero_too = ap (λ (t : SeatState E F). t.number) same in omega arith
 
   -- the first seat is taken out of all
   pub first_out : {T : Type 0} (maker : E → ℕ) (line : LineId F) (all rest : List (SeatState E F)) (z : TableId)
@@ -178,20 +184,13 @@ module _ {E F : Type 0} where
               let o = was_there all place k s (ap (λ l. slice_get l k) (sym is) ∙ e) in are.outside o.0 s o.1;
           rest_has = λ n pos low.
               let a = are.all n low in
-              let ne : a.0 ≢ place = λ e.
-              let same : a.1 ≡ r = one_value (sym a.2 ∙ (ap (slice_get all) e ∙ at)) in
-              let zero_too = ap (λ (s : SeatState E F). s.number) same in
-              let is_n = a.3 in
-              omega arith in
-              let o = still_there all place a.0 a.1 ne a.2 in
+              let numbered = a.3 in
+              let elsewhere = other_place all place a.0 r a.1 at a.2 zeroth (omega arith) in
+              let o = still_there all place a.0 a.1 elsewhere a.2 in
               (o.0, a.1, ap (λ l. slice_get l o.0) is ∙ o.1, a.3);
           each = λ k s got. dite (ℕ_discrete k place)
-              (λ e.
-              let same : s ≡ r = one_value (sym got ∙ (ap (slice_get all) e ∙ at)) in
-              inl (ap facts_of_seat (same ∙ sym seen)))
-              (λ ne.
-              let o = still_there all place k s ne got in
-              inr (o.0, ap (λ l. slice_get l o.0) is ∙ o.1));
+              (λ e. inl (ap facts_of_seat (one_value (sym got ∙ (ap (slice_get all) e ∙ at)) ∙ sym seen)))
+              (λ ne. let o = still_there all place k s ne got in inr (o.0, ap (λ l. slice_get l o.0) is ∙ o.1));
         },
       )
 

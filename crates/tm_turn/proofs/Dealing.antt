@@ -1,5 +1,5 @@
 -- The rule holds when a line starts, and while its seats are split from the first.
-use Rattle.std.proofs.Common.{◌≡◌, ℕ, zero, suc, ◌+◌, ◌^◌, ◌<◌, true, List, [], ◌∷◌, ◌++◌, length}
+use Rattle.std.proofs.Common.{◌≡◌, ℕ, zero, suc, ◌+◌, ◌^◌, ◌<◌, true, false, List, [], ◌∷◌, ◌++◌, length}
 use Rattle.std.proofs.Common.{set, refl, sym, ap, ◌∙◌, subst, ⊎_elim, arith, le_refl, length-set, length-append}
 use Rattle.std.proofs.Common.{Option, Some, None}
 use Rattle.std.proofs.lemmas.Bool.{false≢true}
@@ -76,6 +76,13 @@ module _ {T E F : Type 0} (maker : E → ℕ) (history : T → List E) (fixed_of
       all_snoc P (set vs id w) right (λ z. absurd (none_some (sym none_there ∙ z)))
       (all_set P vs id w (λ z. (v, at, sym same ∙ z)) (λ j u ne e z. (u, e, z))) j u e et
 
+  -- a view has changed, and there is one more
+  Fading-split : (vs : List W) (id : ℕ) (v left right : W) → get_elem? vs id ≡ some v
+      → (v.live ≡ false → left.live ≡ false) → Fading vs (set vs id left ++ right ∷ [])
+  Fading-split vs id v left right at dies n u h e =
+      let same = length-set vs id left in
+      Fading-set vs id v left at dies n u h (before_last (set vs id left) right u n (omega arith) e)
+
   splits : (id : ℕ) (v : W) → v.live ≡ true → 0 < v.given → v.given < 2 ^ 32
       → Splits Rule id v (after_giving v) (given_view v)
   splits id v live some_given room s r at =
@@ -88,8 +95,7 @@ module _ {T E F : Type 0} (maker : E → ℕ) (history : T → List E) (fixed_of
       let ws : List W = mid ++ right ∷ [] in
       let same = length-set s.views id left in
       let more : length ws ≡ length s.views + 1 = omega (arith, length-append mid (right ∷ [])) in
-      let fade : Fading s.views ws = λ n u h e.
-      Fading-set s.views id v left at (λ z. z) n u h (before_last mid right u n (omega arith) e) in
+      let fade = Fading-split s.views id v left right at (λ z. z) in
       let out = r.out in
       let sum = tickets_of-set s.views id v left at in
       let sum' = tickets_of-snoc mid right in

@@ -13,11 +13,10 @@ module _ {E : Type 0} (maker : E → ℕ) where
       let all = made_by maker k (xs ++ ys) in
       let left = made_by maker k xs in
       let right = made_by maker k ys in
+      let P = λ (b : Bool). cond b (x ∷ all) all ≡ cond b (x ∷ left) left ++ right in
       dite (ℕ_discrete (maker x) k)
-      (λ e. subst (λ (b : Bool). cond b (x ∷ all) all ≡ cond b (x ∷ left) left ++ right)
-      (sym (eq-eqb (maker x) k e)) (ap (λ l. x ∷ l) (made_by-append k xs ys)))
-      (λ n. subst (λ (b : Bool). cond b (x ∷ all) all ≡ cond b (x ∷ left) left ++ right)
-      (sym (ne_eqb (maker x) k n)) (made_by-append k xs ys))
+      (λ e. subst P (sym (eq-eqb (maker x) k e)) (ap (λ l. x ∷ l) (made_by-append k xs ys)))
+      (λ n. subst P (sym (ne_eqb (maker x) k n)) (made_by-append k xs ys))
 
   pub made_by-own : (k : ℕ) (e : E) → maker e ≡ k → made_by maker k (e ∷ []) ≡ e ∷ []
   made_by-own k e is = subst (λ (b : Bool). cond b (e ∷ []) [] ≡ e ∷ []) (sym (eq-eqb (maker e) k is)) refl
@@ -25,7 +24,7 @@ module _ {E : Type 0} (maker : E → ℕ) where
   pub made_by-other : (k : ℕ) (e : E) → maker e ≢ k → made_by maker k (e ∷ []) ≡ []
   made_by-other k e other = subst (λ (b : Bool). cond b (e ∷ []) [] ≡ []) (sym (ne_eqb (maker e) k other)) refl
 
-  -- nothing more, where they don't
+  -- where nothing was added, nothing is new
   nothing_new : (seen log : List E) → log ≡ seen → drop (length seen) log ≡ []
   nothing_new seen log same = ap (drop (length seen)) (same ∙ sym (append-nil seen)) ∙ after_seen seen []
 
@@ -43,6 +42,5 @@ module _ {E : Type 0} (maker : E → ℕ) where
   made_by-news k seen log (inl same) =
       let none = nothing_new seen log same in ap (made_by maker k) none ∙ sym none
   made_by-news k seen log (inr more) =
-      let one : drop (length seen) log ≡ more.0 ∷ [] =
-      ap (drop (length seen)) more.1 ∙ after_seen seen (more.0 ∷ []) in
+      let one = ap (drop (length seen)) more.1 ∙ after_seen seen (more.0 ∷ []) in
       ap (made_by maker k) one ∙ (made_by-own k more.0 more.2 ∙ sym one)

@@ -31,6 +31,16 @@ module _ {T E F : Type 0} (maker : E → ℕ) (history : T → List E) (fixed_of
       all_set P (set vs id both) other spent_view (λ z. absurd (none_some z)) (λ j u ne e.
       all_set P vs id both (λ z. (v, at, sym same ∙ z)) (λ j u ne e z. (u, e, z)) j u e) j u e et
 
+  -- a view has changed, and another one is spent
+  Fading-join : (vs : List W) (id other : ℕ) (v both w : W) → get_elem? vs id ≡ some v
+      → (v.live ≡ false → both.live ≡ false) → get_elem? (set vs id both) other ≡ some w
+      → Fading vs (set (set vs id both) other spent_view)
+  Fading-join vs id other v both w at dies there n u h e =
+      let same = length-set vs id both in
+      let f = Fading-set (set vs id both) other w spent_view there (λ _. refl) n u (omega arith) e in
+      let f' = Fading-set vs id v both at dies n f.0 h f.1 in
+      (f'.0, f'.1, λ z. f.2 (f'.2 z))
+
   -- what the rule says of a spent seat
   spent_knows : (drawn served : ℕ) (log : List E) (views : List W) (j : ℕ)
       → Knows maker fixed drawn served log views j spent_view
@@ -59,10 +69,7 @@ module _ {T E F : Type 0} (maker : E → ℕ) (history : T → List E) (fixed_of
       let same = length-set s.views id both in
       let same' = length-set mid other gone_one in
       let away : w.inside ≡ false = outside maker history fixed_of fixed s r other w here free in
-      let fade : Fading s.views ws = λ n u h e.
-      let f = Fading-set mid other w gone_one there (λ _. refl) n u (omega arith) e in
-      let f' = Fading-set s.views id v both at (λ z. z) n f.0 h f.1 in
-      (f'.0, f'.1, λ z. f.2 (f'.2 z)) in
+      let fade = Fading-join s.views id other v both w at (λ z. z) there in
       let out = r.out in
       let sum = tickets_of-set s.views id v both at in
       let sum' = tickets_of-set mid other w gone_one there in
@@ -70,8 +77,7 @@ module _ {T E F : Type 0} (maker : E → ℕ) (history : T → List E) (fixed_of
       let few = r.few in
       let inside_list = within s.views other w here in
       let where_is : w.number ≡ other = (kw.place live).0 in
-      let spent_there : get_elem? ws w.number ≡ some gone_one =
-      ap (get_elem? ws) where_is ∙ set_here mid other gone_one (omega arith) in
+      let spent_there = ap (get_elem? ws) where_is ∙ set_here mid other gone_one (omega arith) in
       let last : (w.number < length ws) × IsGone ws w.number × BearsOut maker r.log (facts_of w) = (
         omega arith,
         (λ u e'. ap (λ (y : W). y.live) (sym (some-injective gone_one u (sym spent_there ∙ e')))),

@@ -36,10 +36,10 @@ module _ {T E F : Type 0} (maker : E → ℕ) (history : T → List E) (fixed_of
     more = news;
     is = refl;
     others = λ j ne.
-        let none : made_by maker j news ≡ [] =
-        ap (made_by maker j) one ∙ made_by-other maker j e (λ z. ne (sym z ∙ by_me)) in
+        let not_his = made_by-other maker j e (λ z. ne (sym z ∙ by_me)) in
         made_by-append maker j log news
-        ∙ (ap (λ l. made_by maker j log ++ l) none ∙ append-nil (made_by maker j log));
+        ∙ (ap (λ l. made_by maker j log ++ made_by maker j l) one
+        ∙ (ap (λ l. made_by maker j log ++ l) not_his ∙ append-nil (made_by maker j log)));
     asleep = λ gone. absurd (false≢true (sym (gone v at) ∙ live));
   }
 
@@ -55,14 +55,14 @@ module _ {T E F : Type 0} (maker : E → ℕ) (history : T → List E) (fixed_of
       let mine : v.ticket ≡ Some r.served = turn.1 in
       let log' : List E = r.log ++ news in
       let by_me : maker e ≡ id = own ∙ (k.place live).0 in
-      let long : length r.log + 1 ≡ length log' =
-      ap (λ (l : List E). length r.log + length l) (sym one) ∙ sym (length-append r.log news) in
+      let one_long = ap length one in
+      let both = length-append r.log news in
+      let long : length r.log + 1 ≡ length log' = omega arith in
       let seen_all = ap length turn.2 in
       let out = r.out in
       let sum = tickets_of-set s.views id v w at in
       let grows = one_grows s.views id v r.log e news one at live by_me in
-      let mine_too : made_by maker id news ≡ news =
-      ap (made_by maker id) one ∙ (made_by-own maker id e by_me ∙ sym one) in
+      let mine_too = ap (made_by maker id) one ∙ (made_by-own maker id e by_me ∙ sym one) in
       let counted = k.counted in
       let below : length r.log + 1 < 2 ^ 64 = omega arith in (
         w,

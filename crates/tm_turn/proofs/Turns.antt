@@ -228,8 +228,7 @@ module _ {T E F : Type 0} (maker : E → ℕ) (history : T → List E) (fixed_of
       → history x ≡ me.0.seen ++ news
       → Allows Rule slots id me' 1 (λ n. (n + 1) % 2 ^ 64) (Passes maker history fixed_of (step slots 1 1 0 none) me')
   leaves slots id me recording me' x news has here wrote is same log =
-      let e : me' ≡ (recorded me.0 news, (0, Some x) ∷ rest me.1) =
-      is ∙ ap (λ (m : M). (m.0, (0, Some x) ∷ rest m.1)) wrote in
+      let e = is ∙ ap (λ (m : M). let m' : M = (m.0, (0, Some x) ∷ rest m.1) in m') wrote in
       passes slots id me' x
       (ap (λ (m : M). m.1) e ∙ ap (λ l. (0, Some x) ∷ rest l) has)
       (ap (λ (m : M). m.0.inside) e ∙ here)

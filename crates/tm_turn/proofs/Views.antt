@@ -27,9 +27,7 @@ module _ {E F : Type 0} where
       → tickets_of (set views i w) + ticket_count v.ticket ≡ tickets_of views + ticket_count w.ticket
   tickets_of-set [] i v w e = absurd (some-ne-none v (sym e))
   tickets_of-set (x ∷ xs) zero v w e =
-      let h : ticket_count x.ticket ≡ ticket_count v.ticket =
-      ap (λ (z : View E F). ticket_count z.ticket) (some-injective x v e) in
-      omega arith
+      let same = ap (λ (z : View E F). ticket_count z.ticket) (some-injective x v e) in omega arith
   tickets_of-set (x ∷ xs) (suc i) v w e = let r = tickets_of-set xs i v w e in omega arith
 
   pub tickets_of-snoc : (views : List (View E F)) (w : View E F)

@@ -45,6 +45,7 @@ module _ {E F : Type 0} where
   KnowsAll v = (j : ℕ) → 0 < j → j < v.given
       → (k : ℕ) × (f : Facts E) × (get_elem? v.joined k ≡ some f) × (f.number ≡ j)
 
+  -- No seat is inside.
   abbrev pub NobodyIsInside : List (View E F) → Type 0
   NobodyIsInside views = (j : ℕ) (v : View E F) → get_elem? views j ≡ some v → v.inside ≡ false
 
@@ -55,7 +56,8 @@ module _ {T E F : Type 0} (maker : E → ℕ) (history : T → List E) (fixed_of
   IsSlot log views (some y) =
       (x : T) × (y ≡ Some x) × (fixed_of x ≡ fixed) × (history x ≡ log) × NobodyIsInside views
 
-  -- The rule. The log is the history with what the seat that is inside has recorded.
+  -- The rule: so many tickets were drawn, it is the turn of the ticket served, the log is the history with what the
+  -- seat that is inside has recorded, and the slot is at home or out.
   pub record IsQueued (s : State (Option T) (View E F)) : Type 0 where
     pub drawn : ℕ
     pub served : ℕ
@@ -64,6 +66,7 @@ module _ {T E F : Type 0} (maker : E → ℕ) (history : T → List E) (fixed_of
     pub words : s.words ≡ drawn % 2 ^ 64 ∷ served % 2 ^ 64 ∷ length log ∷ []
     pub homes : s.homes ≡ home ∷ []
     pub slot : IsSlot log s.views home
+    -- so few that two tickets which are out differ modulo 2 ^ 64
     pub few : length s.views ≤ 2 ^ 32
     -- each ticket from served up to drawn is out with a seat
     pub out : served + tickets_of s.views ≡ drawn

@@ -10,8 +10,7 @@ use Rattle.tm_turn.specs.declared.table.Facts.{Facts}
 use Rattle.tm_turn.specs.History.{made_by, BeginsWith}
 use Rattle.tm_turn.specs.Views.{facts_of}
 
--- A line: its table, which no other line has, the fixed part of its value, which every line has, and how many seats
--- it has.
+-- A line: which table it has, the fixed part of its value, which every line has, and how many seats it has.
 pub record LineId (F : Type 0) : Type 0 where
   pub table : TableId
   pub fixed : Option F

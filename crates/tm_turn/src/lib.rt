@@ -6,7 +6,7 @@
 //! *count* of entries, which anyone with a seat can read at any time.
 //!
 //! `Line::enter` alone may wait, and `Line::start` alone takes memory. Not promised is that a turn ever comes, that
-//! turns come in a fair order, or when: who doesn't leave holds up all others.
+//! turns come in a fair order, or when they come: who doesn't leave holds up all others.
 #![tactic(auto)]
 
 mod kept;

@@ -105,7 +105,9 @@ impl<T: Kept> Line<T> {
         Ok((line, all))
     }
 
-    /// Draws a ticket, waits for its turn, and takes the value. It yields to other threads while it waits.
+    /// Draws a ticket, waits for its turn, and takes the value. While it waits, it yields to other threads.
+    ///
+    /// Its turn comes once everyone who drew a ticket before has left, if they do.
     pub fn enter<R: Wait>(&self, rt: &R, seat: &mut LineSeat<T>) -> T
         requires line { seat.old.line ≡ self.now }
         requires outside { seat.old.inside ≡ false }

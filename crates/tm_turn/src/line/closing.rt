@@ -19,7 +19,7 @@ fn first_place<T: Kept>(line: &Line<T>, seats: &[LineSeat<T>]) -> usize
     ensures { (result < length seats.now)
         × ((s : SeatState T.Entry T.Fixed) → slice_get seats.now result ≡ Some s → s.number ≡ 0) }
 {
-    // It has a seat at least, so there is a first.
+    // Where a field is used, the line's invariant is known: it has a first seat.
     let _ = &line.table;
     let is_first = |seat: &LineSeat<T>| -> bool
         ensures { result ≡ (seat.now.number == 0) }

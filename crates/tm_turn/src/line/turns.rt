@@ -27,7 +27,8 @@ pub fn wait<T: Kept, R: Wait>(rt: &R, shared: &Board<T>, seat: &mut TableSeat<T>
     unreachable!()
 }
 
-// Records the one entry that the value has more than the seat has seen.
+// Records the one entry that the value has more than the seat has seen. The step doesn't need the value: the proof of
+// the call picks the news out of it.
 fn record<T: Kept, J: News<T::Entry>>(shared: &Board<T>, seat: &mut TableSeat<T>, value: &T)
     requires line { (seat.old.table_id ≡ shared.now.table_id) × (shared.now.table_id.words ≡ 3) }
     requires inside { (seat.old.me.0.live ≡ true) × (seat.old.me.0.inside ≡ true) }

@@ -1,5 +1,5 @@
 use Rattle.std.proofs.Common.{rules, ◌≡◌, ◌+◌, ◌++◌, ℕ, length, length-append, append-nil, append_assoc}
-use Rattle.std.proofs.Common.{List, [], ◌∷◌, Option, Some, sym, ap, ◌∙◌, subst, slice_get}
+use Rattle.std.proofs.Common.{List, [], ◌∷◌, Option, sym, ap, ◌∙◌, subst, slice_get}
 use Rattle.std.specs.Option.{option_to_list}
 use Rattle.tm_turn.specs.declared.table.View.{View}
 use Rattle.tm_turn.specs.declared.table.Facts.{Facts}
@@ -40,10 +40,9 @@ loop-seat-preserved g c =
     let p = popped c.args.line.now c.loop-seat.rest.items new s split i.seats_are in
     let len : length c.loop-seat.rest.items ≡ length new + 1 = ap length split ∙ length-append new (s ∷ []) in
     let e = ap (λ (m : Mine g.T.Kept.maker g.T.Kept.history g.T.Kept.fixed). m.0) c.absorb.ensures.told in
-    let front : all ≡ new ++ (s ∷ [] ++ i.front.0) =
-    i.front.1 ∙ (ap (λ (l : List S). l ++ i.front.0) split ∙ append_assoc new (s ∷ []) i.front.0) in
-    let last : slice_get all (length new) ≡ Some s =
-    ap (λ (l : List S). slice_get l (length new)) (front ∙ sym (append_assoc new (s ∷ []) i.front.0))
+    let split' = i.front.1 ∙ ap (λ (l : List S). l ++ i.front.0) split in
+    let front = split' ∙ append_assoc new (s ∷ []) i.front.0 in
+    let last = ap (λ (l : List S). slice_get l (length new)) split'
     ∙ got_before (new ++ s ∷ []) i.front.0 (length new) s (got_last new s) in
     let only_joined : before ≡ record c.args.first.now.me.0 { joined = before.joined } = i.view_is in
     record {
