@@ -1,0 +1,4 @@
+pub mod Idle
+pub mod Mills
+pub mod Turns
+pub mod Driven
