@@ -22,7 +22,7 @@ use Rattle.tm_faults.specs.declared.inputs.InputFault.{InputFault}
 use Rattle.tm_image_inputs.specs.Inputs.{inputs, behind_topology, topology_refusal, refusal_of}
 use Rattle.tm_image_build.specs.Built.{program_from}
 use Rattle.tm_top_owed.specs.Changes.{DeskChange, SinkChange, DeskFailed, SinkFailed, FilesStay, OtherFilesStay, Silent}
-use Rattle.tm_top_owed.specs.Owed.{Ending, IsSampleOf, Owes, Ended, IsDone, IsReady, IsRefusal, IsFailure, IsUntouched, RestStays}
+use Rattle.tm_top_owed.specs.Owed.{Ending, IsSampleOf, Owes, Ended, IsReady, IsRefusal, IsFailure, IsUntouched, RestStays}
 use Rattle.tm_top_owed.specs.Owed.{AlwaysAtFault, AlwaysDone, status_of}
 use Rattle.tm_top_owed.specs.Owed.MayBegin.{no_line, refusal_line, failure_line}
 use Rattle.tm_top_owed.specs.Owed.Ended.{done, no_command, refused, failed, no_memory_for_usage, no_memory}

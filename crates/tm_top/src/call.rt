@@ -1,16 +1,20 @@
 // All that the program does, but for what waits.
-ghost use Rattle.std.specs.Prelude.{◌≡◌, None};
-ghost use Rattle.tm_words.specs.Words.{bytes_of_words};
-ghost use Rattle.tm_top.specs.Asked.{asked_by};
+ghost use Rattle.std.specs.Prelude.{◌≡◌, true, IfErr, IfOk};
+ghost use Rattle.tm_words.specs.Words.{bytes_of_words, command_if, command_in};
 ghost use Rattle.tm_top_owed.specs.Changes.{desk_change, sink_change};
-ghost use Rattle.tm_top_owed.specs.Owed.{Owes, Ended};
+ghost use Rattle.tm_top_owed.specs.Owed.{Owes, Ended, IsDone, RestStays};
+ghost use Rattle.tm_top_owed.specs.Runs.{events_in};
+ghost use Rattle.tm_top_owed.specs.Steps.{Stopped};
+ghost use Rattle.tm_top.specs.Still.{IsStill};
 
 use std::alloc::Global;
 use tm_desk::{Desk, Sink};
 use tm_plan_journal::Journal;
 use tm_top_build::build_command;
 use tm_top_list::list_command;
-use tm_top_owed::{tell_stop, tell_usage};
+use tm_top_owed::{Done, Stop, tell_stop, tell_usage};
+use tm_top_run::run_command;
+use tm_top_sample::sample_command;
 use tm_words::{CommandWords, read_words};
 
 /// How a call ended: its status, and the journal of a simulation where the command made one.
@@ -20,43 +24,51 @@ pub struct Outcome {
     pub journal: Option<Journal>,
 }
 
-// Does what the words say, and answers the status.
-#[tactic(auto, using(crate::proofs::Owing::ended_usage, crate::proofs::Owing::tellable))]
-fn status_of_call<D: Desk, O: Sink, E: Sink>(
+// Does what a command asks for, or stops with the cause.
+fn done_by<D: Desk, O: Sink>(
     alloc: Global,
-    words: &[String],
+    command: &CommandWords<'_>,
     desk: &mut D,
     out: &mut O,
-    err: &mut E,
-) -> u8
-    ensures { Ended (asked_by (bytes_of_words words.now))
+) -> Result<Done, Stop>
+    requires { IsStill (command_in command.now) }
+    ensures done { IfOk result (λ d. IsDone (command_in command.now)
         (desk_change D.tells D.held D.faults desk.old desk.new)
-        (sink_change O.tells O.taken O.faults out.old out.new)
-        (sink_change E.tells E.taken E.faults err.old err.new)
-        None result }
+        (sink_change O.tells O.taken O.faults out.old out.new) d.status (events_in d.journal)) }
+    ensures stopped { IfErr result (λ stop. Stopped stop (command_in command.now)
+        (desk_change D.tells D.held D.faults desk.old desk.new)
+        (sink_change O.tells O.taken O.faults out.old out.new)) }
+    ensures rest { RestStays (command_in command.now) (desk_change D.tells D.held D.faults desk.old desk.new) }
 {
-    let Some(command) = read_words(words, true) else {
-        return tell_usage(err);
-    };
     match command {
-        CommandWords::Build(build) => match build_command(alloc, &build, desk, out) {
-            Ok(()) => 0,
-            Err(stop) => tell_stop(alloc, err, &stop),
+        CommandWords::Build(build) => match build_command(alloc, build, desk, out) {
+            Ok(()) => Ok(Done {
+                status: 0,
+                journal: None,
+            }),
+            Err(stop) => Err(stop),
         },
         CommandWords::List(image) => match list_command(alloc, image, desk, out) {
-            Ok(()) => 0,
-            Err(stop) => tell_stop(alloc, err, &stop),
+            Ok(()) => Ok(Done {
+                status: 0,
+                journal: None,
+            }),
+            Err(stop) => Err(stop),
         },
-        CommandWords::Run(_) | CommandWords::Sample(_) => tell_usage(err),
+        CommandWords::Run(run) => run_command(alloc, run, desk, out),
+        CommandWords::Sample(number) => sample_command(alloc, *number, out),
     }
 }
 
 /// Does what the words say, over what is handed in. It waits for nobody.
 ///
-/// So far there are two commands, `build TOPO TEMPLATE OUT --seed S` and `list IMAGE`. The statuses are 0 where the job
-/// was done, 2 for words that are no command, 3 for an input that is refused or too long, 5 where the desk or the output
-/// sink failed or an input is missing, and 6 for want of memory.
-#[tactic(auto, using(crate::proofs::Owing::owes))]
+/// The commands are `build TOPO TEMPLATE OUT --seed S`, `list IMAGE`, `run IMAGE --order round [--events N]` and
+/// `sample N`. The statuses are 0 where the job was done, 2 for words that are no command, 3 for an input that is
+/// refused or too long, 4 for a run or a sample whose journal has all the events that it may have while some hart isn't
+/// at halt, 5 where the desk or the output sink failed or an input is missing, and 6 for want of memory. (Status 1 is
+/// that of a run with a report. It never comes while runs have no script of faults.) The journal is there exactly where
+/// a run or a sample was done.
+#[tactic(auto, using(crate::proofs::Owing::owes, crate::proofs::Owing::tellable, crate::proofs::Stillness::still_words))]
 pub fn still<D: Desk, O: Sink, E: Sink>(
     alloc: Global,
     words: &[String],
@@ -64,16 +76,26 @@ pub fn still<D: Desk, O: Sink, E: Sink>(
     out: &mut O,
     err: &mut E,
 ) -> Outcome
-    ensures owed { Owes (asked_by (bytes_of_words words.now))
+    ensures { Owes (command_if true (bytes_of_words words.now))
         (desk_change D.tells D.held D.faults desk.old desk.new)
         (sink_change O.tells O.taken O.faults out.old out.new)
         (sink_change E.tells E.taken E.faults err.old err.new)
-        None result.status }
-    ensures journal { result.journal ≡ None }
+        (events_in result.journal) result.status }
 {
-    let status = status_of_call(alloc, words, desk, out, err);
-    Outcome {
-        status,
-        journal: None,
+    let Some(command) = read_words(words, true) else {
+        return Outcome {
+            status: tell_usage(err),
+            journal: None,
+        };
+    };
+    match done_by(alloc, &command, desk, out) {
+        Ok(done) => Outcome {
+            status: done.status,
+            journal: done.journal,
+        },
+        Err(stop) => Outcome {
+            status: tell_stop(alloc, err, &stop),
+            journal: None,
+        },
     }
 }

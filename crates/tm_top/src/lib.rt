@@ -5,6 +5,6 @@ mod call;
 mod program;
 
 pub use call::{Outcome, still};
-pub use program::{NoWords, exit_status, run};
+pub use program::{NoWords, outcome_of, run};
 pub use tm_faults::Role;
 pub use tm_top_line::{AnyFault, fault_line};

@@ -1,8 +1,9 @@
 // The program: its words, its streams and its status.
 ghost use Rattle.tm_top_owed.specs.Changes.{desk_change, sink_change};
+ghost use Rattle.tm_top_owed.specs.Runs.{events_in};
 ghost use Rattle.tm_top.specs.Program.{OwesFor};
 
-use crate::call::still;
+use crate::call::{Outcome, still};
 use std::alloc::Global;
 use std::env;
 use std::io::ErrorKind;
@@ -32,26 +33,29 @@ fn words_of(rt: &HostRuntime) -> Result<Vec<String>, NoWords> {
     }
 }
 
-/// Does what the words say, over what is handed in, and answers the status that the program ends with.
+/// Does what the words say, over what is handed in, and answers how it ended.
 ///
 /// Words that are no text are refused like any others that are no command.
-pub fn exit_status<D: Desk, O: Sink, E: Sink>(
+pub fn outcome_of<D: Desk, O: Sink, E: Sink>(
     alloc: Global,
     words: Result<Vec<String>, NoWords>,
     desk: &mut D,
     out: &mut O,
     err: &mut E,
-) -> u8
+) -> Outcome
     ensures { OwesFor words
         (desk_change D.tells D.held D.faults desk.old desk.new)
         (sink_change O.tells O.taken O.faults out.old out.new)
         (sink_change E.tells E.taken E.faults err.old err.new)
-        result }
+        (events_in result.journal) result.status }
 {
     match words {
-        Ok(words) => still(alloc, &words, desk, out, err).status,
-        Err(NoWords::NotText) => still(alloc, &[], desk, out, err).status,
-        Err(NoWords::NoMemory) => tell_stop(alloc, err, &Stop::NoMemory),
+        Ok(words) => still(alloc, &words, desk, out, err),
+        Err(NoWords::NotText) => still(alloc, &[], desk, out, err),
+        Err(NoWords::NoMemory) => Outcome {
+            status: tell_stop(alloc, err, &Stop::NoMemory),
+            journal: None,
+        },
     }
 }
 
@@ -62,5 +66,5 @@ pub fn run(rt: HostRuntime) -> ExitCode {
     let mut out = RealSink::new(rt.stdout());
     let mut err = RealSink::new(rt.stderr());
     let mut desk = RealDesk::new(alloc, rt);
-    ExitCode::from(exit_status(alloc, words, &mut desk, &mut out, &mut err))
+    ExitCode::from(outcome_of(alloc, words, &mut desk, &mut out, &mut err).status)
 }

@@ -1,0 +1,9 @@
+-- The commands that wait for nobody (this project's own).
+use Rattle.std.specs.Prelude.{◌≡◌, ◌≤◌, false}
+use Rattle.tm_words.specs.Words.{Command, most_events}
+use Rattle.tm_words.specs.Words.Command.{to_run}
+
+-- a run within the limit of events, in round order; and every other command
+abbrev pub IsStill : Command → Type 0
+IsStill (to_run r) = (r.threads ≡ false) × (1 ≤ r.events) × (r.events ≤ most_events)
+IsStill _ = Unit {0}
