@@ -1,7 +1,0 @@
-//! Tests of whole runs of an image.
-#![tactic(auto)]
-
-#[cfg(test)]
-mod machine;
-#[cfg(test)]
-mod runs;
