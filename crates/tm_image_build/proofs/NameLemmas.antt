@@ -82,9 +82,9 @@ pub each-of : (P : Symbol → Type 0) (p : Program) → ((h c : ℕ) → h < p.c
 unfolding symbols_of
 each-of P p streams marks =
     each-row P (hart_symbols p) 0 p.cases.harts (λ h l.
-        let own : h < p.cases.harts = omega arith in
-        each-append P (streams_symbols p h) (hart_marks p h)
-        (each-row P (stream_symbols p h) 0 (length p.cases.cases) (λ c m. streams h c own (omega arith))) (marks h own))
+    let own : h < p.cases.harts = omega arith in
+    each-append P (streams_symbols p h) (hart_marks p h)
+    (each-row P (stream_symbols p h) 0 (length p.cases.cases) (λ c m. streams h c own (omega arith))) (marks h own))
 
 -- the symbol has a name
 abbrev Named : Symbol → Type 0

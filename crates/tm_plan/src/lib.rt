@@ -3,9 +3,9 @@
 #![tactic(auto)]
 
 pub use tm_plan_cases::{
-    Admitted, AdmittedCase, Case, CaseMask, Cases, Event, Kind2, Marks, Masks, Program,
-    Slot, SlotList, Stream, Window, flag_addr, private_base, save_addr, table_addr, tables,
-    verdict_addr, window_base,
+    Admitted, AdmittedCase, Case, CaseMask, Cases, Event, Kind2, Marks, Masks, Program, Slot,
+    SlotList, Stream, Window, flag_addr, private_base, save_addr, table_addr, tables, verdict_addr,
+    window_base,
 };
 pub use tm_plan_journal::Journal;
 pub use tm_plan_owned::{budget, owned, owned_addr, work};
