@@ -5,5 +5,5 @@ use std::process::ExitCode;
 use tm_top::run;
 
 fn main(rt: HostRuntime) -> ExitCode {
-    run(rt)
+    run(rt, &rt)
 }

@@ -9,7 +9,7 @@ use Rattle.tm_words.specs.Words.{Run, Command, RunOption, most_events, events_of
 use Rattle.tm_words.specs.Words.{run_behind, sample_of, sample_behind, build_of, build_behind, list_behind, command_behind, command_of, still_only, command_if, is_name}
 use Rattle.tm_words.specs.Words.Command.{to_build, to_list, to_run, to_sample}
 use Rattle.tm_words.specs.Words.RunOption.{Events, Order}
-use Rattle.tm_top.specs.Still.{IsStill}
+use Rattle.tm_top.specs.Still.{IsStill, IsInRange}
 
 -- as many events as there may be
 abbrev InRange : ℕ → Type 0
@@ -145,3 +145,14 @@ only-still (Some (to_run r)) fits c h = round-is r c fits r.threads refl h
 -- a command that the words ask for where only those may be asked for that wait for nobody
 pub still_words : (words : List (List ℕ)) (c : Command) → command_if true words ≡ Some c → IsStill c
 still_words words c h = only-still (command_of words) (command-fits words) c h
+
+in-range : (o : Option Command) → CommandFits o → (c : Command) → o ≡ Some c → IsInRange c
+in-range None fits c h = absurd (cc)
+in-range (Some (to_build b)) fits c h = let same : to_build b ≡ c = cc in subst IsInRange same tt
+in-range (Some (to_list image)) fits c h = let same : to_list image ≡ c = cc in subst IsInRange same tt
+in-range (Some (to_sample number)) fits c h = let same : to_sample number ≡ c = cc in subst IsInRange same tt
+in-range (Some (to_run r)) fits c h = let same : to_run r ≡ c = cc in subst IsInRange same fits
+
+-- a command that the words ask for has its numbers in range
+pub words_fit : (words : List (List ℕ)) (c : Command) → command_if false words ≡ Some c → IsInRange c
+words_fit words c h = in-range (command_of words) (command-fits words) c h

@@ -1,19 +1,21 @@
-// All that the program does, but for what waits.
-ghost use Rattle.std.specs.Prelude.{◌≡◌, true, IfErr, IfOk};
+// All that the program does.
+ghost use Rattle.std.specs.Prelude.{◌≡◌, true, false, IfErr, IfOk};
 ghost use Rattle.tm_words.specs.Words.{bytes_of_words, command_if, command_in};
 ghost use Rattle.tm_top_owed.specs.Changes.{desk_change, sink_change};
 ghost use Rattle.tm_top_owed.specs.Owed.{Owes, Ended, IsDone, RestStays};
 ghost use Rattle.tm_top_owed.specs.Runs.{events_in};
 ghost use Rattle.tm_top_owed.specs.Steps.{Stopped};
-ghost use Rattle.tm_top.specs.Still.{IsStill};
+ghost use Rattle.tm_top.specs.Still.{IsStill, IsInRange};
 
 use std::alloc::Global;
-use tm_desk::{Desk, Sink};
+use std::sync::Wait;
+use std::thread::Threads;
+use tm_desk::{Desk, Gate, Sink};
 use tm_plan_journal::Journal;
 use tm_top_build::build_command;
 use tm_top_list::list_command;
 use tm_top_owed::{Done, Stop, tell_stop, tell_usage};
-use tm_top_run::run_command;
+use tm_top_run::{run_command, threads_command};
 use tm_top_sample::sample_command;
 use tm_words::{CommandWords, read_words};
 
@@ -60,6 +62,30 @@ fn done_by<D: Desk, O: Sink>(
     }
 }
 
+// Does what a command asks for, also where it may wait, or stops with the cause.
+fn done_at<R: Threads + Wait + Sync, D: Desk, O: Sink, G: Gate>(
+    rt: &R,
+    alloc: Global,
+    command: &CommandWords<'_>,
+    desk: &mut D,
+    out: &mut O,
+    gate: &G,
+) -> Result<Done, Stop>
+    requires { IsInRange (command_in command.now) }
+    ensures done { IfOk result (λ d. IsDone (command_in command.now)
+        (desk_change D.tells D.held D.faults desk.old desk.new)
+        (sink_change O.tells O.taken O.faults out.old out.new) d.status (events_in d.journal)) }
+    ensures stopped { IfErr result (λ stop. Stopped stop (command_in command.now)
+        (desk_change D.tells D.held D.faults desk.old desk.new)
+        (sink_change O.tells O.taken O.faults out.old out.new)) }
+    ensures rest { RestStays (command_in command.now) (desk_change D.tells D.held D.faults desk.old desk.new) }
+{
+    match command {
+        CommandWords::Run(run) if run.threads => threads_command(rt, alloc, run, desk, out, gate),
+        _ => done_by(alloc, command, desk, out),
+    }
+}
+
 /// Does what the words say, over what is handed in. It waits for nobody.
 ///
 /// The commands are `build TOPO TEMPLATE OUT --seed S`, `list IMAGE`, `run IMAGE --order round [--events N]` and
@@ -89,6 +115,45 @@ pub fn still<D: Desk, O: Sink, E: Sink>(
         };
     };
     match done_by(alloc, &command, desk, out) {
+        Ok(done) => Outcome {
+            status: done.status,
+            journal: done.journal,
+        },
+        Err(stop) => Outcome {
+            status: tell_stop(alloc, err, &stop),
+            journal: None,
+        },
+    }
+}
+
+/// Does all that the program does, over what is handed in. It may wait: for a run with a thread for each hart. Each
+/// turn of such a hart passes the gate.
+///
+/// The commands are those of `still`, and `run IMAGE --order threads [--events N]`, which is also the run without
+/// `--order`; the statuses are those of `still`.
+#[tactic(auto, using(crate::proofs::Owing::owes, crate::proofs::Owing::tellable, crate::proofs::Stillness::words_fit))]
+pub fn top<R: Threads + Wait + Sync, D: Desk, O: Sink, G: Gate, E: Sink>(
+    rt: &R,
+    alloc: Global,
+    words: &[String],
+    desk: &mut D,
+    out: &mut O,
+    err: &mut E,
+    gate: &G,
+) -> Outcome
+    ensures { Owes (command_if false (bytes_of_words words.now))
+        (desk_change D.tells D.held D.faults desk.old desk.new)
+        (sink_change O.tells O.taken O.faults out.old out.new)
+        (sink_change E.tells E.taken E.faults err.old err.new)
+        (events_in result.journal) result.status }
+{
+    let Some(command) = read_words(words, false) else {
+        return Outcome {
+            status: tell_usage(err),
+            journal: None,
+        };
+    };
+    match done_at(rt, alloc, &command, desk, out, gate) {
         Ok(done) => Outcome {
             status: done.status,
             journal: done.journal,

@@ -4,7 +4,7 @@
 mod call;
 mod program;
 
-pub use call::{Outcome, still};
+pub use call::{Outcome, still, top};
 pub use program::{NoWords, outcome_of, run};
 pub use tm_faults::Role;
 pub use tm_top_line::{AnyFault, fault_line};

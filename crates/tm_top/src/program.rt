@@ -3,13 +3,15 @@ ghost use Rattle.tm_top_owed.specs.Changes.{desk_change, sink_change};
 ghost use Rattle.tm_top_owed.specs.Runs.{events_in};
 ghost use Rattle.tm_top.specs.Program.{OwesFor};
 
-use crate::call::{Outcome, still};
+use crate::call::{Outcome, top};
 use std::alloc::Global;
 use std::env;
 use std::io::ErrorKind;
 use std::process::ExitCode;
 use std::rt::HostRuntime;
-use tm_desk::{Desk, RealDesk, RealSink, Sink};
+use std::sync::Wait;
+use std::thread::Threads;
+use tm_desk::{Desk, Gate, OpenGate, RealDesk, RealSink, Sink};
 use tm_top_owed::{Stop, tell_stop};
 
 /// Why the words couldn't be had.
@@ -33,15 +35,17 @@ fn words_of(rt: &HostRuntime) -> Result<Vec<String>, NoWords> {
     }
 }
 
-/// Does what the words say, over what is handed in, and answers how it ended.
+/// Does what the words say, over what is handed in, and answers how it ended. It may wait.
 ///
 /// Words that are no text are refused like any others that are no command.
-pub fn outcome_of<D: Desk, O: Sink, E: Sink>(
+pub fn outcome_of<R: Threads + Wait + Sync, D: Desk, O: Sink, G: Gate, E: Sink>(
+    rt: &R,
     alloc: Global,
     words: Result<Vec<String>, NoWords>,
     desk: &mut D,
     out: &mut O,
     err: &mut E,
+    gate: &G,
 ) -> Outcome
     ensures { OwesFor words
         (desk_change D.tells D.held D.faults desk.old desk.new)
@@ -50,8 +54,8 @@ pub fn outcome_of<D: Desk, O: Sink, E: Sink>(
         (events_in result.journal) result.status }
 {
     match words {
-        Ok(words) => still(alloc, &words, desk, out, err),
-        Err(NoWords::NotText) => still(alloc, &[], desk, out, err),
+        Ok(words) => top(rt, alloc, &words, desk, out, err, gate),
+        Err(NoWords::NotText) => top(rt, alloc, &[], desk, out, err, gate),
         Err(NoWords::NoMemory) => Outcome {
             status: tell_stop(alloc, err, &Stop::NoMemory),
             journal: None,
@@ -59,12 +63,15 @@ pub fn outcome_of<D: Desk, O: Sink, E: Sink>(
     }
 }
 
-/// The whole program, over the real files and streams.
-pub fn run(rt: HostRuntime) -> ExitCode {
+/// The whole program, over the real files and streams, and with the threads of the handle. It may wait.
+pub fn run<R: Threads + Wait + Sync>(rt: HostRuntime, threads: &R) -> ExitCode {
     let alloc = rt.alloc();
     let words = words_of(&rt);
     let mut out = RealSink::new(rt.stdout());
     let mut err = RealSink::new(rt.stderr());
     let mut desk = RealDesk::new(alloc, rt);
-    ExitCode::from(outcome_of(alloc, words, &mut desk, &mut out, &mut err).status)
+    let outcome = outcome_of(
+        threads, alloc, words, &mut desk, &mut out, &mut err, &OpenGate,
+    );
+    ExitCode::from(outcome.status)
 }

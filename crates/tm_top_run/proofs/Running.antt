@@ -1,5 +1,5 @@
 -- A simulation in round order, and the run of an image.
-use Rattle.std.proofs.Common.{◌≡◌, ℕ, ◌≤◌, ◌<◌, List, [], length, Option, Some, None, false, Bool, IsTrue, ◌⊎◌, inl}
+use Rattle.std.proofs.Common.{◌≡◌, ℕ, ◌≤◌, ◌<◌, List, [], length, Option, Some, None, true, false, Bool, IsTrue, ◌⊎◌, inl}
 use Rattle.std.proofs.Common.{inr, refl, sym, ap, ap₂, subst, ◌∙◌}
 use Rattle.std.specs.Prelude.{IsSomeAnd}
 use Rattle.std.proofs.lemmas.List.Elements.{All-nil}
@@ -146,11 +146,12 @@ in-order p lines limit g t events is none same ended journal (h, goes) =
 
 -- ---- the run of an image
 
-pub run_of_held : (r : Run) (tells : Bool) (held : Files) (program : Program) (seed : ℕ) (events : List Event)
+-- in the order that it asks for
+pub run_of_order : (r : Run) (tells : Bool) (held : Files) (program : Program) (seed : ℕ) (events : List Event)
     (text : List ℕ) (status : ℕ) (journal : Option (List Event)) → IsOpenedFor r tells held program seed
-    → IsToldOf program r.events events text status → IsRoundOrder program r.events events → r.threads ≡ false
+    → IsToldOf program r.events events text status → InOrder r.threads program r.events events
     → journal ≡ Some events → IsRunOf r tells held (record { text = text; status = status; journal = journal })
-run_of_held r tells held program seed events text status journal for_run told order threads is = record {
+run_of_order r tells held program seed events text status journal for_run told order is = record {
   file = for_run.file;
   of_file = record {
     program = program;
@@ -159,10 +160,28 @@ run_of_held r tells held program seed events text status journal for_run told or
     events = events;
     its_journal = is;
     simulated = told.simulated;
-    in_order = subst (λ (t : Bool). InOrder t program r.events events) (sym threads) order;
+    in_order = order;
     told = told.told;
     silent = told.silent;
   };
   read = for_run.read;
   accepted = for_run.accepted;
 }
+
+-- in round order
+pub run_of_held : (r : Run) (tells : Bool) (held : Files) (program : Program) (seed : ℕ) (events : List Event)
+    (text : List ℕ) (status : ℕ) (journal : Option (List Event)) → IsOpenedFor r tells held program seed
+    → IsToldOf program r.events events text status → IsRoundOrder program r.events events → r.threads ≡ false
+    → journal ≡ Some events → IsRunOf r tells held (record { text = text; status = status; journal = journal })
+run_of_held r tells held program seed events text status journal for_run told order threads is =
+    run_of_order r tells held program seed events text status journal for_run told
+    (subst (λ (t : Bool). InOrder t program r.events events) (sym threads) order) is
+
+-- by threads
+pub run_of_threads : (r : Run) (tells : Bool) (held : Files) (program : Program) (seed : ℕ) (events : List Event)
+    (text : List ℕ) (status : ℕ) (journal : Option (List Event)) → IsOpenedFor r tells held program seed
+    → IsToldOf program r.events events text status → r.threads ≡ true
+    → journal ≡ Some events → IsRunOf r tells held (record { text = text; status = status; journal = journal })
+run_of_threads r tells held program seed events text status journal for_run told threads is =
+    run_of_order r tells held program seed events text status journal for_run told
+    (subst (λ (t : Bool). InOrder t program r.events events) (sym threads) tt) is
