@@ -1,5 +1,6 @@
 -- Labelled code: the words that it will have (this project).
-use Rattle.std.specs.Prelude.{◌≡◌, ℕ, ◌+◌, ◌-◌, ◌*◌, ◌<◌, ◌≤◌, ◌&&◌, nat_le, List, [], ◌∷◌, ◌++◌, length, Option, Some, None, slice_get, if◌then◌else◌, ℤ, pos, negsuc, int_le, Bool, true, false}
+use Rattle.std.specs.Prelude.{◌≡◌, ℕ, ◌+◌, ◌-◌, ◌*◌, ◌<◌, ◌≤◌, ◌&&◌, nat_le, List, [], ◌∷◌, ◌++◌, length, Option}
+use Rattle.std.specs.Prelude.{Some, None, slice_get, if◌then◌else◌, ℤ, pos, negsuc, int_le, Bool, true, false}
 use Rattle.tm_table.specs.declared.instr.Op.{Op}
 use Rattle.tm_table.specs.declared.instr.Op.TheVariants.{Jal, Beq, Bne, Blt, Bge, Bltu, Bgeu}
 use Rattle.tm_table.specs.declared.instr.Instr.{Instr}
@@ -135,34 +136,7 @@ IsFarAt ps at x NoMemory = ⊥
 abbrev pub IsWithin : ℕ → ℕ → ℕ → Type 0
 IsWithin reach from to = (to < from + reach) × (from ≤ to + reach)
 
--- ---- what a call appends
-
--- labels keep the places that they have
-abbrev pub KeepsPlaces : List (Option ℕ) → List (Option ℕ) → Type 0
-KeepsPlaces ps qs = (label p : ℕ) → slice_get ps label ≡ Some (Some p) → slice_get qs label ≡ Some (Some p)
-
--- labels without a place stay so
-abbrev pub KeepsOpen : List (Option ℕ) → List (Option ℕ) → Type 0
-KeepsOpen ps qs = (label : ℕ) → slice_get ps label ≡ Some None → slice_get qs label ≡ Some None
-
--- new is old with words that will be this block, whatever places other labels get
-pub record Appends (old new : Sheet) (block : List Instr) : Type 0 where
-  pub extra : List Item
-  pub items : new.items ≡ old.items ++ extra
-  pub places : KeepsPlaces old.places new.places
-  pub open' : KeepsOpen old.places new.places
-  pub words : (ps : List (Option ℕ)) → KeepsPlaces new.places ps → instrs ps (length old.items) extra ≡ block
-
--- The same, where the words lead to one label of old that has no place yet: block gives them for each place.
-pub record AppendsFor (label : ℕ) (old new : Sheet) (block : ℕ → List Instr) : Type 0 where
-  pub extra : List Item
-  pub items : new.items ≡ old.items ++ extra
-  pub places : KeepsPlaces old.places new.places
-  pub open' : KeepsOpen old.places new.places
-  pub words : (ps : List (Option ℕ)) (p : ℕ) → KeepsPlaces new.places ps → slice_get ps label ≡ Some (Some p)
-      → instrs ps (length old.items) extra ≡ block p
-
--- ---- plain instructions
+-- ---- what a call appends: plain instructions
 
 -- instructions as words to come
 abbrev pub plain : List Instr → List Item

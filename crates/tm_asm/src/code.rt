@@ -1,7 +1,10 @@
 // Labelled code.
-ghost use Rattle.std.specs.Prelude.{◌≡◌, ℕ, ◌<◌, ◌≤◌, ◌↔◌, List, [], ◌∷◌, ◌++◌, length, true, false, Option, Some, None, IfOk, IfErr, IfSome, IsSome, OnOk, OnErr, slice_get, slice_set};
+ghost use Rattle.std.specs.Prelude.{◌≡◌, ℕ, ◌<◌, ◌≤◌, ◌↔◌, List, [], ◌∷◌, ◌++◌, length, true, false, Option, Some};
+ghost use Rattle.std.specs.Prelude.{None, IfOk, IfErr, IfSome, IsSome, OnOk, OnErr, slice_get, slice_set};
 ghost use Rattle.tm_table.specs.Words.{Fits};
-ghost use Rattle.tm_asm.specs.Sheet.{Sheet, AllGood, AllPlaced, AllReach, IsFar, IsFarAt, HasPlace, IsWithin, is_branch, instrs, words_of, distance, reaches, resolved, place_of as own_place_of};
+ghost use Rattle.tm_asm.specs.Sheet.{Sheet, AllGood, AllPlaced, AllReach, IsFar, IsFarAt, HasPlace, IsWithin};
+ghost use Rattle.tm_asm.specs.Sheet.{is_branch, instrs, words_of, distance, reaches, resolved};
+ghost use Rattle.tm_asm.specs.Sheet.{place_of as own_place_of};
 ghost use Rattle.tm_asm.specs.declared.code.Item.TheVariants.{Plain, Branch, Jump};
 
 use crate::fault::CodeFault;
@@ -61,7 +64,10 @@ impl Code {
     /// Appends an instruction, or changes nothing.
     pub fn put(&mut self, i: Instr) -> Result<(), NoMemory>
         requires { Fits i }
-        ensures ok { OnOk result (self.new ≡ record { items = self.old.items ++ Plain i ∷ []; places = self.old.places }) }
+        ensures ok { OnOk result (self.new ≡ record {
+          items = self.old.items ++ Plain i ∷ [];
+          places = self.old.places;
+        }) }
         ensures err { OnErr result (self.new ≡ self.old) }
     {
         self.items.push(Item::Plain(i)).map_err(|_| NoMemory)
@@ -69,7 +75,8 @@ impl Code {
 
     /// A new label without a place; or nothing changes.
     pub fn fresh(&mut self) -> Result<Label, NoMemory>
-        ensures ok { IfOk result (λ label. (label.number ≡ length self.old.places) × (self.new ≡ record { items = self.old.items; places = self.old.places ++ None ∷ [] })) }
+        ensures ok { IfOk result (λ label. (label.number ≡ length self.old.places)
+            × (self.new ≡ record { items = self.old.items; places = self.old.places ++ None ∷ [] })) }
         ensures err { OnErr result (self.new ≡ self.old) }
     {
         let number = self.places.len() as u64;
@@ -82,7 +89,10 @@ impl Code {
     /// Sets a label's place to the next word.
     pub fn here(&mut self, label: Label)
         requires { slice_get self.old.places label.number ≡ Some None }
-        ensures { self.new ≡ record { items = self.old.items; places = slice_set self.old.places label.number (Some (length self.old.items)) } }
+        ensures { self.new ≡ record {
+          items = self.old.items;
+          places = slice_set self.old.places label.number (Some (length self.old.items));
+        } }
     {
         let place = self.items.len() as u64;
         self.places[label.number as usize] = Some(place);
@@ -93,7 +103,10 @@ impl Code {
         requires branch { is_branch op ≡ true }
         requires rs1 { rs1 < 32 }
         requires rs2 { rs2 < 32 }
-        ensures ok { OnOk result (self.new ≡ record { items = self.old.items ++ Branch op rs1 rs2 to.number ∷ []; places = self.old.places }) }
+        ensures ok { OnOk result (self.new ≡ record {
+          items = self.old.items ++ Branch op rs1 rs2 to.number ∷ [];
+          places = self.old.places;
+        }) }
         ensures err { OnErr result (self.new ≡ self.old) }
     {
         self.items
@@ -104,7 +117,10 @@ impl Code {
     /// Appends a jump to a label, with its link in `rd`, or changes nothing.
     pub fn jump(&mut self, rd: u8, to: Label) -> Result<(), NoMemory>
         requires { rd < 32 }
-        ensures ok { OnOk result (self.new ≡ record { items = self.old.items ++ Jump rd to.number ∷ []; places = self.old.places }) }
+        ensures ok { OnOk result (self.new ≡ record {
+          items = self.old.items ++ Jump rd to.number ∷ [];
+          places = self.old.places;
+        }) }
         ensures err { OnErr result (self.new ≡ self.old) }
     {
         self.items

@@ -1,5 +1,7 @@
 -- How one line of assembler text is read (this project).
-use Rattle.std.specs.Prelude.{ℕ, ◌+◌, ◌-◌, ◌*◌, ◌/◌, ◌%◌, ◌==◌, Bool, not, ◌&&◌, ◌||◌, nat_lt, if◌then◌else◌, ℤ, pos, negsuc, ◌-ℤ◌, int_le, unsigned_abs, List, [], ◌∷◌, length, drop, find, slice_index, bytes_eq, Option, Some, None, option_map, Result, Ok, Err}
+use Rattle.std.specs.Prelude.{ℕ, ◌+◌, ◌-◌, ◌*◌, ◌/◌, ◌%◌, ◌==◌, Bool, not, ◌&&◌, ◌||◌, nat_lt, if◌then◌else◌, ℤ, pos}
+use Rattle.std.specs.Prelude.{negsuc, ◌-ℤ◌, int_le, unsigned_abs, List, [], ◌∷◌, length, drop, find, slice_index}
+use Rattle.std.specs.Prelude.{bytes_eq, Option, Some, None, option_map, Result, Ok, Err}
 use Rattle.std.specs.List.{take_while, prefix_len, suffix_len}
 use Rattle.std.specs.Char.{is_digit, digit_value}
 use Rattle.tm_base.specs.declared.numbers.NumberFault.{NumberFault}
@@ -17,7 +19,8 @@ use Rattle.tm_asm_line.specs.declared.shape.Operand.TheVariants.{Register, Numbe
 use Rattle.tm_asm_line.specs.declared.shape.Piece.{Piece}
 use Rattle.tm_asm_line.specs.declared.shape.Piece.TheVariants.{Take, Mark}
 use Rattle.tm_asm_line.specs.declared.fault.AsmFault.{AsmFault}
-use Rattle.tm_asm_line.specs.declared.fault.AsmFault.TheVariants.{UnknownName, BadRegister, BadNumber, OutOfRange, BadShape}
+use Rattle.tm_asm_line.specs.declared.fault.AsmFault.TheVariants.{UnknownName, BadRegister, BadNumber, OutOfRange}
+use Rattle.tm_asm_line.specs.declared.fault.AsmFault.TheVariants.{BadShape}
 use Rattle.tm_asm_line.specs.Shapes.{name_of, shape_of, pieces_of, set_text, sets}
 
 -- ---- bytes
@@ -51,7 +54,8 @@ register_of bs =
     let b = slice_index bs 2 in
     if not (slice_index bs 0 == 120) then None
     else if length bs == 2 && is_digit a 10 then Some (digit_value a)
-    else if length bs == 3 && ((is_digit a 10 && is_digit b 10) && (not (a == 48) && nat_lt (10 * digit_value a + digit_value b) 32))
+    else if length bs == 3 && ((is_digit a 10 && is_digit b 10)
+    && (not (a == 48) && nat_lt (10 * digit_value a + digit_value b) 32))
     then Some (10 * digit_value a + digit_value b) else None
 
 -- the number that was read, if it was

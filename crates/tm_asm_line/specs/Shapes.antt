@@ -1,7 +1,11 @@
 -- The names of the ops, and the table of their operands (this project; the names are those of RV64I 2.1 in lower case).
 use Rattle.std.specs.Prelude.{ℕ, ℤ, pos, negsuc, Bool, true, false, List, [], ◌∷◌, get_or, codes}
 use Rattle.tm_table.specs.declared.instr.Op.{Op}
-use Rattle.tm_table.specs.declared.instr.Op.TheVariants.{Lui, Auipc, Jal, Jalr, Beq, Bne, Blt, Bge, Bltu, Bgeu, Lb, Lh, Lw, Ld, Lbu, Lhu, Lwu, Sb, Sh, Sw, Sd, Addi, Slti, Sltiu, Xori, Ori, Andi, Slli, Srli, Srai, Add, Sll, Slt, Sltu, Xor, Srl, Or, And, Sub, Sra, Addiw, Slliw, Srliw, Sraiw, Addw, Sllw, Srlw, Subw, Sraw, Fence, Ecall, Ebreak}
+use Rattle.tm_table.specs.declared.instr.Op.TheVariants.{Lui, Auipc, Jal, Jalr, Beq, Bne, Blt, Bge, Bltu, Bgeu, Lb}
+use Rattle.tm_table.specs.declared.instr.Op.TheVariants.{Lh, Lw, Ld, Lbu, Lhu, Lwu, Sb, Sh, Sw, Sd, Addi, Slti, Sltiu}
+use Rattle.tm_table.specs.declared.instr.Op.TheVariants.{Xori, Ori, Andi, Slli, Srli, Srai, Add, Sll, Slt, Sltu, Xor}
+use Rattle.tm_table.specs.declared.instr.Op.TheVariants.{Srl, Or, And, Sub, Sra, Addiw, Slliw, Srliw, Sraiw, Addw}
+use Rattle.tm_table.specs.declared.instr.Op.TheVariants.{Sllw, Srlw, Subw, Sraw, Fence, Ecall, Ebreak}
 use Rattle.tm_asm_line.specs.declared.shape.Slot.{Slot}
 use Rattle.tm_asm_line.specs.declared.shape.Slot.TheVariants.{Rd, Rs1, Rs2}
 use Rattle.tm_asm_line.specs.declared.shape.Side.TheVariants.{Before, After}
@@ -10,7 +14,8 @@ use Rattle.tm_asm_line.specs.declared.shape.Operand.TheVariants.{Register, Numbe
 use Rattle.tm_asm_line.specs.declared.shape.Piece.{Piece}
 use Rattle.tm_asm_line.specs.declared.shape.Piece.TheVariants.{Take, Mark}
 use Rattle.tm_asm_line.specs.declared.shape.Shape.{Shape}
-use Rattle.tm_asm_line.specs.declared.shape.Shape.TheVariants.{Upper, Jump, Memory, Branch, Store, Immediate, Shift64, Shift32, Registers, Fences, Bare}
+use Rattle.tm_asm_line.specs.declared.shape.Shape.TheVariants.{Upper, Jump, Memory, Branch, Store, Immediate, Shift64}
+use Rattle.tm_asm_line.specs.declared.shape.Shape.TheVariants.{Shift32, Registers, Fences, Bare}
 
 -- the op's name (RV64I 2.1)
 unfoldable pub name_of : Op → List ℕ

@@ -2,7 +2,8 @@
 ghost use Rattle.std.specs.Prelude.{◌≡◌, ◌+◌, ◌≤◌, ◌++◌, length, Ok, OnOk, OnErr};
 ghost use Rattle.tm_table.specs.Words.{Fits as FitsInstr};
 ghost use Rattle.tm_asm_line.specs.Reading.{line_of};
-ghost use Rattle.tm_asm_line.specs.Printing.{printed, gap as own_gap, piece_text, operand_text, mark_text, register_in as own_register_in};
+ghost use Rattle.tm_asm_line.specs.Printing.{printed, gap as own_gap, piece_text, operand_text, mark_text};
+ghost use Rattle.tm_asm_line.specs.Printing.{register_in as own_register_in};
 
 use crate::line::Line;
 use crate::read::{set_after, set_before};

@@ -1,5 +1,6 @@
 // One line of assembler text, read from left to right.
-ghost use Rattle.std.specs.Prelude.{ℕ, ◌≡◌, ◌≢◌, ◌+◌, ◌<◌, ◌≤◌, ◌-◌, ◌^◌, ◌≤ℤ◌, pos, negsuc, IfOk, IfSome, SomeIff, IsTrue, find, bytes_eq, length, not, slice_index};
+ghost use Rattle.std.specs.Prelude.{ℕ, ◌≡◌, ◌≢◌, ◌+◌, ◌<◌, ◌≤◌, ◌-◌, ◌^◌, ◌≤ℤ◌, pos, negsuc, IfOk, IfSome, SomeIff};
+ghost use Rattle.std.specs.Prelude.{IsTrue, find, bytes_eq, length, not, slice_index};
 ghost use Rattle.std.specs.Char.{digit_value};
 ghost use Rattle.std.specs.List.{prefix_len, suffix_len};
 ghost use Rattle.tm_table.specs.Table.{ops};

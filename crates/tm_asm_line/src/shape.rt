@@ -69,7 +69,8 @@ pub enum Shape {
     Bare,
 }
 
-/// Operands, written as they stand in a line: `rd`, `rs1` and `rs2` are registers, `a..=b` is a number, `comma`, `open` and
+/// Operands, written as they stand in a line: `rd`, `rs1` and `rs2` are registers, `a..=b` is a number, `comma`,
+/// `open` and
 /// `close` are the marks between them.
 macro_rules! piece {
     (rd) => {

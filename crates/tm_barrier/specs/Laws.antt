@@ -1,5 +1,6 @@
 -- What every run of a barrier's words does, over all values that the flags return (this project's own).
-use Rattle.std.specs.Prelude.{◌≡◌, ◌≢◌, ℕ, zero, suc, ◌+◌, ◌*◌, ◌%◌, ◌^◌, ◌<◌, ◌≤◌, ◌⊎◌, List, [], ◌∷◌, ◌++◌, length, Bool, true, false, not, ◌&&◌, ◌||◌, ◌==◌, if◌then◌else◌, IsTrue}
+use Rattle.std.specs.Prelude.{◌≡◌, ◌≢◌, ℕ, zero, suc, ◌+◌, ◌*◌, ◌%◌, ◌^◌, ◌<◌, ◌≤◌, ◌⊎◌, List, [], ◌∷◌, ◌++◌, length}
+use Rattle.std.specs.Prelude.{Bool, true, false, not, ◌&&◌, ◌||◌, ◌==◌, if◌then◌else◌, IsTrue}
 use Rattle.tm_table.specs.declared.state.Access.{Access}
 use Rattle.tm_table.specs.declared.state.Access.TheVariants.{Quiet, Read, Write}
 use Rattle.tm_plan_map.specs.Map.{flag_at}
@@ -110,7 +111,8 @@ pub record HasMet (lo hi h n c m : ℕ) (s t : State) : Type 0 where
 abbrev pub MeetRuns : (h n : ℕ) → Type 0
 MeetRuns h n = (w : World) (s : State) (c : ℕ) → Meeting w h n c → get s.regs 31 + 256 ≡ c → s.mem c + 1 < 2 ^ 64
     → At w.text s.pc (meet h n)
-    → Keeps w (Barred s.pc (s.pc + 4 * length (meet h n)) h n c (s.mem c + 1) s) (HasMet s.pc (s.pc + 4 * length (meet h n)) h n c (s.mem c + 1) s) s
+    → Keeps w (Barred s.pc (s.pc + 4 * length (meet h n)) h n c (s.mem c + 1) s)
+    (HasMet s.pc (s.pc + 4 * length (meet h n)) h n c (s.mem c + 1) s) s
 
 -- the state after a step that only goes on
 abbrev pub after_fence : State → State

@@ -19,8 +19,8 @@ pub struct BarrierMarks {
 }
 
 /// Hart `h`'s barrier among up to 16 harts, as a subroutine that is entered by JAL with link x1, and with the address
-/// of the hart's private area in x31. The count of exits is kept in the dword 256 bytes into that area. It changes x2 to
-/// x4 alone. Without memory a part may have been appended.
+/// of the hart's private area in x31. The count of exits is kept in the dword 256 bytes into that area. It changes x2
+/// to x4 alone. Without memory a part may have been appended.
 pub fn put_barrier(code: &mut Code, h: u32, harts: u32) -> Result<BarrierMarks, NoMemory>
     requires mine { h < harts }
     requires few { harts ≤ 16 }

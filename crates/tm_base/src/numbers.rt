@@ -1,4 +1,5 @@
-ghost use Rattle.std.specs.Prelude.{◌≡◌, ◌++◌, ◌≤◌, ◌<◌, ◌+◌, ◌^◌, ◌⊎◌, OnOk, OnErr, Ok, length, SomeIff, EachIndex, slice_index, true, position, not};
+ghost use Rattle.std.specs.Prelude.{◌≡◌, ◌++◌, ◌≤◌, ◌<◌, ◌+◌, ◌^◌, ◌⊎◌, OnOk, OnErr, Ok, length, SomeIff, EachIndex};
+ghost use Rattle.std.specs.Prelude.{slice_index, true, position, not};
 ghost use Rattle.std.specs.Fmt.{decimal};
 ghost use Rattle.std.specs.Char.{is_digit, digit_char};
 ghost use Rattle.tm_base.specs.Numbers.{number_of, digits_reading, place_value, hex_text};

@@ -1,7 +1,8 @@
 -- The instructions of which support code is made (RV64I 2.1), and the words of a list of them.
 use Rattle.std.specs.Prelude.{ℕ, ◌-◌, pos, negsuc, List, map}
 use Rattle.tm_table.specs.declared.instr.Instr.{Instr}
-use Rattle.tm_table.specs.declared.instr.Op.TheVariants.{Addi, Slli, Add, Xor, And, Ld, Sd, Beq, Bne, Bltu, Jal, Jalr, Fence}
+use Rattle.tm_table.specs.declared.instr.Op.TheVariants.{Addi, Slli, Add, Xor, And, Ld, Sd, Beq, Bne, Bltu, Jal, Jalr}
+use Rattle.tm_table.specs.declared.instr.Op.TheVariants.{Fence}
 use Rattle.tm_table.specs.Words.{word_of}
 
 -- rd = x[rs1] + n

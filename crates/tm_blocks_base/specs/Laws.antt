@@ -170,7 +170,8 @@ SaveRegistersRuns = (w : World) (s : State) (b : ℕ) → get s.regs 31 ≡ b �
 
 -- the state after the store of x8 at an address
 abbrev pub after_verdict : (cell : ℕ) → State → State
-after_verdict cell s = moved (sd 8 0 7) s (Write cell 8 (get s.regs 8)) (s.pc + 4) s.regs (put s.mem cell (get s.regs 8))
+after_verdict cell s = moved (sd 8 0 7) s (Write cell 8 (get s.regs 8)) (s.pc + 4) s.regs
+    (put s.mem cell (get s.regs 8))
 
 -- the store of the verdict by itself
 abbrev pub LastStoreRuns : (cell : ℕ) → Type 0

@@ -1,5 +1,6 @@
 -- The verdict as a number, apart from the machine that computes it (this project's own).
-use Rattle.std.specs.Prelude.{◌≡◌, ℕ, zero, suc, ◌+◌, ◌-◌, ◌*◌, ◌/◌, ◌%◌, ◌^◌, ◌<◌, Bool, ◌&&◌, not, nat_lt, ◌==◌, if◌then◌else◌, bit_and, bit_xor, ◌⊎◌}
+use Rattle.std.specs.Prelude.{◌≡◌, ℕ, zero, suc, ◌+◌, ◌-◌, ◌*◌, ◌/◌, ◌%◌, ◌^◌, ◌<◌, Bool, ◌&&◌, not, nat_lt, ◌==◌}
+use Rattle.std.specs.Prelude.{if◌then◌else◌, bit_and, bit_xor, ◌⊎◌}
 use Rattle.tm_world.specs.Place.{byte_of}
 
 -- Dword i of two saved states, a and b, differs where it is checked: dword i below 30 is register i + 1, checked

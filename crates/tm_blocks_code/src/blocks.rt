@@ -2,7 +2,8 @@
 ghost use Rattle.std.specs.Prelude.{◌≡◌, ◌<◌, ◌≤◌, ◌*◌, ◌/◌, ◌%◌, ◌^◌, OnOk};
 ghost use Rattle.tm_asm.specs.Sheet.{puts};
 ghost use Rattle.tm_blocks_base.specs.Blocks.{constant, load_registers, save_registers};
-ghost use Rattle.tm_blocks_base.specs.Laws.{ConstantRuns, LoadAllButLastRuns, LastLoadRuns, LoadRegistersRuns, SaveRegistersRuns};
+ghost use Rattle.tm_blocks_base.specs.Laws.{ConstantRuns, LoadAllButLastRuns, LastLoadRuns, LoadRegistersRuns};
+ghost use Rattle.tm_blocks_base.specs.Laws.{SaveRegistersRuns};
 
 use crate::instrs::{addi, ld, sd, slli};
 use crate::put::put_all;

@@ -1,7 +1,8 @@
 // Instructions of support code (RV64I 2.1). Registers are below 32, and distances are in bytes.
 ghost use Rattle.std.specs.Prelude.{◌≡◌, ◌<◌, ◌≤◌, ◌%◌};
 ghost use Rattle.tm_table.specs.Words.{Fits};
-ghost use Rattle.tm_blocks_base.specs.Instrs.{add, addi, and, beq, bltu_back, bne, bne_back, fence, go_to, jump, ld, sd, slli, subi, xor};
+ghost use Rattle.tm_blocks_base.specs.Instrs.{add, addi, and, beq, bltu_back, bne, bne_back, fence, go_to, jump, ld};
+ghost use Rattle.tm_blocks_base.specs.Instrs.{sd, slli, subi, xor};
 
 use tm_table::{Instr, Op};
 

@@ -31,10 +31,6 @@ pick-small : (c : Bool) (x n : ℕ) → x ≤ n → (if c then x else 0) ≤ n
 pick-small true x n a = a
 pick-small false x n a = omega arith
 
-pick-other : (c : Bool) (x n : ℕ) → x ≤ n → (if c then 0 else x) ≤ n
-pick-other true x n a = omega arith
-pick-other false x n a = a
-
 register-small : (mem : Table) (M n p q i : ℕ) → first_register mem M p q i n ≤ i + n
 register-small mem M zero p q i = omega arith
 register-small mem M (suc n) p q i =

@@ -51,17 +51,21 @@ abbrev pub CompareAllRuns : Cases → (h first masks bytes cell : ℕ) → Type 
 CompareAllRuns cases h first masks bytes cell = (w : World) (s : State) → AreShaped cases → h < cases.harts
     → cell < 2 ^ 64 → Comparing w cases h first masks bytes
     → At w.text s.pc (compare_all_but_last cases h first masks bytes cell)
-    → Takes w (Within s.pc (s.pc + 4 * length (compare_all_but_last cases h first masks bytes cell)) (Uses (λ a. IsTrue (w.own a)) Nowhere)) (HasVerdictOfAll cases h first masks bytes cell s) (26 + cases.passes * (385 + 13 * length (owned cases h))) s
+    → Takes w (Within s.pc (s.pc + 4 * length (compare_all_but_last cases h first masks bytes cell))
+    (Uses (λ a. IsTrue (w.own a)) Nowhere)) (HasVerdictOfAll cases h first masks bytes cell s)
+    (26 + cases.passes * (385 + 13 * length (owned cases h))) s
 
 -- dword i of pass k is the same as in pass 0, where it is checked, by registers and bytes
 abbrev pub SameIn : Table → Cases → (h first masks bytes k i : ℕ) → Type 0
-SameIn mem cases h first masks bytes k i = Agrees (mem masks) (λ j. mem (slice_index (mask_addresses cases h bytes) j)) (λ l. mem (first + 8 * l)) (λ l. mem (first + 8192 * k + 8 * l)) i
+SameIn mem cases h first masks bytes k i = Agrees (mem masks) (λ j. mem (slice_index (mask_addresses cases h bytes) j))
+    (λ l. mem (first + 8 * l)) (λ l. mem (first + 8192 * k + 8 * l)) i
 
 -- the verdict names the least pass, and in it the least dword, that differs
 abbrev pub NamesLeastOfAll : Cases → (h first masks bytes : ℕ) → Type 0
 NamesLeastOfAll cases h first masks bytes = (mem : Table) → 2 ≤ cases.passes → ((j : ℕ) → j < length (owned cases h)
     → IsMask (mem (slice_index (mask_addresses cases h bytes) j)))
-    → IsNumberOfAll (SameIn mem cases h first masks bytes) cases.passes (30 + length (owned cases h)) (verdict_of_all mem cases h first masks bytes)
+    → IsNumberOfAll (SameIn mem cases h first masks bytes) cases.passes (30 + length (owned cases h))
+    (verdict_of_all mem cases h first masks bytes)
 
 -- The world of a program's hart has what a comparison takes for case c, where the program's tables have a table for
 -- each case.

@@ -52,7 +52,8 @@ window_check masks lines n b far =
 -- hart h's lines of window v, whose masks stand as far from `bytes` as they from the windows' first byte
 abbrev pub own_check : Cases → (h bytes v far : ℕ) → List Instr
 own_check cases h bytes v far =
-    window_check (bytes + line_place cases h v) (line_count cases h v) (cases.line / 8) (cases.line * cases.harts - cases.line) far
+    window_check (bytes + line_place cases h v) (line_count cases h v) (cases.line / 8)
+    (cases.line * cases.harts - cases.line) far
 
 -- the lines of window 2
 abbrev pub last_check : Cases → (h bytes : ℕ) → List Instr
@@ -74,7 +75,8 @@ pass_head first = constant 1 first ++ (slli 2 9 13 ∷ add 2 2 1 ∷ addi 8 0 0 
 -- the registers and then the windows of one pass
 unfoldable pub pass_body : Cases → (h bytes : ℕ) → List Instr
 pass_body cases h bytes =
-    register_loop (5 + length (last_check cases h bytes) + length (next_check cases h bytes) + length (first_check cases h bytes))
+    register_loop (5 + length (last_check cases h bytes) + length (next_check cases h bytes)
+    + length (first_check cases h bytes))
     ++ first_check cases h bytes ++ next_check cases h bytes ++ last_check cases h bytes
 
 -- the next pass, if there is one

@@ -6,7 +6,8 @@ use tm_plan_cases::{Cases, Program};
 
 /// The words compare all passes, and their verdict names the least pass and the least dword that differs.
 pub fn compare(cases: &Cases)
-    ensures runs { (h : ℕ) → (first : ℕ) → (masks : ℕ) → (bytes : ℕ) → (cell : ℕ) → CompareAllRuns cases.now h first masks bytes cell }
+    ensures runs { (h : ℕ) → (first : ℕ) → (masks : ℕ) → (bytes : ℕ) → (cell : ℕ)
+        → CompareAllRuns cases.now h first masks bytes cell }
     ensures least { (h : ℕ) → (first : ℕ) → (masks : ℕ) → (bytes : ℕ) → NamesLeastOfAll cases.now h first masks bytes }
 {
     let _ = cases;

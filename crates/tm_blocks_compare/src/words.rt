@@ -5,7 +5,8 @@ ghost use Rattle.tm_plan_map.specs.Map.{verdict_at};
 ghost use Rattle.tm_asm.specs.Sheet.{puts};
 ghost use Rattle.tm_blocks_base.specs.Instrs.{add, addi, ld, sd, slli};
 ghost use Rattle.tm_blocks_base.specs.Laws.{LastStoreRuns};
-ghost use Rattle.tm_blocks_compare.specs.Words.{pass_head, pass_body, pass_tail, all_passes, closing, compare_case, case_masks, case_bytes};
+ghost use Rattle.tm_blocks_compare.specs.Words.{pass_head, pass_body, pass_tail, all_passes, closing, compare_case};
+ghost use Rattle.tm_blocks_compare.specs.Words.{case_masks, case_bytes};
 ghost use Rattle.tm_blocks_compare.specs.Runs.{CaseRuns, CaseNamesLeast};
 
 use crate::checks::{check_length, put_own_check, put_register_loop};
@@ -16,7 +17,8 @@ use tm_plan_cases::Cases;
 use tm_plan_map::{save_addr, table_addr, verdict_addr};
 
 /// Compares the saved dwords of all passes of case `c`, below 64, with those of pass 0, under the masks of the case's
-/// table, and writes hart `h`'s verdict cell once. It changes x1 to x10 alone. Without memory a part may have been appended.
+/// table, and writes hart `h`'s verdict cell once. It changes x1 to x10 alone. Without memory a part may have been
+/// appended.
 pub fn put_compare(code: &mut Code, cases: &Cases, c: u32, h: u32) -> Result<(), NoMemory>
     requires shaped { AreShaped cases.now }
     requires mine { h < cases.now.harts }

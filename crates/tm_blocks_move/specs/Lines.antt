@@ -19,7 +19,8 @@ half_stride cases = cases.line * cases.harts / 2
 abbrev pub first_window : Cases → (h from v : ℕ) → List Instr
 first_window cases h from v =
     constant 2 (windows_base + line_place cases h v)
-    ++ move_lines (from + line_place cases h v) (line_count cases h v) (cases.line / 8) (half_stride cases) (half_stride cases)
+    ++ move_lines (from + line_place cases h v) (line_count cases h v) (cases.line / 8) (half_stride cases)
+    (half_stride cases)
 
 -- all declared dwords that hart h collects
 unfoldable pub first_bytes : Cases → (h from : ℕ) → List Instr
@@ -28,7 +29,8 @@ first_bytes cases h from = flat_map (first_window cases h from) three
 -- hart h's lines of window v go to where x2 points
 abbrev pub collect_window : Cases → (h v : ℕ) → List Instr
 collect_window cases h v =
-    move_lines (windows_base + line_place cases h v) (line_count cases h v) (cases.line / 8) (half_stride cases) (cases.line / 2)
+    move_lines (windows_base + line_place cases h v) (line_count cases h v) (cases.line / 8) (half_stride cases)
+    (cases.line / 2)
 
 -- all of them
 unfoldable pub collect_windows : Cases → ℕ → List Instr

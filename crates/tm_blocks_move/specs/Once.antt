@@ -1,5 +1,6 @@
 -- That each dword which a hart collects is read once, at each step of collecting (this project's own).
-use Rattle.std.specs.Prelude.{◌≡◌, ℕ, ◌+◌, ◌*◌, ◌%◌, ◌^◌, ◌<◌, ◌≤◌, List, [], ◌∷◌, ◌++◌, length, true, false, IsTrue, Some}
+use Rattle.std.specs.Prelude.{◌≡◌, ℕ, ◌+◌, ◌*◌, ◌%◌, ◌^◌, ◌<◌, ◌≤◌, List, [], ◌∷◌, ◌++◌, length, true, false, IsTrue}
+use Rattle.std.specs.Prelude.{Some}
 use Rattle.tm_table.specs.declared.instr.Instr.{Instr}
 use Rattle.tm_table.specs.declared.state.Access.{Access}
 use Rattle.tm_table.specs.declared.state.Access.TheVariants.{Read}
@@ -38,4 +39,5 @@ CollectsOnce cases h = (w : World) (s : State) (b save : ℕ) → ((a : ℕ) (i 
     → AreShaped cases → h < cases.harts → get s.regs 31 ≡ b → get s.regs 9 ≡ save → save < 2 ^ 63 → b % 8 ≡ 0
     → b + 240 ≤ windows_base
     → EachMove (Movable w) (all_collected cases h b save) → At w.text s.pc (collect_all cases h)
-    → Takes w (λ t. ReadOnce cases h s t.log) (HasDone w (collect_all cases h) (all_collected cases h b save) s) (97 + 4 * length (owned cases h)) s
+    → Takes w (λ t. ReadOnce cases h s t.log) (HasDone w (collect_all cases h) (all_collected cases h b save) s)
+    (97 + 4 * length (owned cases h)) s

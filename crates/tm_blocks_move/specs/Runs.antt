@@ -33,7 +33,8 @@ pub record HasDone (w : World) (code : List Instr) (ms : List Move) (s t : State
 abbrev pub FirstBytesRuns : Cases → (h from : ℕ) → Type 0
 FirstBytesRuns cases h from = (w : World) (s : State) → AreShaped cases → h < cases.harts → from < 2 ^ 63
     → EachMove (Movable w) (set_moves from (owned cases h)) → At w.text s.pc (first_bytes cases h from)
-    → Takes w (Within s.pc (s.pc + 4 * length (first_bytes cases h from)) (UsesMoves (set_moves from (owned cases h)))) (HasDone w (first_bytes cases h from) (set_moves from (owned cases h)) s) (69 + 4 * length (owned cases h)) s
+    → Takes w (Within s.pc (s.pc + 4 * length (first_bytes cases h from)) (UsesMoves (set_moves from (owned cases h))))
+    (HasDone w (first_bytes cases h from) (set_moves from (owned cases h)) s) (69 + 4 * length (owned cases h)) s
 
 -- what is moved by collecting: the 30 dwords at b, and then the declared dwords that hart h collects, in address order
 abbrev pub all_collected : Cases → (h b save : ℕ) → List Move
@@ -44,7 +45,8 @@ abbrev pub CollectAllRuns : Cases → ℕ → Type 0
 CollectAllRuns cases h = (w : World) (s : State) (b save : ℕ) → AreShaped cases → h < cases.harts → get s.regs 31 ≡ b
     → get s.regs 9 ≡ save → save < 2 ^ 63 → EachMove (Movable w) (all_collected cases h b save)
     → At w.text s.pc (collect_all cases h)
-    → Takes w (Within s.pc (s.pc + 4 * length (collect_all cases h)) (UsesMoves (all_collected cases h b save))) (HasDone w (collect_all cases h) (all_collected cases h b save) s) (97 + 4 * length (owned cases h)) s
+    → Takes w (Within s.pc (s.pc + 4 * length (collect_all cases h)) (UsesMoves (all_collected cases h b save)))
+    (HasDone w (collect_all cases h) (all_collected cases h b save) s) (97 + 4 * length (owned cases h)) s
 
 -- In the world of a program's hart these moves may be made: the first values of the windows stand anywhere in the
 -- guest's memory outside the windows, and a save area is one of the hart's.

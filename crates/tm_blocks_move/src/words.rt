@@ -5,7 +5,8 @@ ghost use Rattle.tm_asm.specs.Sheet.{puts};
 ghost use Rattle.tm_blocks_base.specs.Instrs.{addi};
 ghost use Rattle.tm_blocks_base.specs.Blocks.{copy_dword, copy_dwords};
 ghost use Rattle.tm_blocks_move.specs.Words.{line_turn, lines_loop, move_lines};
-ghost use Rattle.tm_blocks_move.specs.Lines.{half_stride, first_window, first_bytes, collect_window, collect_windows, collect_all};
+ghost use Rattle.tm_blocks_move.specs.Lines.{half_stride, first_window, first_bytes, collect_window, collect_windows};
+ghost use Rattle.tm_blocks_move.specs.Lines.{collect_all};
 ghost use Rattle.tm_blocks_move.specs.Runs.{FirstBytesRuns, CollectAllRuns};
 ghost use Rattle.tm_blocks_move.specs.Once.{CollectsOnce};
 

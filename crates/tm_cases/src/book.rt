@@ -16,8 +16,8 @@ pub struct Book {
     entries: Vec<Entry>,
 }
 
-/// Where the reading of a text stands: in plain bytes, behind a backslash, before the first or the second digit of a byte, or in a name
-/// whose bracket stands at a place.
+/// Where the reading of a text stands: in plain bytes, behind a backslash, before the first or the second digit of a
+/// byte, or in a name whose bracket stands at a place.
 #[derive(Clone, Copy)]
 enum Part {
     Plain,

@@ -8,8 +8,8 @@ use tm_base::{Bytes, NoMemory, push_decimal};
 use tm_desk::{MemDesk, MemSink};
 use tm_top::still;
 
-/// A command, `OPTIONS: WORDS`, over the held files: `desk=`, `out=` and `err=` have the numbers of the calls that fail, `most=` how many
-/// bytes a put takes.
+/// A command, `OPTIONS: WORDS`, over the held files: `desk=`, `out=` and `err=` have the numbers of the calls that
+/// fail, `most=` how many bytes a put takes.
 pub fn command(
     alloc: Global,
     state: &mut State,

@@ -6,8 +6,8 @@ use std::alloc::Global;
 use tm_base::{Bytes, NoMemory, push_decimal};
 use tm_desk::{CalmDesk, CalmSink, Desk, MemSink, Sink, put_all};
 
-/// Calls of a desk in memory that holds the files, `OPTIONS: CALL; CALL`, with the calls `read NAME MAX` and `write NAME TEXT`; of one
-/// that never fails where the options have `calm=1`.
+/// Calls of a desk in memory that holds the files, `OPTIONS: CALL; CALL`, with the calls `read NAME MAX` and `write
+/// NAME TEXT`; of one that never fails where the options have `calm=1`.
 pub fn desk(alloc: Global, state: &State, rest: &str, out: &mut Bytes) -> Result<(), NoMemory> {
     let (options, ops) = rest.split_once(": ").unwrap_or(("", rest));
     if option(options, "calm") == "1" {
@@ -71,8 +71,8 @@ fn put_written<D: Desk>(
     out.append(b"; ")
 }
 
-/// Puts into a sink in memory, `OPTIONS: PUT; PUT`, with `put TEXT` for one put and `all TEXT` for as many as it takes; into one that
-/// never fails where the options have `calm=1`.
+/// Puts into a sink in memory, `OPTIONS: PUT; PUT`, with `put TEXT` for one put and `all TEXT` for as many as it
+/// takes; into one that never fails where the options have `calm=1`.
 pub fn sink(alloc: Global, state: &State, rest: &str, out: &mut Bytes) -> Result<(), NoMemory> {
     let (options, ops) = rest.split_once(": ").unwrap_or(("", rest));
     if option(options, "calm") == "1" {

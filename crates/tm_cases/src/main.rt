@@ -1,7 +1,8 @@
 // Answers the cases of the files that lie where it runs: each case, and behind it what the call answers.
 //
-// A line of a file is a kind and its words, a text by name (`let NAME TEXT`, `times NAME COUNT TEXT`, `change NAME OLD CHANGES`), a held
-// file (`hold NAME TEXT`, `drop`), or a remark behind `#`. A text writes bytes as `\n`, `\t`, `\r`, `\\`, `\xHH`, `\e` (none), and
+// A line of a file is a kind and its words, a text by name (`let NAME TEXT`, `times NAME COUNT TEXT`, `change NAME
+// OLD CHANGES`), a held file (`hold NAME TEXT`, `drop`), or a remark behind `#`. A text writes bytes as `\n`, `\t`,
+// `\r`, `\\`, `\xHH`, `\e` (none), and
 // `{NAME}` for a text by name.
 #![tactic(auto)]
 

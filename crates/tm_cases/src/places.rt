@@ -123,7 +123,8 @@ fn placement(harts: u32, line: u32, w0: &str, w1: &str, w2: &str) -> Placement
     }
 }
 
-/// Whether a hart may store and load: `HARTS LINE W0 W1 W2 HART ADDR WIDTH`, with windows such as `true1` and `own5`, or `-`.
+/// Whether a hart may store and load: `HARTS LINE W0 W1 W2 HART ADDR WIDTH`, with windows such as `true1` and `own5`,
+/// or `-`.
 pub fn may(rest: &str, out: &mut Bytes) -> Result<(), NoMemory> {
     let [harts, line, w0, w1, w2, h, addr, width] = words_of(rest);
     let harts = small(harts);

@@ -143,7 +143,8 @@ fn put_places(t: &Template, out: &mut Bytes) -> Result<(), NoMemory> {
     put_pos(out, t.end)
 }
 
-/// The rule that a template breaks on a topology by name: `TOPOLOGY TEMPLATE`; or how many slots each hart has in each case.
+/// The rule that a template breaks on a topology by name: `TOPOLOGY TEMPLATE`; or how many slots each hart has in
+/// each case.
 pub fn rules(alloc: Global, texts: &Book, rest: &str, out: &mut Bytes) -> Result<(), NoMemory> {
     let (name, text) = rest.split_once(' ').unwrap_or((rest, ""));
     let text = texts.read(text)?;

@@ -1,5 +1,6 @@
 -- When a desk or a sink may answer an error. Source: this project.
-use Rattle.std.specs.Prelude.{◌≡◌, ◌⊎◌, ◌+◌, ◌-◌, ◌^◌, ◌≤◌, ◌<◌, ℕ, List, [], length, take, min, Option, None, IsSomeAnd, Result, Ok, Err}
+use Rattle.std.specs.Prelude.{◌≡◌, ◌⊎◌, ◌+◌, ◌-◌, ◌^◌, ◌≤◌, ◌<◌, ℕ, List, [], length, take, min, Option, None}
+use Rattle.std.specs.Prelude.{IsSomeAnd, Result, Ok, Err}
 use Rattle.tm_desk.specs.declared.desk.DeskError.{DeskError}
 use Rattle.tm_desk.specs.declared.desk.DeskError.TheVariants as desk
 use Rattle.tm_desk.specs.declared.sink.SinkError.{SinkError}

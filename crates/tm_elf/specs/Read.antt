@@ -1,5 +1,6 @@
 -- A file, read.
-use Rattle.std.specs.Prelude.{ℕ, zero, suc, List, [], ◌∷◌, ◌+◌, ◌-◌, ◌/◌, ◌^◌, ◌<◌, Option, Some, None, Result, Ok, Err, if◌then◌else◌, All}
+use Rattle.std.specs.Prelude.{ℕ, zero, suc, List, [], ◌∷◌, ◌+◌, ◌-◌, ◌/◌, ◌^◌, ◌<◌, Option, Some, None, Result, Ok}
+use Rattle.std.specs.Prelude.{Err, if◌then◌else◌, All}
 use Rattle.tm_elf_write.specs.declared.parts.Parts.{Parts}
 use Rattle.tm_elf_write.specs.declared.parts.Symbol.{Symbol}
 use Rattle.tm_elf_write.specs.Elf.{elf_file}
@@ -19,7 +20,8 @@ words_from bytes (suc count) at = word_at bytes at ∷ words_from bytes count (a
 
 -- the symbols behind the entry of zeros (this project)
 unfoldable pub symbols_in : List ℕ → Result (List Symbol) ElfFault
-symbols_in bytes = symbols_from (bytes_in (section bytes 5) bytes) (bytes_in (section bytes 6) bytes) ((section bytes 5).len / 24 - 1) 1
+symbols_in bytes = symbols_from (bytes_in (section bytes 5) bytes) (bytes_in (section bytes 6) bytes)
+    ((section bytes 5).len / 24 - 1) 1
 
 -- the parts of a file with these symbols, each from where the headers say (this project)
 unfoldable pub parts_in : (bytes : List ℕ) (symbols : List Symbol) → Parts

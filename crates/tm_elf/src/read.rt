@@ -1,10 +1,12 @@
 // Reads the file.
-ghost use Rattle.std.specs.Prelude.{◌≡◌, ◌≢◌, ◌≤◌, ◌+◌, ◌*◌, ◌/◌, length, Ok, Err, None, IfOk, IfErr, MatchResult, IsTrue};
+ghost use Rattle.std.specs.Prelude.{◌≡◌, ◌≢◌, ◌≤◌, ◌+◌, ◌*◌, ◌/◌, length, Ok, Err, None, IfOk, IfErr, MatchResult};
+ghost use Rattle.std.specs.Prelude.{IsTrue};
 ghost use Rattle.tm_elf_write.specs.Elf.{IsWritable, elf_file};
 ghost use Rattle.tm_elf_write.specs.declared.parts.Parts.{Parts};
 ghost use Rattle.tm_elf.specs.Read.{InRange, compared, elf_of, parts_in, symbols_in, words_from};
 ghost use Rattle.tm_elf_head.specs.HeaderFaults.{header_fault as head_fault};
-ghost use Rattle.tm_elf_head.specs.PartFaults.{bad_segment as segment_at_fault, has_plan as with_plan, has_symbols as with_symbols};
+ghost use Rattle.tm_elf_head.specs.PartFaults.{bad_segment as segment_at_fault, has_plan as with_plan};
+ghost use Rattle.tm_elf_head.specs.PartFaults.{has_symbols as with_symbols};
 
 use crate::symbols::read_symbols;
 use std::alloc::Global;
@@ -103,7 +105,8 @@ pub fn read_elf(alloc: Global, bytes: &[u8]) -> Result<Parts, ElfFault>
     ensures err { IfErr result (λ e. e ≢ ElfFault.NoMemory → elf_of bytes.now ≡ Err e) }
     ensures file { IfOk result (λ parts. elf_file parts ≡ bytes.now) }
     ensures writable { IfOk result (λ parts. IsWritable parts) }
-    ensures only { (parts : Parts) → IsWritable parts → InRange parts → elf_file parts ≡ bytes.now → MatchResult result (λ read. read ≡ parts) (λ e. e ≡ ElfFault.NoMemory) }
+    ensures only { (parts : Parts) → IsWritable parts → InRange parts → elf_file parts ≡ bytes.now
+        → MatchResult result (λ read. read ≡ parts) (λ e. e ≡ ElfFault.NoMemory) }
 {
     read(alloc, bytes)
 }

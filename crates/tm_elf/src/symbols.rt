@@ -1,5 +1,6 @@
 // The symbols.
-ghost use Rattle.std.specs.Prelude.{◌≡◌, ◌≢◌, ◌≤◌, ◌+◌, ◌-◌, ◌*◌, ◌/◌, ◌%◌, ◌<◌, length, Ok, Err, Some, None, IfOk, IfErr, IsTrue};
+ghost use Rattle.std.specs.Prelude.{◌≡◌, ◌≢◌, ◌≤◌, ◌+◌, ◌-◌, ◌*◌, ◌/◌, ◌%◌, ◌<◌, length, Ok, Err, Some, None, IfOk};
+ghost use Rattle.std.specs.Prelude.{IfErr, IsTrue};
 ghost use Rattle.tm_elf_head.specs.PartFaults.{has_symbols as with_symbols};
 ghost use Rattle.tm_elf.specs.SymbolTable.{symbol_at as symbol_of_entry, symbols_from, then_symbols};
 ghost use Rattle.tm_elf.specs.Read.{symbols_in};
@@ -29,7 +30,8 @@ fn symbol_at(alloc: Global, table: &[u8], strings: &[u8], index: usize) -> Resul
     requires few { length table.now ≤ 1572864 }
     requires within { 24 * index + 24 ≤ length table.now }
     ensures ok { IfOk result (λ s. symbol_of_entry table.now strings.now index ≡ Some s) }
-    ensures err { IfErr result (λ e. e ≢ ElfFault.NoMemory → (symbol_of_entry table.now strings.now index ≡ None) × (e ≡ ElfFault.BadSymbol index)) }
+    ensures err { IfErr result (λ e. e ≢ ElfFault.NoMemory → (symbol_of_entry table.now strings.now index ≡ None)
+        × (e ≡ ElfFault.BadSymbol index)) }
 {
     let named = part_at(strings, word_at(table, 24 * index) as usize, MAX_NAME + 1);
     match name_len(named) {
@@ -53,8 +55,10 @@ fn symbol_at(alloc: Global, table: &[u8], strings: &[u8], index: usize) -> Resul
 #[tactic(auto, using(crate::proofs::SymbolLemmas::prepend_start, crate::proofs::SymbolLemmas::prepend_more, crate::proofs::SymbolLemmas::prepend_stop, crate::proofs::SymbolLemmas::prepend_end))]
 fn read_entries(alloc: Global, table: &[u8], strings: &[u8]) -> Result<List<Symbol>, ElfFault>
     requires few { length table.now ≤ 1572864 }
-    ensures ok { IfOk result (λ symbols. symbols_from table.now strings.now (length table.now / 24 - 1) 1 ≡ Ok symbols) }
-    ensures err { IfErr result (λ e. e ≢ ElfFault.NoMemory → symbols_from table.now strings.now (length table.now / 24 - 1) 1 ≡ Err e) }
+    ensures ok { IfOk result (λ symbols. symbols_from table.now strings.now (length table.now / 24 - 1) 1
+        ≡ Ok symbols) }
+    ensures err { IfErr result (λ e. e ≢ ElfFault.NoMemory
+        → symbols_from table.now strings.now (length table.now / 24 - 1) 1 ≡ Err e) }
 {
     let count = table.len() / 24;
     let mut symbols = List::new(alloc);

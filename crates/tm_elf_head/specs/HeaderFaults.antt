@@ -1,5 +1,6 @@
 -- What is at fault in a file header.
-use Rattle.std.specs.Prelude.{ℕ, List, [], ◌∷◌, ◌-◌, ◌==◌, Option, Some, None, option_map, not, nat_lt, if◌then◌else◌, length, take}
+use Rattle.std.specs.Prelude.{ℕ, List, [], ◌∷◌, ◌-◌, ◌==◌, Option, Some, None, option_map, not, nat_lt, if◌then◌else◌}
+use Rattle.std.specs.Prelude.{length, take}
 use Rattle.tm_elf_write.specs.Fields.{zeros}
 use Rattle.tm_elf_head.specs.declared.fault.ElfFault.{ElfFault}
 use Rattle.tm_elf_head.specs.declared.fault.ElfFault.TheVariants.{Short, BadMagic, NotRiscv, NotExec, BadHeader}

@@ -13,7 +13,10 @@ segment bytes index = record { at = long_at bytes (56 * index + 72); len = long_
 
 -- sh_offset and sh_size of a section header (ELF gABI, "Sections"), of 64 bytes each
 unfoldable pub section : (bytes : List ℕ) (index : ℕ) → Span
-section bytes index = record { at = long_at bytes (headers_at bytes + (64 * index + 24)); len = long_at bytes (headers_at bytes + (64 * index + 32)) }
+section bytes index = record {
+  at = long_at bytes (headers_at bytes + (64 * index + 24));
+  len = long_at bytes (headers_at bytes + (64 * index + 32));
+}
 
 -- whether a range ends by a place (this project)
 unfoldable pub ends_by : (limit : ℕ) → Span → Bool

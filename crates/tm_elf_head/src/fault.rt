@@ -17,7 +17,8 @@ pub enum ElfFault {
     NoPlan,
     /// The symbol table is at fault (0), or its entry of this number, up to 65,535.
     BadSymbol { index: u64 },
-    /// The file of the parts that were read is another one: the first place at which the two differ, or the shorter length.
+    /// The file of the parts that were read is another one: the first place at which the two differ, or the shorter
+    /// length.
     Differs { offset: u64 },
     NoMemory,
 }

@@ -13,4 +13,11 @@ places text tables plan symbols strings =
     let strings_at = symbols_at + symbols in
     let names_at = strings_at + strings in
     let sections_at = next_multiple 8 (names_at + 55) in
-    record { tables = tables_at; plan = plan_at; symbols = symbols_at; strings = strings_at; names = names_at; sections = sections_at }
+    record {
+      tables = tables_at;
+      plan = plan_at;
+      symbols = symbols_at;
+      strings = strings_at;
+      names = names_at;
+      sections = sections_at;
+    }

@@ -25,7 +25,18 @@ section_fields s =
 -- a row of the table: name, type, flags, address, offset, size, link, info, align, entry size (this project)
 abbrev pub section : (name kind flags address offset size link info align entry : ℕ) → Section
 section name kind flags address offset size link info align entry =
-    record { name = name; kind = kind; flags = flags; address = address; offset = offset; size = size; link = link; info = info; align = align; entry = entry }
+    record {
+      name = name;
+      kind = kind;
+      flags = flags;
+      address = address;
+      offset = offset;
+      size = size;
+      link = link;
+      info = info;
+      align = align;
+      entry = entry;
+    }
 
 -- The rows: none (ELF gABI), `.text`, `.tables`, `.work`, `.tmplan`, `.symtab`, `.strtab`, `.shstrtab` (this project).
 unfoldable pub sections : (text tables plan symbols strings : ℕ) → Places → List Section

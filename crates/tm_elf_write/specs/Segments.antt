@@ -23,7 +23,13 @@ segment_fields s =
 
 -- a row of the table: flags, offset, address, bytes in the file, bytes in memory (this project)
 abbrev pub segment : (flags offset address filesz memsz : ℕ) → Segment
-segment flags offset address filesz memsz = record { flags = flags; offset = offset; address = address; filesz = filesz; memsz = memsz }
+segment flags offset address filesz memsz = record {
+  flags = flags;
+  offset = offset;
+  address = address;
+  filesz = filesz;
+  memsz = memsz;
+}
 
 -- The rows: text (read and executed), tables (read) and work (read and written, filled with zeros by the loader)
 -- (this project).

@@ -1,7 +1,8 @@
 // The section headers and the sections' names.
 ghost use Rattle.std.specs.Prelude.{◌≡◌, ◌++◌, OnOk};
 ghost use Rattle.tm_elf_write.specs.Fields.{bytes_of};
-ghost use Rattle.tm_elf_write.specs.Sections.{section as section_row, section_fields, section_names, sections, sections_bytes};
+ghost use Rattle.tm_elf_write.specs.Sections.{section as section_row, section_fields, section_names, sections};
+ghost use Rattle.tm_elf_write.specs.Sections.{sections_bytes};
 
 use crate::fields::{Field, put_fields};
 use crate::places::{

@@ -66,7 +66,8 @@ fn file_of(
     Ok(out)
 }
 
-/// The bytes of an image's file: an executable of ELF gABI and RISC-V psABI with three segments, and with sections for the plan and the symbols.
+/// The bytes of an image's file: an executable of ELF gABI and RISC-V psABI with three segments, and with sections
+/// for the plan and the symbols.
 /// The only error is want of memory.
 #[tactic(auto, using(crate::proofs::Lengths::length_text, crate::proofs::Lengths::length_symbols, crate::proofs::Standing::reads_as))]
 pub fn write_elf(alloc: Global, parts: &Parts) -> Result<Bytes, NoMemory>

@@ -28,24 +28,3 @@ module _ {A : Type 0} where
   stays_or_put (x ∷ xs) zero (suc j) a b c e f = inl f
   stays_or_put (x ∷ xs) (suc k) zero a b c e f = inl f
   stays_or_put (x ∷ xs) (suc k) (suc j) a b c e f = stays_or_put xs k j a b c e f
-
--- One of them took a turn, or was told the progress.
-pub all_after : (m : Milled) (seats : List (SeatState Event Setup)) (k : ℕ) (s t : SeatState Event Setup)
-    → slice_get seats k ≡ Some s → IsOf m t → t.number ≡ s.number → AreAllOf m seats → AreAllOf m (set seats k t)
-all_after m seats k s t at of number a = record {
-  each = λ j x e. each j x (put_or_old seats k j t x e);
-  all = λ h l. all h (a.all h l);
-}
-  where
-    each : (j : ℕ) (x : SeatState Event Setup) → (x ≡ t) ⊎ (slice_get seats j ≡ Some x) → IsOf m x
-    each j x (inl e) = subst (IsOf m) (sym e) of
-    each j x (inr e) = a.each j x e
-
-    found : (h j : ℕ) (x : SeatState Event Setup) → x.number ≡ h
-        → (slice_get (set seats k t) j ≡ Some x) ⊎ ((x ≡ s) × (slice_get (set seats k t) j ≡ Some t))
-        → HasNumber h (set seats k t)
-    found h j x is (inl e) = (j, x, e, is)
-    found h j x is (inr e) = (j, t, e.1, number ∙ (sym (ap (λ (y : SeatState Event Setup). y.number) e.0) ∙ is))
-
-    all : (h : ℕ) → HasNumber h seats → HasNumber h (set seats k t)
-    all h (j, x, e, is) = found h j x is (stays_or_put seats k j t s x at e)

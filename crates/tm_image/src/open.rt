@@ -21,9 +21,12 @@ use tm_image_build::{Image, build};
 pub fn open_image(alloc: Global, bytes: &[u8]) -> Result<Image, ImageFault>
     ensures ok { IfOk result (λ image. opened bytes.now ≡ Ok image.file) }
     ensures file { IfOk result (λ image. image.file ≡ bytes.now) }
-    ensures plan { IfOk result (λ image. MatchResult (elf_of bytes.now) (λ parts. rebuilt parts ≡ Ok bytes.now) (λ _. ⊥)) }
-    ensures seed { IfOk result (λ image. MatchResult (elf_of bytes.now) (λ parts. image.seed ≡ parts.plan.seed) (λ _. ⊥)) }
-    ensures program { IfOk result (λ image. MatchResult (elf_of bytes.now) (λ parts. program_from parts.plan.seed (inputs parts.plan.topo parts.plan.template) ≡ Ok image.program) (λ _. ⊥)) }
+    ensures plan { IfOk result (λ image. MatchResult (elf_of bytes.now) (λ parts. rebuilt parts
+        ≡ Ok bytes.now) (λ _. ⊥)) }
+    ensures seed { IfOk result (λ image. MatchResult (elf_of bytes.now) (λ parts. image.seed
+        ≡ parts.plan.seed) (λ _. ⊥)) }
+    ensures program { IfOk result (λ image. MatchResult (elf_of bytes.now) (λ parts.
+        program_from parts.plan.seed (inputs parts.plan.topo parts.plan.template) ≡ Ok image.program) (λ _. ⊥)) }
     ensures sound { IfOk result (λ image. Sound image.program) }
     ensures typed { IfOk result (λ image. IsTyped image.program) }
     ensures err { IfErr result (λ e. e ≢ ImageFault.NoMemory → opened bytes.now ≡ Err e) }
@@ -45,7 +48,8 @@ fn rebuild(alloc: Global, parts: &Parts, bytes: &[u8]) -> Result<Image, ImageFau
     ensures file { IfOk result (λ image. image.file ≡ bytes.now) }
     ensures plan { IfOk result (λ image. rebuilt parts.now ≡ Ok bytes.now) }
     ensures seed { IfOk result (λ image. image.seed ≡ parts.now.plan.seed) }
-    ensures program { IfOk result (λ image. program_from parts.now.plan.seed (inputs parts.now.plan.topo parts.now.plan.template) ≡ Ok image.program) }
+    ensures program { IfOk result (λ image. program_from parts.now.plan.seed
+        (inputs parts.now.plan.topo parts.now.plan.template) ≡ Ok image.program) }
     ensures sound { IfOk result (λ image. Sound image.program) }
     ensures typed { IfOk result (λ image. IsTyped image.program) }
     ensures err { IfErr result (λ e. e ≢ ImageFault.NoMemory → compared bytes.now (rebuilt parts.now) ≡ Err e) }

@@ -69,7 +69,8 @@ fn test_of(alloc: Global, topo: &Topology, t: &Template) -> Result<Admitted, Bui
     requires range { IsInRange topo.now }
     ensures ok { IfOk result (λ a. inputs_.unless_broken topo.now t.now (broken_rule topo.now t.now) ≡ Ok a) }
     ensures ruled { IfOk result IsRuled }
-    ensures err { IfErr result (λ fault. inputs_.IsFaultOf fault (inputs_.unless_broken topo.now t.now (broken_rule topo.now t.now))) }
+    ensures err { IfErr result (λ fault. inputs_.IsFaultOf fault
+        (inputs_.unless_broken topo.now t.now (broken_rule topo.now t.now))) }
 {
     match admit(alloc, t, topo) {
         Ok(a) => Ok(a),

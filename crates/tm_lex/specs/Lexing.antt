@@ -1,5 +1,7 @@
 -- The tokens of a text, line by line. All of this is this project's own.
-use Rattle.std.specs.Prelude.{ℕ, ◌≡◌, ◌≤◌, ◌<◌, ◌+◌, ◌-◌, ◌==◌, Bool, ◌&&◌, ◌||◌, not, nat_le, nat_lt, if◌then◌else◌, List, [], ◌∷◌, ◌++◌, length, take, drop, map, find, position, Option, Some, None, option_map, Result, Ok, Err, codes, slice_index}
+use Rattle.std.specs.Prelude.{ℕ, ◌≡◌, ◌≤◌, ◌<◌, ◌+◌, ◌-◌, ◌==◌, Bool, ◌&&◌, ◌||◌, not, nat_le, nat_lt, if◌then◌else◌}
+use Rattle.std.specs.Prelude.{List, [], ◌∷◌, ◌++◌, length, take, drop, map, find, position, Option, Some, None}
+use Rattle.std.specs.Prelude.{option_map, Result, Ok, Err, codes, slice_index}
 use Rattle.std.specs.List.{before_first, prefix_len, suffix_len, slice_split}
 use Rattle.std.specs.Str.{bytes_eq}
 use Rattle.tm_lex.specs.declared.token.TokenKind.{TokenKind}
@@ -62,7 +64,12 @@ with_end n (s ∷ rest) = s ∷ rest ++ (LineEnd, (n, n)) ∷ []
 
 -- the token at a span of the line with this number, which begins at this place of the text
 abbrev pub token_at : ℕ → ℕ → TokenKind × Span → Token
-token_at number from s = record { kind = s.0; at = record { line = number; col = s.1.0 + 1 }; from = from + s.1.0; to = from + s.1.1 }
+token_at number from s = record {
+  kind = s.0;
+  at = record { line = number; col = s.1.0 + 1 };
+  from = from + s.1.0;
+  to = from + s.1.1;
+}
 
 -- the first byte that may not stand outside comments, and the first part of more than 64 bytes
 abbrev pub bad_byte : List ℕ → Option ℕ
@@ -103,7 +110,8 @@ unless_fault None r = r
 unfoldable pub lines_reading : ℕ → ℕ → List (List ℕ) → Result (List Token) LexFault
 lines_reading number from [] = Ok []
 lines_reading number from (line ∷ rest) =
-    unless_fault (line_fault number line) (before (line_tokens number from line) (lines_reading (number + 1) (from + length line + 1) rest))
+    unless_fault (line_fault number line) (before (line_tokens number from line)
+    (lines_reading (number + 1) (from + length line + 1) rest))
 
 -- the tokens of a text, or its first fault; LF ends a line, and the text's end the last one
 unfoldable pub tokens_of : List ℕ → Result (List Token) LexFault

@@ -1,5 +1,7 @@
 // A text is read line by line.
-ghost use Rattle.std.specs.Prelude.{ℕ, ◌≡◌, ◌≢◌, ◌++◌, ◌+◌, ◌^◌, ◌<◌, ◌≤◌, Ok, Err, Some, None, OnOk, IfOk, IfErr, IsTrue, length, drop, option_map, not, ◌==◌, ◌||◌, ◌-◌, IfSome, slice_index, codes, map, [], ◌∷◌};
+ghost use Rattle.std.specs.Prelude.{ℕ, ◌≡◌, ◌≢◌, ◌++◌, ◌+◌, ◌^◌, ◌<◌, ◌≤◌, Ok, Err, Some, None, OnOk, IfOk, IfErr};
+ghost use Rattle.std.specs.Prelude.{IsTrue, length, drop, option_map, not, ◌==◌, ◌||◌, ◌-◌, IfSome, slice_index};
+ghost use Rattle.std.specs.Prelude.{codes, map, [], ◌∷◌};
 ghost use Rattle.std.specs.Str.{bytes_eq};
 ghost use Rattle.std.specs.List.{prefix_len, suffix_len};
 ghost use Rattle.tm_lex.specs.Lexing as lexing;
@@ -18,7 +20,8 @@ pub fn tokens(alloc: Global, text: &[u8]) -> Result<List<Token>, LexFault>
     ensures ok { IfOk result (λ ts. lexing.tokens_of text.now ≡ Ok ts) }
     ensures err { IfErr result (λ e. e ≢ LexFault.NoMemory → lexing.tokens_of text.now ≡ Err e) }
 
-    // The words and gaps of each line tile it, and nothing is wrong in any; or the fault is the first place at which something is wrong.
+    // The words and gaps of each line tile it, and nothing is wrong in any; or the fault is the first place at which
+    // something is wrong.
     ensures tiled { IfOk result (λ ts. tiling.AreTokens text.now ts) }
     ensures first { IfErr result (λ e. e ≢ LexFault.NoMemory → tiling.IsFirstFault text.now e) }
     ensures in_order { IfOk result (λ ts. tiling.AreInOrder 0 (length text.now) ts) }
@@ -52,7 +55,8 @@ fn read_lines(alloc: Global, text: &[u8]) -> Result<List<Token>, LexFault>
 fn put_line(out: &mut List<Token>, line: &[u8], number: u32, from: u64) -> Result<(), LexFault>
     requires number { number + length line.now < 2 ^ 32 }
     requires from { from + length line.now < 2 ^ 32 - 1 }
-    ensures ok { OnOk result ((lexing.line_fault number line.now ≡ None) × (out.new ≡ out.old ++ lexing.line_tokens number from line.now)) }
+    ensures ok { OnOk result ((lexing.line_fault number line.now ≡ None)
+        × (out.new ≡ out.old ++ lexing.line_tokens number from line.now)) }
     ensures err { IfErr result (λ e. e ≢ LexFault.NoMemory → lexing.line_fault number line.now ≡ Some e) }
 {
     let bytes = &line[..content_len(line)];
@@ -113,7 +117,8 @@ fn put_words(
 ) -> Result<(), LexFault>
     requires within { at ≤ length bytes.now }
     requires small { start + length bytes.now < 2 ^ 32 }
-    ensures ok { OnOk result (out.new ≡ out.old ++ map (lexing.token_at number start) (lexing.as_words (lexing.words at (drop at bytes.now)))) }
+    ensures ok { OnOk result (out.new ≡ out.old ++ map (lexing.token_at number start)
+        (lexing.as_words (lexing.words at (drop at bytes.now)))) }
     ensures err { IfErr result (λ e. e ≡ LexFault.NoMemory) }
 {
     let mut at = at;

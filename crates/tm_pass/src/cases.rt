@@ -11,8 +11,8 @@ use tm_base::{NoMemory, Words};
 use tm_pass_code::append_case;
 use tm_plan_cases::Cases;
 
-/// Appends the words of all cases of hart `h`, of which the first begins at the address `first`, where the barrier stands
-/// at the address `barrier`. Without memory a part may have been appended.
+/// Appends the words of all cases of hart `h`, of which the first begins at the address `first`, where the barrier
+/// stands at the address `barrier`. Without memory a part may have been appended.
 pub fn append_cases(
     alloc: Global,
     out: &mut Words,

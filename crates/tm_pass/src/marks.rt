@@ -1,5 +1,6 @@
 // Where the cases of one hart's text stand.
-ghost use Rattle.std.specs.Prelude.{◌≡◌, ◌+◌, ◌*◌, ◌^◌, ◌<◌, ◌≤◌, [], ◌∷◌, ◌++◌, length, map, slice_index_or, OnOk, IfOk};
+ghost use Rattle.std.specs.Prelude.{◌≡◌, ◌+◌, ◌*◌, ◌^◌, ◌<◌, ◌≤◌, [], ◌∷◌, ◌++◌, length, map, slice_index_or, OnOk};
+ghost use Rattle.std.specs.Prelude.{IfOk};
 ghost use Rattle.tm_base.specs.Lists.{count_from};
 ghost use Rattle.tm_plan_cases.specs.Shaped.{AreShaped};
 ghost use Rattle.tm_pass_text.specs.Words.{before_size, case_size, streams_of};
@@ -60,7 +61,8 @@ fn mark_case(
         ≡ marks.old.ends ++ (marks.old.behind + 4 * before_size (blocks_of cases.now h) c
         + 4 * length (slice_index_or (streams_of cases.now h) c [])) ∷ []) }
     ensures behind { OnOk result (marks.new.behind
-        ≡ marks.old.behind + 4 * case_size (blocks_of cases.now h) c (length (slice_index_or (streams_of cases.now h) c []))) }
+        ≡ marks.old.behind + 4 * case_size (blocks_of cases.now h) c
+        (length (slice_index_or (streams_of cases.now h) c []))) }
 {
     let size = size_of(alloc, cases, h, c)?;
     let start = marks.behind + 4 * size.before;

@@ -55,7 +55,8 @@ pub fn append_behind(
     requires back { (back % 2 ≡ 0) × (2 ≤ back) × (back ≤ 1048576) }
     requires even { d % 2 ≡ 0 }
     requires near { d ≤ 1048574 }
-    ensures { OnOk result (out.new ≡ out.old ++ words_of (case_behind (blocks_of cases.now h) cases.now.passes c back d)) }
+    ensures { OnOk result (out.new
+        ≡ out.old ++ words_of (case_behind (blocks_of cases.now h) cases.now.passes c back d)) }
 {
     let mut code = Code::new(alloc);
     put_behind(&mut code, cases, h, c, back, d)?;

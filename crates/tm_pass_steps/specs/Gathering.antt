@@ -30,5 +30,6 @@ PassIsCollected p = Formed p → MasksFit p.cases p.masks → (h : ℕ) → h < 
     → (limit : ℕ → ℕ) (q d k : ℕ) (ms : List Mark) (s : State)
     → k < passes p → collect_cost (length (owned p.cases h)) ≤ limit q → Hold p h lo q d 0 ms s
     → s.mem (private_at h + 264) ≡ k → now_in (exit_of p h) s.log ≡ [] → Told p h limit s.log
-    → Leads p h limit s (λ t. Ready p h (lo + 24 + 4 * length (collect_all p.cases h)) q d (collect_cost (length (owned p.cases h))) ms t
+    → Leads p h limit s (λ t. Ready p h (lo + 24 + 4 * length (collect_all p.cases h)) q d
+    (collect_cost (length (owned p.cases h))) ms t
     × CollectsTo p h k q s t × Told p h limit t.log)

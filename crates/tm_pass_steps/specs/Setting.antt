@@ -37,5 +37,6 @@ FirstIsSet p = Formed p → MasksFit p.cases p.masks → (h : ℕ) → h < harts
     → Clear p h lo (lo + 4 * length (first_bytes p.cases h from))
     → (limit : ℕ → ℕ) (q d o : ℕ) (ms : List Mark) (s : State)
     → q % 2 ≡ 0 → o + set_cost (length (owned p.cases h)) ≤ limit q → Ready p h lo q d o ms s → Told p h limit s.log
-    → Leads p h limit s (λ t. Ready p h (lo + 4 * length (first_bytes p.cases h from)) q d (o + set_cost (length (owned p.cases h))) ms t
+    → Leads p h limit s (λ t. Ready p h (lo + 4 * length (first_bytes p.cases h from)) q d
+    (o + set_cost (length (owned p.cases h))) ms t
     × Same p h s t × AreSet p h c (now_in (exit_of p h) t.log) × Told p h limit t.log)

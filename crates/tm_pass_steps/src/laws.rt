@@ -91,7 +91,8 @@ pub fn blocks_make_steps(program: &Program)
     let _ = program;
 }
 
-/// A hart whose blocks stand in their places keeps the course, writes its verdicts exactly, works within its limits and doesn't get stuck.
+/// A hart whose blocks stand in their places keeps the course, writes its verdicts exactly, works within its limits
+/// and doesn't get stuck.
 pub fn placed_hart_keeps(program: &Program)
     ensures { PlacedHartKeeps program.now }
 {

@@ -17,7 +17,8 @@
 --     compare   the passes, and the verdict
 --   the halt mark
 --   the barrier, whose last word stands at the exit mark
-use Rattle.std.specs.Prelude.{◌≡◌, ℕ, zero, suc, ◌+◌, ◌-◌, ◌*◌, ◌<◌, ◌≤◌, List, [], ◌∷◌, ◌++◌, length, map, slice_get, slice_index_or, Option, None, Some, pos}
+use Rattle.std.specs.Prelude.{◌≡◌, ℕ, zero, suc, ◌+◌, ◌-◌, ◌*◌, ◌<◌, ◌≤◌, List, [], ◌∷◌, ◌++◌, length, map, slice_get}
+use Rattle.std.specs.Prelude.{slice_index_or, Option, None, Some, pos}
 use Rattle.tm_table.specs.declared.instr.Op.TheVariants.{Jal}
 use Rattle.tm_table.specs.declared.instr.Instr.{Instr}
 use Rattle.tm_plan_cases.specs.declared.cases.Case.{Case}
@@ -92,7 +93,8 @@ unfoldable pub case_words : Blocks → (passes c : ℕ) → List ℕ → (at bar
 case_words b passes c stream at barrier =
     words_of (case_before b c (barrier - (at + 4 * (1 + length (b.first c)))))
     ++ (stream
-    ++ words_of (case_behind b passes c (4 * back_words b c (length stream)) (barrier - (at + 4 * (before_size b c + length stream + length b.save)))))
+    ++ words_of (case_behind b passes c (4 * back_words b c (length stream))
+    (barrier - (at + 4 * (before_size b c + length stream + length b.save)))))
 
 -- ---- all cases of a hart
 

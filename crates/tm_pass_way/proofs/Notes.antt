@@ -21,10 +21,6 @@ phase-grows exit e log = by (e.pc == exit)
     by true = omega arith
     by false = omega arith
 
-none-here : {A : Type 0} (b : Bool) (x : A) → ◌≡◌ {A = Option A} (if b then None else None) None
-none-here true x = refl
-none-here false x = refl
-
 cons-nil : {A : Type 0} (x : A) (xs : List A) → ◌≡◌ {A = List A} (x ∷ xs) [] → ⊥
 cons-nil x xs e = cc
 

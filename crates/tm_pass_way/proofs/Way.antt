@@ -34,9 +34,6 @@ way-case p c =
     let e : c ≡ 0 + c = omega arith in
     ap (λ (d : ℕ). flat_map f (count_from 0 c) ++ f d) e ∙ (sym (flat-last f 0 c) ∙ sym (append-nil (flat_map f (count_from 0 (suc c)))))
 
-pub way-whole : (p : Program) → way_to p (case_count p) 0 ++ (Halt ∷ []) ≡ whole_way p
-way-whole p = ap (λ (l : List Mark). l ++ (Halt ∷ [])) (append-nil (flat_map (λ d. few_passes d (passes p)) (count_from 0 (case_count p))))
-
 -- ---- phases
 
 phase-case : (p : Program) (c : ℕ) → phase_at p c (passes p) ≡ phase_at p (suc c) 0

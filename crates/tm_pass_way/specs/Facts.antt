@@ -1,6 +1,7 @@
 -- What each entry of a hart's log keeps, and what a log tells so far (this project's own). Each field is a part of
 -- the course, or of the verdicts, said of entries.
-use Rattle.std.specs.Prelude.{◌≡◌, ◌≢◌, ℕ, suc, ◌+◌, ◌%◌, ◌/◌, ◌-◌, ◌<◌, ◌≤◌, true, false, ◌==◌, List, [], ◌∷◌, slice_get, slice_index, Option, None, Some, IsTrue, IsFalse, IfSome, All}
+use Rattle.std.specs.Prelude.{◌≡◌, ◌≢◌, ℕ, suc, ◌+◌, ◌%◌, ◌/◌, ◌-◌, ◌<◌, ◌≤◌, true, false, ◌==◌, List, [], ◌∷◌}
+use Rattle.std.specs.Prelude.{slice_get, slice_index, Option, None, Some, IsTrue, IsFalse, IfSome, All}
 use Rattle.tm_table.specs.declared.state.Access.TheVariants.{Read, Write}
 use Rattle.tm_plan_cases.specs.declared.cases.Case.{Case}
 use Rattle.tm_plan_cases.specs.declared.cases.Stream.{Stream}
@@ -27,10 +28,12 @@ pub record Signalling (p : Program) (h q : ℕ) (past : List Entry) (e : Entry) 
   pub value : e.access ≡ Write (flag_at h) 8 (q + 1)
   pub once : any (signals_in h) (now_in (exit_of p h) past) ≡ false
   pub fence : any (λ (t : Entry). t.word == 0x0330000F) (front_to (λ (t : Entry). is_write t.access) past) ≡ true
-  pub ended : IfSome (case_of_phase p q) (λ c. IsTrue (any (λ (t : Entry). t.next == end_of p h c) (now_in (exit_of p h) past)))
+  pub ended : IfSome (case_of_phase p q) (λ c. IsTrue
+      (any (λ (t : Entry). t.next == end_of p h c) (now_in (exit_of p h) past)))
   pub more : q ≢ last_phase p
 
--- The hart leaves phase q, told of its log: it has signalled in it, and has since got at least q + 1 from each other flag.
+-- The hart leaves phase q, told of its log: it has signalled in it, and has since got at least q + 1 from each other
+-- flag.
 pub record Leaving (p : Program) (h q : ℕ) (past : List Entry) : Type 0 where
   pub signalled : any (signals_in h) (now_in (exit_of p h) past) ≡ true
   pub met : (g : ℕ) → g < harts p → g ≢ h

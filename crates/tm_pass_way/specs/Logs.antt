@@ -1,5 +1,6 @@
 -- What the log of a hart tells (this project's own). It is that of tm_world's words on steps, said of entries.
-use Rattle.std.specs.Prelude.{◌≡◌, ℕ, zero, suc, ◌+◌, ◌*◌, ◌^◌, ◌<◌, Bool, false, ◌&&◌, ◌||◌, not, ◌==◌, List, [], ◌∷◌, Option, None, Some, IsTrue, All, if◌then◌else◌, option_map}
+use Rattle.std.specs.Prelude.{◌≡◌, ℕ, zero, suc, ◌+◌, ◌*◌, ◌^◌, ◌<◌, Bool, false, ◌&&◌, ◌||◌, not, ◌==◌, List, []}
+use Rattle.std.specs.Prelude.{◌∷◌, Option, None, Some, IsTrue, All, if◌then◌else◌, option_map}
 use Rattle.tm_plan_cases.specs.declared.masks.CaseMask.{CaseMask}
 use Rattle.tm_plan_cases.specs.declared.program.Program.{Program}
 use Rattle.tm_plan_map.specs.Map.{flag_at, verdict_at}
@@ -36,7 +37,8 @@ now_in exit log = steps_in exit (phase_in exit log) log
 abbrev pub left_in : Program → (h c q : ℕ) → List Entry → Option Table
 left_in p h c q [] = None
 left_in p h c q (e
-    ∷ past) = or_else (left_in p h c q past) (if (phase_in (exit_of p h) past == q) && (inside p h c e.pc && not (inside p h c e.next)) then Some e.regs else None)
+    ∷ past) = or_else (left_in p h c q past) (if (phase_in (exit_of p h) past == q)
+    && (inside p h c e.pc && not (inside p h c e.next)) then Some e.regs else None)
 
 -- what the first read of b in phase q returned
 abbrev pub read_in : Program → (h q b : ℕ) → List Entry → Option ℕ
@@ -77,7 +79,9 @@ signals_in h e = writes_flag h e.access
 
 -- an idle read
 abbrev pub idles_at : Program → ℕ → List Entry → Entry → Bool
-idles_at p h past e = any (signals_in h) (now_in (exit_of p h) past) && any (λ g. not (g == h) && gets_less (flag_at g) (phase_in (exit_of p h) past + 1) e.access) (count_from 0 (harts p))
+idles_at p h past e = any (signals_in h) (now_in (exit_of p h) past)
+    && any (λ g. not (g == h) && gets_less (flag_at g) (phase_in (exit_of p h) past + 1) e.access)
+    (count_from 0 (harts p))
 
 -- one of the n newest is an idle read
 abbrev pub lately_at : Program → ℕ → ℕ → List Entry → Bool

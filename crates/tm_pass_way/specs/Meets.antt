@@ -1,6 +1,7 @@
 -- What else a hart keeps on half runs (this project's own). The first three and the work of a phase stand in
 -- tm_meet's specs, `WritesLate` in tm_quiet's.
-use Rattle.std.specs.Prelude.{◌≡◌, ◌≢◌, false, ℕ, suc, ◌+◌, ◌-◌, ◌/◌, ◌<◌, ◌≤◌, ◌==◌, List, [], ◌∷◌, slice_get, slice_index, Some, IsTrue, All, if◌then◌else◌}
+use Rattle.std.specs.Prelude.{◌≡◌, ◌≢◌, false, ℕ, suc, ◌+◌, ◌-◌, ◌/◌, ◌<◌, ◌≤◌, ◌==◌, List, [], ◌∷◌, slice_get}
+use Rattle.std.specs.Prelude.{slice_index, Some, IsTrue, All, if◌then◌else◌}
 use Rattle.tm_table.specs.declared.state.Access.TheVariants.{Write}
 use Rattle.tm_table.specs.State.{Hart}
 use Rattle.tm_plan_cases.specs.declared.cases.Case.{Case}

@@ -29,7 +29,12 @@ pub record KeepsPace (p : Program) (h : ℕ) (pace : Pace) (first : Hart) (own :
 
 -- what the parts of one pass cost
 abbrev pub pace_of : Costs → Pace
-pace_of cost = record { sets = cost.reset + cost.first + cost.meet; runs = cost.load + cost.save + cost.meet; ends = cost.collect + cost.turn; compares = cost.compare }
+pace_of cost = record {
+  sets = cost.reset + cost.first + cost.meet;
+  runs = cost.load + cost.save + cost.meet;
+  ends = cost.collect + cost.turn;
+  compares = cost.compare;
+}
 
 -- The limit of each phase: odd ones run a pass; phase 0 sets up the first; the others end a pass, compare where it
 -- was the last of its case, and set up the next, but for the very last.

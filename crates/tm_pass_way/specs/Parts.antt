@@ -13,7 +13,8 @@
 --       collect  the end state goes to the save area
 --       turn     the counter goes up; to set c, or behind the last pass to compare c
 --     compare    the verdict, and on to head (c + 1), which behind the last case is the halt mark
-use Rattle.std.specs.Prelude.{◌≡◌, ◌≢◌, ℕ, suc, ◌+◌, ◌-◌, ◌*◌, ◌^◌, ◌<◌, ◌≤◌, false, true, ◌==◌, List, [], ◌∷◌, ◌++◌, length, slice_get, slice_index, Some, IsTrue, IfSome, flat_map, if◌then◌else◌}
+use Rattle.std.specs.Prelude.{◌≡◌, ◌≢◌, ℕ, suc, ◌+◌, ◌-◌, ◌*◌, ◌^◌, ◌<◌, ◌≤◌, false, true, ◌==◌, List, [], ◌∷◌, ◌++◌}
+use Rattle.std.specs.Prelude.{length, slice_get, slice_index, Some, IsTrue, IfSome, flat_map, if◌then◌else◌}
 use Rattle.tm_plan_cases.specs.declared.masks.CaseMask.{CaseMask}
 use Rattle.tm_plan_cases.specs.declared.program.Program.{Program}
 use Rattle.tm_plan_map.specs.Map.{text_base, private_at, save_at}
@@ -151,7 +152,8 @@ pub record CollectsTo (p : Program) (h k q : ℕ) (s t : State) : Type 0 where
   pub others : (r b : ℕ) → r ≢ q → read_in p h r b t.log ≡ read_in p h r b s.log
   pub read : (j i : ℕ) → j < length (owned p.cases h) → i < 8
       → read_in p h q (slice_index (owned p.cases h) j + i) t.log
-      ≡ or_else (read_in p h q (slice_index (owned p.cases h) j + i) s.log) (Some (byte_of (t.mem (save_at h k + 8 * (30 + j))) i))
+      ≡ or_else (read_in p h q (slice_index (owned p.cases h) j + i) s.log)
+      (Some (byte_of (t.mem (save_at h k + 8 * (30 + j))) i))
   pub dwords : (i : ℕ) → i < 30 → t.mem (save_at h k + 8 * i) ≡ s.mem (private_at h + 8 * i)
   pub area : (j i : ℕ) → j < k → i < saved p h → t.mem (save_at h j + 8 * i) ≡ s.mem (save_at h j + 8 * i)
   pub counter : t.mem (private_at h + 264) ≡ s.mem (private_at h + 264)
@@ -256,7 +258,8 @@ pub record Turns (p : Program) (h : ℕ) (at : Places) (cost : Costs) (limit : �
       → o + cost.compare ≤ limit (phase_at p (suc c) 0)
       → Ready p h (at.compare c) (phase_at p (suc c) 0) c o (way_to p (suc c) 0) s → Passes p h c (passes p) s
       → Told p h limit s.log
-      → Leads p h limit s (λ t. Ready p h (at.head (suc c)) (phase_at p (suc c) 0) (suc c) (o + cost.compare) (way_to p (suc c) 0 ++ (if suc c == case_count p then Halt ∷ [] else [])) t × Told p h limit t.log)
+      → Leads p h limit s (λ t. Ready p h (at.head (suc c)) (phase_at p (suc c) 0) (suc c) (o + cost.compare)
+      (way_to p (suc c) 0 ++ (if suc c == case_count p then Halt ∷ [] else [])) t × Told p h limit t.log)
 
 -- The limits have room for the parts of each phase.
 pub record Rooms (p : Program) (cost : Costs) (limit : ℕ → ℕ) : Type 0 where

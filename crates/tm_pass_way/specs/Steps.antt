@@ -1,5 +1,6 @@
 -- The parts once more, with the barrier as a part of its own: what has to be proved of each block (this project's own).
-use Rattle.std.specs.Prelude.{◌≡◌, ℕ, suc, ◌+◌, ◌<◌, ◌≤◌, true, ◌==◌, List, [], ◌∷◌, ◌++◌, slice_get, Some, IfSome, if◌then◌else◌}
+use Rattle.std.specs.Prelude.{◌≡◌, ℕ, suc, ◌+◌, ◌<◌, ◌≤◌, true, ◌==◌, List, [], ◌∷◌, ◌++◌, slice_get, Some, IfSome}
+use Rattle.std.specs.Prelude.{if◌then◌else◌}
 use Rattle.tm_plan_cases.specs.declared.masks.CaseMask.{CaseMask}
 use Rattle.tm_plan_cases.specs.declared.program.Program.{Program}
 use Rattle.tm_plan_map.specs.Map.{private_at}
@@ -14,7 +15,8 @@ use Rattle.tm_runs.specs.Machine.{State, Entry}
 use Rattle.tm_legal.specs.Tame.{Formed}
 use Rattle.tm_pass_way.specs.Logs.{now_in}
 use Rattle.tm_pass_way.specs.Facts.{Told, AreSet}
-use Rattle.tm_pass_way.specs.Parts.{Places, Costs, Hold, Ready, Same, Counts, Saves, CollectsTo, Passes, Leads, Opens, Turns, phase_at, way_to}
+use Rattle.tm_pass_way.specs.Parts.{Places, Costs, Hold, Ready, Same, Counts, Saves, CollectsTo, Passes, Leads, Opens}
+use Rattle.tm_pass_way.specs.Parts.{Turns, phase_at, way_to}
 use Rattle.tm_pass_way.specs.Calm.{StreamClear}
 
 -- The barrier is called at one place and comes back at the other.
@@ -68,7 +70,8 @@ pub record Steps (p : Program) (h : ℕ) (at : Places) (cost : Costs) (limit : �
       → o + cost.compare ≤ limit (phase_at p (suc c) 0)
       → Ready p h (at.compare c) (phase_at p (suc c) 0) c o (way_to p (suc c) 0) s → Passes p h c (passes p) s
       → Told p h limit s.log
-      → Leads p h limit s (λ t. Ready p h (at.head (suc c)) (phase_at p (suc c) 0) (suc c) (o + cost.compare) (way_to p (suc c) 0 ++ (if suc c == case_count p then Halt ∷ [] else [])) t × Told p h limit t.log)
+      → Leads p h limit s (λ t. Ready p h (at.head (suc c)) (phase_at p (suc c) 0) (suc c) (o + cost.compare)
+      (way_to p (suc c) 0 ++ (if suc c == case_count p then Halt ∷ [] else [])) t × Told p h limit t.log)
 
 -- The steps make up the parts; the streams need nothing but to lie clear.
 abbrev pub StepsMakeTurns : Program → Type 0

@@ -6,7 +6,8 @@ ghost use Rattle.tm_pass_way.specs.Steps.{StepsMakeTurns};
 
 use tm_plan_cases::Program;
 
-/// A hart whose parts do what is stated keeps the course, writes its verdicts exactly, works within its limits and doesn't get stuck.
+/// A hart whose parts do what is stated keeps the course, writes its verdicts exactly, works within its limits and
+/// doesn't get stuck.
 pub fn parts_keep(program: &Program)
     ensures { PartsKeep program.now }
 {

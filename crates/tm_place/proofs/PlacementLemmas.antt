@@ -8,12 +8,6 @@ use Rattle.tm_place.specs.Limits.{IsWindow, IsPlacement}
 abbrev pub IsStanding : (harts line w : ℕ) → Option Window → Type 0
 IsStanding harts line w o = (v : Window) → o ≡ Some v → IsWindow harts line w v
 
-pub standing-none : (harts line w : ℕ) → IsStanding harts line w None
-standing-none harts line w v e = cc
-
-pub standing-one : (harts line w : ℕ) (u : Window) → IsWindow harts line w u → IsStanding harts line w (Some u)
-standing-one harts line w u is v e = let same : u ≡ v = cc in subst (IsWindow harts line w) same is
-
 windows-three : (harts line : ℕ) (a b c : Option Window) → IsStanding harts line 0 a → IsStanding harts line 1 b → IsStanding harts line 2 c
     → (w : ℕ) (v : Window) → slice_get (a ∷ b ∷ c ∷ []) w ≡ Some (Some v) → IsWindow harts line w v
 windows-three harts line a b c one two three zero v h = one v cc

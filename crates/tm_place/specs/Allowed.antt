@@ -1,5 +1,6 @@
 -- Which accesses are allowed, computed from their addresses (this project's own).
-use Rattle.std.specs.Prelude.{ℕ, ◌+◌, ◌-◌, ◌/◌, ◌%◌, ◌==◌, Bool, true, false, ◌&&◌, nat_lt, List, get_or, Option, Some, None, if◌then◌else◌}
+use Rattle.std.specs.Prelude.{ℕ, ◌+◌, ◌-◌, ◌/◌, ◌%◌, ◌==◌, Bool, true, false, ◌&&◌, nat_lt, List, get_or, Option}
+use Rattle.std.specs.Prelude.{Some, None, if◌then◌else◌}
 use Rattle.tm_plan_map.specs.declared.windows.Window.{Window}
 use Rattle.tm_plan_map.specs.declared.windows.Kind2.{Kind2}
 use Rattle.tm_plan_map.specs.declared.windows.Kind2.TheVariants.{True, False, Own}
@@ -21,7 +22,8 @@ line_loads Own harts h j = j % harts == h
 abbrev pub window_stores : (harts line part h width place : ℕ) → Option Window → Bool
 window_stores harts line part h width place None = false
 window_stores harts line part h width place (Some v) =
-    nat_lt (place / line) v.lines && line_stores v.kind harts part h (place / line) (place % line) (place % line + (width - 1))
+    nat_lt (place / line) v.lines && line_stores v.kind harts part h (place / line) (place % line)
+    (place % line + (width - 1))
 
 -- whether hart h may load from a place of a window, where a window is
 abbrev pub window_loads : (harts line h place : ℕ) → Option Window → Bool
@@ -38,8 +40,10 @@ place_of addr = (addr - windows_base) % 2048
 
 -- Whether hart h may store width bytes at addr, where window w stands at place w of a shape.
 unfoldable pub may_store_at : (harts line part : ℕ) → List (Option Window) → (h addr width : ℕ) → Bool
-may_store_at harts line part shape h addr width = addr % width == 0 && window_stores harts line part h width (place_of addr) (window_of shape addr)
+may_store_at harts line part shape h addr width = addr % width == 0
+    && window_stores harts line part h width (place_of addr) (window_of shape addr)
 
 -- Whether hart h may load width bytes at addr.
 unfoldable pub may_load_at : (harts line part : ℕ) → List (Option Window) → (h addr width : ℕ) → Bool
-may_load_at harts line part shape h addr width = addr % width == 0 && window_loads harts line h (place_of addr) (window_of shape addr)
+may_load_at harts line part shape h addr width = addr % width == 0
+    && window_loads harts line h (place_of addr) (window_of shape addr)

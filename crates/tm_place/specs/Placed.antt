@@ -12,7 +12,12 @@ standing (Some (Some v)) = Some v
 
 -- the sharing of a shape, in which window w stands at place w
 abbrev pub sharing_by : (harts line part : ℕ) → List (Option Window) → Sharing
-sharing_by harts line part shape = record { harts = harts; line = line; part = part; window = λ w. standing (slice_get shape w) }
+sharing_by harts line part shape = record {
+  harts = harts;
+  line = line;
+  part = part;
+  window = λ w. standing (slice_get shape w);
+}
 
 -- the sharing of a placement
 abbrev pub sharing_of : Placement → Sharing

@@ -1,6 +1,7 @@
 -- Tests that no rule refuses: all of their numbers, registers, accesses and targets are as streams need them. Source:
 -- this project.
-use Rattle.std.specs.Prelude.{ℕ, ◌+◌, ◌-◌, ◌*◌, ◌%◌, ◌==◌, ◌<◌, ◌≤◌, ◌≡◌, ◌≢◌, IsTrue, IsFalse, List, length, find, slice_get, Some, All, AllPairs}
+use Rattle.std.specs.Prelude.{ℕ, ◌+◌, ◌-◌, ◌*◌, ◌%◌, ◌==◌, ◌<◌, ◌≤◌, ◌≡◌, ◌≢◌, IsTrue, IsFalse, List, length, find}
+use Rattle.std.specs.Prelude.{slice_get, Some, All, AllPairs}
 use Rattle.tm_base.specs.Limits.{image_version, most_harts, most_cases}
 use Rattle.tm_table.specs.declared.instr.Instr.{Instr}
 use Rattle.tm_table.specs.Words.{low, Fits}
@@ -70,7 +71,12 @@ pub record IsRuledWindow (harts line : ℕ) (w : Window) : Type 0 where
 
 -- how a test shares its windows (this project)
 abbrev pub sharing_in : Admitted → Sharing
-sharing_in a = record { harts = a.harts; line = a.line; part = a.part; window = λ n. find (λ w. w.number == n) a.windows }
+sharing_in a = record {
+  harts = a.harts;
+  line = a.line;
+  part = a.part;
+  window = λ n. find (λ w. w.number == n) a.windows;
+}
 
 -- A test that no rule refuses (this project).
 pub record IsRuled (a : Admitted) : Type 0 where

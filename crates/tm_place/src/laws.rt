@@ -4,7 +4,8 @@ ghost use Rattle.tm_place.specs.Placed.{sharing_of};
 
 use crate::placement::Placement;
 
-/// No byte of a false or own window may be stored to by two harts. Who may store may load. The parts of all harts fit in a line.
+/// No byte of a false or own window may be stored to by two harts. Who may store may load. The parts of all harts fit
+/// in a line.
 pub fn apart(p: &Placement)
     ensures one { OneStores (sharing_of p.now) }
     ensures loads { StoresAreLoads (sharing_of p.now) }

@@ -1,7 +1,8 @@
 ghost use Rattle.std.specs.Prelude.{◌≡◌, ◌≤◌, IsTrue};
 ghost use Rattle.tm_place.specs.Numbers as numbers;
 
-/// The bytes of each line of a false window that one hart may store to. `line` is 32, 64 or 128, and `harts` is 1 to 16.
+/// The bytes of each line of a false window that one hart may store to. `line` is 32, 64 or 128, and `harts` is 1 to
+/// 16.
 pub fn part_size(line: u32, harts: u32) -> u32
     requires size { IsTrue (numbers.is_line_size line) }
     requires some { 1 ≤ harts }

@@ -2,8 +2,8 @@ ghost use Rattle.tm_place.specs.Limits.{IsPlacement};
 
 use tm_plan_map::Window;
 
-/// How a case shares its windows: for so many harts, with lines of `line` bytes and parts of `part` bytes. `shape` has window w at
-/// place w, and `hot` the number of its hot line, 0 where there is no window.
+/// How a case shares its windows: for so many harts, with lines of `line` bytes and parts of `part` bytes. `shape`
+/// has window w at place w, and `hot` the number of its hot line, 0 where there is no window.
 #[derive(Clone, Copy)]
 pub struct Placement {
     pub harts: u32,

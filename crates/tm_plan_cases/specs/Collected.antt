@@ -1,5 +1,6 @@
 -- What each hart collects of shared memory, and how many steps a hart may work (this project's own).
-use Rattle.std.specs.Prelude.{ℕ, ◌+◌, ◌-◌, ◌*◌, ◌/◌, ◌%◌, Bool, ◌&&◌, ◌||◌, ◌==◌, List, [], ◌∷◌, length, filter, map, slice_get, Option, Some, None}
+use Rattle.std.specs.Prelude.{ℕ, ◌+◌, ◌-◌, ◌*◌, ◌/◌, ◌%◌, Bool, ◌&&◌, ◌||◌, ◌==◌, List, [], ◌∷◌, length, filter, map}
+use Rattle.std.specs.Prelude.{slice_get, Option, Some, None}
 use Rattle.tm_plan_cases.specs.declared.cases.Cases.{Cases}
 use Rattle.tm_plan_cases.specs.declared.cases.Case.{Case}
 use Rattle.tm_plan_cases.specs.declared.cases.Stream.{Stream}
@@ -34,7 +35,8 @@ slots_of (Some s) = length s.words
 
 -- the steps that hart h may work in one pass of a case
 abbrev pub pass_work : Cases → ℕ → Case → ℕ
-pass_work cases h case = slots_of (slice_get case.streams h) + 256 + 32 * cases.harts + 32 * (30 + length (owned cases h))
+pass_work cases h case = slots_of (slice_get case.streams h) + 256 + 32 * cases.harts + 32
+    * (30 + length (owned cases h))
 
 -- The case of each round case, in order. A round case is one run of a case in all its passes; so far each case has one.
 abbrev pub round_cases : Cases → List Case
@@ -56,4 +58,5 @@ sum_of f (x ∷ xs) = f x + sum_of f xs
 
 -- the events that are enough for a whole run in which no hart reads idly
 unfoldable pub budget_of : Cases → ℕ
-budget_of cases = cases.harts * (sum_of (work_of cases) (count_from 0 cases.harts) + 16 * (length (round_cases cases) * cases.passes))
+budget_of cases =
+    cases.harts * (sum_of (work_of cases) (count_from 0 cases.harts) + 16 * (length (round_cases cases) * cases.passes))

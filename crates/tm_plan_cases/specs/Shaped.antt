@@ -1,5 +1,6 @@
 -- Which cases, masks and programs the calls of the workspace take (this project's own).
-use Rattle.std.specs.Prelude.{◌≡◌, ◌≢◌, ◌⊎◌, ℕ, ◌+◌, ◌-◌, ◌*◌, ◌%◌, ◌^◌, ◌<◌, ◌≤◌, length, All, AllPairs, Contains, IsTrue, IsFalse, slice_get, slice_index, Some}
+use Rattle.std.specs.Prelude.{◌≡◌, ◌≢◌, ◌⊎◌, ℕ, ◌+◌, ◌-◌, ◌*◌, ◌%◌, ◌^◌, ◌<◌, ◌≤◌, length, All, AllPairs, Contains}
+use Rattle.std.specs.Prelude.{IsTrue, IsFalse, slice_get, slice_index, Some}
 use Rattle.tm_base.specs.Limits.{image_version, most_harts, most_cases}
 use Rattle.tm_table.specs.declared.instr.Instr.{Instr}
 use Rattle.tm_table.specs.Words.{low}
@@ -11,7 +12,8 @@ use Rattle.tm_plan_cases.specs.declared.masks.Masks.{Masks}
 use Rattle.tm_plan_cases.specs.declared.masks.CaseMask.{CaseMask}
 use Rattle.tm_plan_cases.specs.declared.program.Program.{Program}
 use Rattle.tm_plan_map.specs.Map.{window_at, private_at, within}
-use Rattle.tm_plan_map.specs.Slots.{instr_of, load_width, store_width, is_access, is_barred, is_jump, slot_addr, slot_target}
+use Rattle.tm_plan_map.specs.Slots.{instr_of, load_width, store_width, is_access, is_barred, is_jump, slot_addr}
+use Rattle.tm_plan_map.specs.Slots.{slot_target}
 use Rattle.tm_plan_cases.specs.Collected.{declares}
 
 -- ---- one slot

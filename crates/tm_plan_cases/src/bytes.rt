@@ -1,6 +1,7 @@
 // The bytes of the tables.
 ghost use Rattle.std.specs.Prelude.{◌≡◌, ◌++◌, ◌∷◌, OnOk, IfOk, drop};
-ghost use Rattle.tm_plan_cases.specs.Tables.{dword_bytes, dwords_bytes, hart_table, hart_tables, case_table, case_tables, table_bytes};
+ghost use Rattle.tm_plan_cases.specs.Tables.{dword_bytes, dwords_bytes, hart_table, hart_tables, case_table};
+ghost use Rattle.tm_plan_cases.specs.Tables.{case_tables, table_bytes};
 
 use crate::cases::{Case, Cases, Stream};
 use crate::masks::{CaseMask, Masks};

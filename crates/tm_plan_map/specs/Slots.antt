@@ -2,7 +2,8 @@
 -- (this project's own), so that the address of each load and store is known from its word.
 use Rattle.std.specs.Prelude.{ℕ, ◌+◌, ◌-◌, ◌/◌, ◌%◌, ◌^◌, Bool, true, false, nat_lt, Option}
 use Rattle.tm_table.specs.declared.instr.Op.{Op}
-use Rattle.tm_table.specs.declared.instr.Op.TheVariants.{Jal, Jalr, Beq, Bne, Blt, Bge, Bltu, Bgeu, Lb, Lh, Lw, Ld, Lbu, Lhu, Lwu, Sb, Sh, Sw, Sd, Ecall, Ebreak}
+use Rattle.tm_table.specs.declared.instr.Op.TheVariants.{Jal, Jalr, Beq, Bne, Blt, Bge, Bltu, Bgeu, Lb, Lh, Lw, Ld}
+use Rattle.tm_table.specs.declared.instr.Op.TheVariants.{Lbu, Lhu, Lwu, Sb, Sh, Sw, Sd, Ecall, Ebreak}
 use Rattle.tm_table.specs.declared.instr.Instr.{Instr}
 use Rattle.tm_table.specs.Words.{low, split, decoded}
 use Rattle.tm_plan_map.specs.Map.{window_at, within}

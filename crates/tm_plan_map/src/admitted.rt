@@ -25,7 +25,8 @@ pub struct AdmittedCase {
     pub bodies: List<SlotList>,
 }
 
-/// A test before its streams are drawn. `line` is the line size in bytes, `part` a hart's bytes of each line of a false window, and
+/// A test before its streams are drawn. `line` is the line size in bytes, `part` a hart's bytes of each line of a
+/// false window, and
 /// `bias` says how often, of a hundred times, a drawn access goes to its case's hot line.
 #[derive(Drop)]
 pub struct Admitted {

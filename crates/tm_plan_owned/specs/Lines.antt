@@ -1,6 +1,7 @@
 -- The lines that a hart collects (this project's own). A window's lines are counted from 0, and of the declared ones
 -- each N-th is the hart's, from one of the first N on.
-use Rattle.std.specs.Prelude.{◌≡◌, ℕ, zero, suc, ◌+◌, ◌-◌, ◌*◌, ◌/◌, ◌%◌, ◌<◌, ◌≤◌, ◌==◌, List, [], ◌∷◌, ◌++◌, flat_map, map, if◌then◌else◌, slice_get}
+use Rattle.std.specs.Prelude.{◌≡◌, ℕ, zero, suc, ◌+◌, ◌-◌, ◌*◌, ◌/◌, ◌%◌, ◌<◌, ◌≤◌, ◌==◌, List, [], ◌∷◌, ◌++◌}
+use Rattle.std.specs.Prelude.{flat_map, map, if◌then◌else◌, slice_get}
 use Rattle.tm_plan_cases.specs.declared.cases.Cases.{Cases}
 use Rattle.tm_plan_cases.specs.declared.cases.Case.{Case}
 use Rattle.tm_plan_map.specs.declared.windows.Window.{Window}
@@ -39,7 +40,8 @@ lines_dwords p n a (suc k) = line_dwords p n ++ lines_dwords (p + a) n a k
 
 -- those of hart h's lines of window v
 abbrev pub own_dwords : Cases → (h v : ℕ) → List ℕ
-own_dwords cases h v = lines_dwords (windows_base + line_place cases h v) (cases.line / 8) (cases.line * cases.harts) (line_count cases h v)
+own_dwords cases h v = lines_dwords (windows_base + line_place cases h v) (cases.line / 8) (cases.line * cases.harts)
+    (line_count cases h v)
 
 -- the numbers of the windows, in address order
 abbrev pub three : List ℕ

@@ -18,13 +18,6 @@ with-one word k small j = elim (cases_eq j k) [
 pub bit-none : (j : ℕ) → Bit 0 j → ⊥
 bit-none j b = let z : bit_at 0 j ≡ 0 = bit_at-zero j in omega arith
 
--- bits of a word stand below 64
-pub bit-lt : (word j : ℕ) → word < 2 ^ 64 → Bit word j → j < 64
-bit-lt word j small b = elim (inside_or_past j) [ inl l ↦ l | inr g ↦ (let z : bit_at word j ≡ 0 = bit_at_above word 64 j small g in absurd (omega arith)) ]
-  where
-    inside_or_past : (r : ℕ) → (r < 64) ⊎ (64 ≤ r)
-    inside_or_past r = grind arith
-
 -- a bit of both
 pub bit-and : (a b r : ℕ) → Bit (bit_and a b) r ↔ (Bit a r × Bit b r)
 bit-and a b r =

@@ -1,5 +1,6 @@
 -- Sets of numbers as bits of words, and sets of bytes of the windows as planes of bits (this project's own).
-use Rattle.std.specs.Prelude.{ℕ, ◌+◌, ◌-◌, ◌/◌, ◌%◌, ◌<◌, ◌≤◌, ◌≡◌, ◌==◌, ◌⊎◌, ◌↔◌, Bool, ◌&&◌, nat_le, IsTrue, List, slice_index}
+use Rattle.std.specs.Prelude.{ℕ, ◌+◌, ◌-◌, ◌/◌, ◌%◌, ◌<◌, ◌≤◌, ◌≡◌, ◌==◌, ◌⊎◌, ◌↔◌, Bool, ◌&&◌, nat_le, IsTrue, List}
+use Rattle.std.specs.Prelude.{slice_index}
 use Rattle.std.specs.Int.{bit_at}
 use Rattle.tm_plan_map.specs.Map.{windows_base, windows_size, within}
 

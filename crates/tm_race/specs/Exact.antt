@@ -1,6 +1,7 @@
 -- The masks as a function of the cases (this project's own). What is checked is said by trails, and need not compute;
 -- here a walk over each stream computes it. This serves only to say that equal cases give equal masks.
-use Rattle.std.specs.Prelude.{ℕ, zero, suc, ◌+◌, ◌*◌, max, nat_lt, ◌==◌, Bool, true, false, ◌&&◌, ◌||◌, not, map, length, Option, Some, None, if◌then◌else◌}
+use Rattle.std.specs.Prelude.{ℕ, zero, suc, ◌+◌, ◌*◌, max, nat_lt, ◌==◌, Bool, true, false, ◌&&◌, ◌||◌, not, map}
+use Rattle.std.specs.Prelude.{length, Option, Some, None, if◌then◌else◌}
 use Rattle.std.specs.List.{range_with_len}
 use Rattle.tm_plan_cases.specs.declared.cases.Cases.{Cases}
 use Rattle.tm_plan_cases.specs.declared.masks.Masks.{Masks}

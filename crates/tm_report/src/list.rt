@@ -120,8 +120,8 @@ fn put_head(out: &mut Bytes, program: &Program, seed: u64) -> Result<(), NoMemor
 }
 
 /// The listing of a program that was built with this seed: a line for the whole, and for each case its name, a line for
-/// each slot of each hart (number, word and instruction), the registers of each hart that aren't checked, and the dwords
-/// of the windows with a byte that isn't.
+/// each slot of each hart (number, word and instruction), the registers of each hart that aren't checked, and the
+/// dwords of the windows with a byte that isn't.
 #[tactic(auto, unfolding(crate::specs::Listing::listing))]
 pub fn list_text(alloc: Global, program: &Program, seed: u64) -> Result<Text, NoMemory>
     requires { IsProgram program.now }

@@ -1,7 +1,8 @@
 // The registers that aren't checked.
 ghost use Rattle.std.specs.Prelude.{◌≡◌, ◌++◌, ◌∷◌, [], ◌<◌, OnOk, filter};
 ghost use Rattle.std.specs.List.{flat_map};
-ghost use Rattle.tm_report.specs.Listing.{is_unchecked as bit_is_clear, register_entries, register_entry, unchecked_line};
+ghost use Rattle.tm_report.specs.Listing.{is_unchecked as bit_is_clear, register_entries, register_entry};
+ghost use Rattle.tm_report.specs.Listing.{unchecked_line};
 
 use crate::entries::put_entries;
 use std::alloc::Global;

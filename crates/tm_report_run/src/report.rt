@@ -4,7 +4,8 @@ ghost use Rattle.std.specs.List.{list_all};
 ghost use Rattle.tm_plan_cases.specs.Collected.{owned};
 ghost use Rattle.tm_plan_cases.specs.Shaped.{AreShaped};
 ghost use Rattle.tm_report_run.specs.Report.{AreVerdicts, IsVerdictOf, case_lines, case_text, cases_lines};
-ghost use Rattle.tm_report_run.specs.Report.{difference_line, dword_in, full_line, hart_lines, hart_text, place_text, report, verdict_lines};
+ghost use Rattle.tm_report_run.specs.Report.{difference_line, dword_in, full_line, hart_lines, hart_text, place_text};
+ghost use Rattle.tm_report_run.specs.Report.{report, verdict_lines};
 
 use crate::numbers::Verdicts;
 use std::alloc::Global;

@@ -1,6 +1,7 @@
 -- The test that a template asks for: for each case and hart the slots that the hart runs, written out. This project's
 -- own.
-use Rattle.std.specs.Prelude.{ℕ, ◌≡◌, pos, List, [], ◌∷◌, map, find, flat_map, replicate, Option, Some, None, Result, Ok, Err}
+use Rattle.std.specs.Prelude.{ℕ, ◌≡◌, pos, List, [], ◌∷◌, map, find, flat_map, replicate, Option, Some, None, Result}
+use Rattle.std.specs.Prelude.{Ok, Err}
 use Rattle.tm_table.specs.declared.instr.Op.TheVariants.{Addi}
 use Rattle.tm_table.specs.declared.instr.Instr.{Instr}
 use Rattle.tm_asm_line.specs.declared.fault.AsmFault.{AsmFault}

@@ -45,7 +45,8 @@ fn bodies_of(
     bodies: &[BodyDecl],
 ) -> Result<List<SlotList>, NoMemory>
     requires { IsSystem topo.now }
-    ensures { IfOk result (λ all. all ≡ map (admitting.hart_slots topo.now bodies.now) (count_from 0 (harts_of topo.now))) }
+    ensures { IfOk result (λ all. all ≡ map (admitting.hart_slots topo.now bodies.now)
+        (count_from 0 (harts_of topo.now))) }
 {
     let mut all = List::new(alloc);
     for h in 0..topo.cores * topo.threads {

@@ -15,7 +15,8 @@ use tm_rules_first::{first_broken, window_of};
 use tm_tmpl_types::{Template, WindowDecl};
 use tm_topo::Topology;
 
-/// The test that a template asks for on this topology, with the slots of each hart written out, or the first rule that the template breaks.
+/// The test that a template asks for on this topology, with the slots of each hart written out, or the first rule
+/// that the template breaks.
 /// The topology's numbers are within their limits, as those of one that was read.
 pub fn admit(alloc: Global, t: &Template, topo: &Topology) -> Result<Admitted, AdmitFault>
     requires { IsSystem topo.now }

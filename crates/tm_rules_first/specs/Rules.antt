@@ -1,6 +1,8 @@
 -- Which rule a template breaks, and where: all rules of its statements as one list of checks in text order, and the
 -- first of them that is broken. This project's own.
-use Rattle.std.specs.Prelude.{ℕ, ◌≡◌, ◌≢◌, ◌<◌, ◌+◌, ◌-◌, ◌*◌, ◌^◌, ◌==◌, min, Bool, true, not, ◌&&◌, nat_le, nat_lt, if◌then◌else◌, List, [], ◌∷◌, ◌++◌, length, slice_get, find, Option, Some, None, option_map}
+use Rattle.std.specs.Prelude.{ℕ, ◌≡◌, ◌≢◌, ◌<◌, ◌+◌, ◌-◌, ◌*◌, ◌^◌, ◌==◌, min, Bool, true, not, ◌&&◌, nat_le, nat_lt}
+use Rattle.std.specs.Prelude.{if◌then◌else◌, List, [], ◌∷◌, ◌++◌, length, slice_get, find, Option, Some, None}
+use Rattle.std.specs.Prelude.{option_map}
 use Rattle.std.specs.List.{list_any}
 use Rattle.std.specs.Str.{bytes_eq}
 use Rattle.tm_base.specs.Limits.{image_version, most_cases}
@@ -20,7 +22,8 @@ use Rattle.tm_tmpl_types.specs.declared.template.WindowDecl.{WindowDecl}
 use Rattle.tm_tmpl_types.specs.declared.template.Template.{Template}
 use Rattle.tm_topo.specs.declared.system.Topology.{Topology}
 use Rattle.tm_faults.specs.declared.rule.RuleFault.{RuleFault}
-use Rattle.tm_faults.specs.declared.rule.RuleFault.TheVariants.{Cases, Passes, Slots, Lines, NoWindow, NoHart, TwiceBody, TwiceName}
+use Rattle.tm_faults.specs.declared.rule.RuleFault.TheVariants.{Cases, Passes, Slots, Lines, NoWindow, NoHart}
+use Rattle.tm_faults.specs.declared.rule.RuleFault.TheVariants.{TwiceBody, TwiceName}
 use Rattle.tm_rules_slot.specs.Teams.{harts_of, in_team, team}
 use Rattle.tm_rules_slot.specs.Slots.{emit_fault, mix_fault}
 use Rattle.tm_faults.specs.declared.rule.RuleAt.{RuleAt}
@@ -105,7 +108,8 @@ slot_count ds = min (total_slots ds) (2 ^ 64 - 1)
 -- of the emit, or of the mix (this project)
 unfoldable pub slot_fault : Topology → (shape : List (Option Window)) → Selector → (len n : ℕ) → SlotText
     → Option RuleFault
-slot_fault topo shape whom len n (Emit text) = emit_fault topo.line (part_size topo.line (harts_of topo)) shape topo whom n len text
+slot_fault topo shape whom len n (Emit text) = emit_fault topo.line (part_size topo.line (harts_of topo)) shape topo
+    whom n len text
 slot_fault topo shape whom len n (Mix count alu load store branch) = mix_fault shape alu load store branch
 
 -- the check of a statement of a body behind those before it, which stand for the slots before it (this project)

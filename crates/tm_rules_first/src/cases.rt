@@ -18,7 +18,8 @@ pub fn cases_broken(p: &Placement, topo: &Topology, cases: &[CaseDecl]) -> Optio
     requires system { IsSystem topo.now }
     requires harts { p.now.harts ≡ harts_of topo.now }
     requires line { p.now.line ≡ topo.now.line }
-    ensures { result ≡ rules.first_of (rules.in_turn (rules.case_checks topo.now p.now.shape (length cases.now)) [] cases.now) }
+    ensures { result
+        ≡ rules.first_of (rules.in_turn (rules.case_checks topo.now p.now.shape (length cases.now)) [] cases.now) }
 {
     let count = cases.len() as u64;
     for (k, case) in cases.iter().enumerate() {

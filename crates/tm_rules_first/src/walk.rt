@@ -11,8 +11,8 @@ use tm_faults::RuleFault;
 use tm_tmpl_types::Template;
 use tm_topo::Topology;
 
-/// The first rule that a template for this topology breaks, in text order, and in one statement in the order of its rules; None where it
-/// breaks none. The topology's numbers are within their limits, as those that a text is read as.
+/// The first rule that a template for this topology breaks, in text order, and in one statement in the order of its
+/// rules; None where it breaks none. The topology's numbers are within their limits, as those that a text is read as.
 pub fn first_broken(t: &Template, topo: &Topology) -> Option<RuleAt>
     requires { IsSystem topo.now }
     ensures { result ≡ rules.broken_rule topo.now t.now }

@@ -1,5 +1,7 @@
 -- The rules of one slot of a body (this project's own). A rule of a statement is a check: the fault where it is broken.
-use Rattle.std.specs.Prelude.{ℕ, ◌+◌, ◌-◌, ◌*◌, ◌/◌, ◌%◌, ◌==◌, nat_le, nat_lt, Bool, false, ◌&&◌, not, if◌then◌else◌, ℤ, pos, negsuc, List, [], ◌∷◌, ◌++◌, find, get_or, Option, Some, None, option_map, is_some, Result, Ok, Err}
+use Rattle.std.specs.Prelude.{ℕ, ◌+◌, ◌-◌, ◌*◌, ◌/◌, ◌%◌, ◌==◌, nat_le, nat_lt, Bool, false, ◌&&◌, not, if◌then◌else◌}
+use Rattle.std.specs.Prelude.{ℤ, pos, negsuc, List, [], ◌∷◌, ◌++◌, find, get_or, Option, Some, None, option_map}
+use Rattle.std.specs.Prelude.{is_some, Result, Ok, Err}
 use Rattle.std.specs.List.{list_any}
 use Rattle.tm_table.specs.declared.instr.Instr.{Instr}
 use Rattle.tm_asm_line.specs.declared.fault.AsmFault.{AsmFault}
@@ -11,7 +13,8 @@ use Rattle.tm_plan_map.specs.Map.{window_at, within}
 use Rattle.tm_plan_map.specs.Slots.{is_access, is_barred, is_jump, load_width, store_width, slot_addr}
 use Rattle.tm_place.specs.Allowed.{may_store_at, may_load_at}
 use Rattle.tm_faults.specs.declared.rule.RuleFault.{RuleFault}
-use Rattle.tm_faults.specs.declared.rule.RuleFault.TheVariants.{NoWindow, Register, Asm, NotAllowed, BadPlace, NotOwner, Target, NoWeight}
+use Rattle.tm_faults.specs.declared.rule.RuleFault.TheVariants.{NoWindow, Register, Asm, NotAllowed, BadPlace}
+use Rattle.tm_faults.specs.declared.rule.RuleFault.TheVariants.{NotOwner, Target, NoWeight}
 use Rattle.tm_rules_slot.specs.Teams.{harts_of, team}
 
 -- ---- checks
@@ -65,7 +68,8 @@ width_of i = load_width i.op + store_width i.op
 -- a load's or store's address is a multiple of its width, in a declared line of its base's window
 unfoldable pub place_fault : (line : ℕ) → List (Option Window) → Instr → Option RuleFault
 place_fault line shape i =
-    broken (is_access i.op && not (is_placed line (base_window i.rs1) (width_of i) (slot_addr i) (get_or shape (base_window i.rs1) None)))
+    broken (is_access i.op
+    && not (is_placed line (base_window i.rs1) (width_of i) (slot_addr i) (get_or shape (base_window i.rs1) None)))
     (BadPlace (slot_addr i))
 
 -- whether hart h may make the load or store
@@ -78,7 +82,8 @@ may_access harts line part shape i h =
 unfoldable pub owner_fault : (line part : ℕ) → List (Option Window) → Topology → Selector → Instr → Option RuleFault
 owner_fault line part shape topo whom i =
     if is_access i.op
-    then option_map (λ h. NotOwner h (slot_addr i)) (find (λ h. not (may_access (harts_of topo) line part shape i h)) (team topo whom))
+    then option_map (λ h. NotOwner h (slot_addr i))
+    (find (λ h. not (may_access (harts_of topo) line part shape i h)) (team topo whom))
     else None
 
 -- whether a jump from slot n by an offset in bytes goes to a later slot of len, or to the end
@@ -114,7 +119,8 @@ fault_of (Ok i) rules = rules i
 -- The fault of a line in slot n of len: it spells no instruction, or the instruction breaks a rule.
 unfoldable pub emit_fault : (line part : ℕ) → List (Option Window) → Topology → Selector → (n len : ℕ) → List ℕ
     → Option RuleFault
-emit_fault line part shape topo whom n len text = fault_of (line_of text) (λ i. first (emit_checks line part shape topo whom n len i))
+emit_fault line part shape topo whom n len text =
+    fault_of (line_of text) (λ i. first (emit_checks line part shape topo whom n len i))
 
 -- ---- a slot that is drawn
 

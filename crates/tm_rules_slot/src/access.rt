@@ -62,7 +62,8 @@ fn stranger(p: &Placement, topo: &Topology, whom: Selector, i: Instr) -> Option<
     requires harts { p.now.harts ≡ harts_of topo.now }
     requires access { IsTrue (slots.is_access i.op) }
     requires base { (28 ≤ i.rs1) × (i.rs1 ≤ 30) }
-    ensures { result ≡ find (λ h. not (rules.may_access p.now.harts p.now.line p.now.part p.now.shape i h)) (team topo.now whom) }
+    ensures { result ≡ find (λ h. not (rules.may_access p.now.harts p.now.line p.now.part p.now.shape i h))
+        (team topo.now whom) }
 {
     for h in 0..p.harts {
         if is_in_team(topo, whom, h) && !may_access(p, i, h) {

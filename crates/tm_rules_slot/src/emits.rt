@@ -13,8 +13,8 @@ use tm_table::Instr;
 use tm_tmpl_types::Selector;
 use tm_topo::Topology;
 
-/// The first rule that an assembler line breaks in slot `slot` of the `slots` slots of a body, at most 256. The placement is one of
-/// the topology's harts and lines.
+/// The first rule that an assembler line breaks in slot `slot` of the `slots` slots of a body, at most 256. The
+/// placement is one of the topology's harts and lines.
 #[tactic(auto, unfolding(crate::specs::Slots::emit_fault))]
 pub fn emit_fault(
     p: &Placement,

@@ -90,12 +90,6 @@ module _ (w : World) (m : ℕ → ℕ → List Mark) (lo hi : ℕ) (A : Access �
     keeps = λ s p. keeps_map (λ t g. record { done = []; left = []; sum = refl; is = still s t g.1 }) (λ t q. (q.0, still s t q.1)) (keeps_since (h s p));
   }
 
--- one word that leads to marks
-pub part_one : {w : World} (m : ℕ → ℕ → List Mark) (P Q : State → Type 0) (ms : List Mark) → ((s : State) → P s → Takes w (λ t. trail m t.log ≡ trail m s.log ++ ms) (λ t. Q t × (trail m t.log ≡ trail m s.log ++ ms)) 1 s) → Part w m P ms Q
-part_one m P Q ms h = record {
-  keeps = λ s p. keeps_after (takes_map (λ t g. record { done = ms; left = []; sum = append-nil ms; is = g }) (λ t q. q) (h s p)) (λ t q. keeps_now q);
-}
-
 -- a stream, in which F is kept
 module _ (w : World) (m : ℕ → ℕ → List Mark) (c lo hi : ℕ) (held : (p : ℕ) → lo ≤ p → p < hi → w.stream p ≡ Some (lo, hi)) (clear : (from to : ℕ) → lo ≤ from → from < hi → lo ≤ to → to < hi → m from to ≡ []) (ends : (from : ℕ) → lo ≤ from → from < hi → m from hi ≡ End c ∷ []) (F : State → Type 0) (kept : (t u : State) → F t → Strays w lo hi t u → F u) where
   record Inside (s t : State) : Type 0 where

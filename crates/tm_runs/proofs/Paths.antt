@@ -173,7 +173,3 @@ course p h sizes l x o P Q ms part stops at-start own path =
     (λ t g. (g.left, sym g.sum ∙ ap (λ (way : List Mark). way ++ g.left) (sym g.is)))
     (λ t q. ([], sym q.1 ∙ sym (append-nil (trail (arrivals p h) t.log))))
     own path)
-
--- the same of the whole way
-pub keeps-order : (p : Program) (h : ℕ) → Sizes p → h < harts p → (P Q : State → Type 0) → Part (world_of p h) (arrivals p h) P (whole_way p) Q → ((t : State) → Q t → Stopped (world_of p h) t) → ((x : List ℕ) → IsOpening h x → P (start p x)) → OnHalf p h (KeepsOrder p h)
-keeps-order p h sizes l P Q part stops opens = on-half p h (KeepsOrder p h) l (λ x o own path. course p h sizes l x o P Q (whole_way p) part stops (opens x o) own path)

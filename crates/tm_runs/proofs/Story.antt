@@ -21,17 +21,6 @@ story-own F P f (s ∷ past) h = (f past s h.0, story-own F P f past h.1)
 abbrev pub IsMeasure : (List Entry → ℕ) → Type 0
 IsMeasure size = (e : Entry) (log : List Entry) → size (e ∷ log) ≤ suc (size log)
 
--- the number of entries that pass a test grows so, and stays where one does not pass it
-pub count-grows : (test : Entry → Bool) → IsMeasure (count test)
-count-grows test e log = by (test e)
-  where
-    by : (b : Bool) → (if b then suc (count test log) else count test log) ≤ suc (count test log)
-    by true = omega arith
-    by false = omega arith
-
-pub count-stays : (test : Entry → Bool) (e : Entry) (log : List Entry) → test e ≡ false → count test (e ∷ log) ≤ count test log
-count-stays test e log out = subst (λ (b : Bool). (if b then suc (count test log) else count test log) ≤ count test log) (sym out) (omega arith)
-
 module _ (arrive : ℕ → ℕ → List Mark) (F : List Entry → Entry → Type 0) (size : List Entry → ℕ) where
   -- one entry more
   pub sofar-one : IsMeasure size → (ms more : List Mark) (k : ℕ) (e : Entry) (log : List Entry) → arrive e.pc e.next ≡ more → F log e → Sofar arrive F size ms k log → Sofar arrive F size (ms ++ more) (suc k) (e ∷ log)

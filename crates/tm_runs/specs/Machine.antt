@@ -1,6 +1,7 @@
 -- One hart as support code sees it: what an instruction does to its registers, to the dwords that it reads back, and
 -- to its log (this project's own).
-use Rattle.std.specs.Prelude.{◌≡◌, ℕ, zero, suc, ◌+◌, ◌-◌, ◌%◌, ◌^◌, ◌<◌, ◌≤◌, List, ◌∷◌, Bool, false, Option, nat_eq, if◌then◌else◌, ℤ, pos, negsuc, IsTrue}
+use Rattle.std.specs.Prelude.{◌≡◌, ℕ, zero, suc, ◌+◌, ◌-◌, ◌%◌, ◌^◌, ◌<◌, ◌≤◌, List, ◌∷◌, Bool, false, Option, nat_eq}
+use Rattle.std.specs.Prelude.{if◌then◌else◌, ℤ, pos, negsuc, IsTrue}
 use Rattle.tm_table.specs.declared.instr.Op.{Op}
 use Rattle.tm_table.specs.declared.instr.Op.TheVariants.{Jalr}
 use Rattle.tm_table.specs.declared.instr.Instr.{Instr}
@@ -55,7 +56,12 @@ pub record World : Type 0 where
 
 -- a state after a step with this access
 abbrev pub moved : Instr → State → Access → ℕ → Table → Table → State
-moved i s access pc regs mem = record { pc = pc; regs = regs; mem = mem; log = record { pc = s.pc; next = pc; word = word_of i; access = access; regs = get regs } ∷ s.log }
+moved i s access pc regs mem = record {
+  pc = pc;
+  regs = regs;
+  mem = mem;
+  log = record { pc = s.pc; next = pc; word = word_of i; access = access; regs = get regs } ∷ s.log;
+}
 
 -- a value into rd
 abbrev pub computes : Instr → State → ℕ → State

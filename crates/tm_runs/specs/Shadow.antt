@@ -11,7 +11,13 @@ use Rattle.tm_runs.specs.World.{Sizes, world_of, start}
 
 -- what a log says of a step
 abbrev pub entry_of : Step → Entry
-entry_of s = record { pc = pc_of s; next = s.after.pc; word = s.event.word; access = access_of s; regs = λ r. slice_index s.after.x r }
+entry_of s = record {
+  pc = pc_of s;
+  next = s.after.pc;
+  word = s.event.word;
+  access = access_of s;
+  regs = λ r. slice_index s.after.x r;
+}
 
 -- the entries of steps, in the same order
 abbrev pub entries_of : List Step → List Entry

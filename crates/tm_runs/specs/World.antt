@@ -1,5 +1,6 @@
 -- The world in which a hart of a program runs its support code, and the state in which it starts (this project's own).
-use Rattle.std.specs.Prelude.{ℕ, zero, suc, ◌+◌, ◌*◌, ◌^◌, ◌<◌, ◌≤◌, Bool, true, false, ◌&&◌, ◌||◌, nat_le, ◌==◌, List, [], length, slice_index, Option, None, Some}
+use Rattle.std.specs.Prelude.{ℕ, zero, suc, ◌+◌, ◌*◌, ◌^◌, ◌<◌, ◌≤◌, Bool, true, false, ◌&&◌, ◌||◌, nat_le, ◌==◌}
+use Rattle.std.specs.Prelude.{List, [], length, slice_index, Option, None, Some}
 use Rattle.tm_table.specs.declared.instr.Instr.{Instr}
 use Rattle.tm_plan_cases.specs.declared.program.Program.{Program}
 use Rattle.tm_plan_map.specs.Map.{guest_base, guest_end, text_base, tables_base, private_at, private_size}
@@ -46,7 +47,14 @@ bounds_at p h pc = bounds p h (stream_at p h pc)
 
 -- The world of hart h: outside its streams the text's instructions, and in them what a stream may do.
 abbrev pub world_of : Program → ℕ → World
-world_of p h = record { text = support_at p h; own = λ a. is_private_dword h a || is_fixed_dword p a; fixed = is_fixed_dword p; guest = is_guest_dword; stream = bounds_at p h; window = is_window }
+world_of p h = record {
+  text = support_at p h;
+  own = λ a. is_private_dword h a || is_fixed_dword p a;
+  fixed = is_fixed_dword p;
+  guest = is_guest_dword;
+  stream = bounds_at p h;
+  window = is_window;
+}
 
 -- the number that n bytes are, the lowest first
 abbrev pub joined : (ℕ → ℕ) → ℕ → ℕ

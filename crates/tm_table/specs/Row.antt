@@ -1,7 +1,13 @@
 -- One instruction's step. All values are modulo 2 ^ 64.
-use Rattle.std.specs.Prelude.{◌≡◌, ◌⊎◌, ℕ, zero, suc, ◌+◌, ◌-◌, ◌*◌, ◌/◌, ◌%◌, ◌^◌, ◌<◌, ℤ, pos, negsuc, int_lt, Bool, true, false, not, nat_lt, ◌==◌, List, slice_index, slice_set, bit_and, bit_or, bit_xor, if◌then◌else◌, Option, Some, None, option_map}
+use Rattle.std.specs.Prelude.{◌≡◌, ◌⊎◌, ℕ, zero, suc, ◌+◌, ◌-◌, ◌*◌, ◌/◌, ◌%◌, ◌^◌, ◌<◌, ℤ, pos, negsuc, int_lt, Bool}
+use Rattle.std.specs.Prelude.{true, false, not, nat_lt, ◌==◌, List, slice_index, slice_set, bit_and, bit_or, bit_xor}
+use Rattle.std.specs.Prelude.{if◌then◌else◌, Option, Some, None, option_map}
 use Rattle.tm_table.specs.declared.instr.Op.{Op}
-use Rattle.tm_table.specs.declared.instr.Op.TheVariants.{Lui, Auipc, Jal, Jalr, Beq, Bne, Blt, Bge, Bltu, Bgeu, Lb, Lh, Lw, Ld, Lbu, Lhu, Lwu, Sb, Sh, Sw, Sd, Addi, Slti, Sltiu, Xori, Ori, Andi, Slli, Srli, Srai, Add, Sll, Slt, Sltu, Xor, Srl, Or, And, Sub, Sra, Addiw, Slliw, Srliw, Sraiw, Addw, Sllw, Srlw, Subw, Sraw, Fence, Ecall, Ebreak}
+use Rattle.tm_table.specs.declared.instr.Op.TheVariants.{Lui, Auipc, Jal, Jalr, Beq, Bne, Blt, Bge, Bltu, Bgeu, Lb}
+use Rattle.tm_table.specs.declared.instr.Op.TheVariants.{Lh, Lw, Ld, Lbu, Lhu, Lwu, Sb, Sh, Sw, Sd, Addi, Slti, Sltiu}
+use Rattle.tm_table.specs.declared.instr.Op.TheVariants.{Xori, Ori, Andi, Slli, Srli, Srai, Add, Sll, Slt, Sltu, Xor}
+use Rattle.tm_table.specs.declared.instr.Op.TheVariants.{Srl, Or, And, Sub, Sra, Addiw, Slliw, Srliw, Sraiw, Addw}
+use Rattle.tm_table.specs.declared.instr.Op.TheVariants.{Sllw, Srlw, Subw, Sraw, Fence, Ecall, Ebreak}
 use Rattle.tm_table.specs.declared.instr.Instr.{Instr}
 use Rattle.tm_table.specs.declared.state.Access.{Access}
 use Rattle.tm_table.specs.declared.state.Access.TheVariants.{Quiet, Read, Write}
@@ -134,9 +140,14 @@ loaded true width read = sign_extended (8 * width - 1) read
 -- and read is the bytes that a load reads (RV64I 2.1).
 unfoldable pub after : Effect → Hart → ℕ → ℕ → ℕ → Hart × Access
 after (Gives value) hart rd i read = (record { pc = word64 (hart.pc + 4); x = put hart.x rd value }, Quiet)
-after (Loads addr width with_sign) hart rd i read = (record { pc = word64 (hart.pc + 4); x = put hart.x rd (loaded with_sign width read) }, Read addr width read)
-after (Stores addr width value) hart rd i read = (record { pc = word64 (hart.pc + 4); x = hart.x }, Write addr width (value % 2 ^ (8 * width)))
-after (Branches taken) hart rd i read = (record { pc = (if taken then word64 (hart.pc + i) else word64 (hart.pc + 4)); x = hart.x }, Quiet)
+after (Loads addr width with_sign) hart rd i read =
+    (record { pc = word64 (hart.pc + 4); x = put hart.x rd (loaded with_sign width read) }, Read addr width read)
+after (Stores addr width value) hart rd i read = (
+  record { pc = word64 (hart.pc + 4); x = hart.x },
+  Write addr width (value % 2 ^ (8 * width)),
+)
+after (Branches taken) hart rd i read =
+    (record { pc = (if taken then word64 (hart.pc + i) else word64 (hart.pc + 4)); x = hart.x }, Quiet)
 after (Jumps link target) hart rd i read = (record { pc = target; x = put hart.x rd link }, Quiet)
 
 -- an instruction's effect at a hart (RV64I 2.1)

@@ -1,14 +1,25 @@
 -- The instruction table.
 use Rattle.std.specs.Prelude.{ℕ, List, [], ◌∷◌, map}
 use Rattle.tm_table.specs.declared.instr.Op.{Op}
-use Rattle.tm_table.specs.declared.instr.Op.TheVariants.{Lui, Auipc, Jal, Jalr, Beq, Bne, Blt, Bge, Bltu, Bgeu, Lb, Lh, Lw, Ld, Lbu, Lhu, Lwu, Sb, Sh, Sw, Sd, Addi, Slti, Sltiu, Xori, Ori, Andi, Slli, Srli, Srai, Add, Sll, Slt, Sltu, Xor, Srl, Or, And, Sub, Sra, Addiw, Slliw, Srliw, Sraiw, Addw, Sllw, Srlw, Subw, Sraw, Fence, Ecall, Ebreak}
+use Rattle.tm_table.specs.declared.instr.Op.TheVariants.{Lui, Auipc, Jal, Jalr, Beq, Bne, Blt, Bge, Bltu, Bgeu, Lb}
+use Rattle.tm_table.specs.declared.instr.Op.TheVariants.{Lh, Lw, Ld, Lbu, Lhu, Lwu, Sb, Sh, Sw, Sd, Addi, Slti, Sltiu}
+use Rattle.tm_table.specs.declared.instr.Op.TheVariants.{Xori, Ori, Andi, Slli, Srli, Srai, Add, Sll, Slt, Sltu, Xor}
+use Rattle.tm_table.specs.declared.instr.Op.TheVariants.{Srl, Or, And, Sub, Sra, Addiw, Slliw, Srliw, Sraiw, Addw}
+use Rattle.tm_table.specs.declared.instr.Op.TheVariants.{Sllw, Srlw, Subw, Sraw, Fence, Ecall, Ebreak}
 use Rattle.tm_table.specs.declared.table.Layout.{Layout}
 use Rattle.tm_table.specs.declared.table.Layout.TheVariants.{R, I, S, B, U, J, Shift6, Shift5, Order, Whole}
 use Rattle.tm_table.specs.declared.table.Row.{Row}
 
 -- a row of these parts (this project)
 abbrev row : Op → Layout → ℕ → ℕ → ℕ → ℕ → Row
-row op layout opcode funct3 funct6 extra = record { op = op; layout = layout; opcode = opcode; funct3 = funct3; funct6 = funct6; extra = extra }
+row op layout opcode funct3 funct6 extra = record {
+  op = op;
+  layout = layout;
+  opcode = opcode;
+  funct3 = funct3;
+  funct6 = funct6;
+  extra = extra;
+}
 
 -- The row of an op: layout, opcode, funct3, the upper six bits of funct7, and what stands in rs2 of a word
 -- with no operands (RV64I 2.1, instruction listings).

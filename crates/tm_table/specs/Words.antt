@@ -1,5 +1,6 @@
 -- Words and instructions.
-use Rattle.std.specs.Prelude.{◌≡◌, ℕ, ◌+◌, ◌-◌, ◌*◌, ◌/◌, ◌%◌, ◌^◌, ◌<◌, ℤ, pos, negsuc, ◌≤ℤ◌, Bool, true, ◌&&◌, nat_lt, ◌==◌, Option, option_map, find, if◌then◌else◌}
+use Rattle.std.specs.Prelude.{◌≡◌, ℕ, ◌+◌, ◌-◌, ◌*◌, ◌/◌, ◌%◌, ◌^◌, ◌<◌, ℤ, pos, negsuc, ◌≤ℤ◌, Bool, true, ◌&&◌}
+use Rattle.std.specs.Prelude.{nat_lt, ◌==◌, Option, option_map, find, if◌then◌else◌}
 use Rattle.tm_table.specs.declared.instr.Op.{Op}
 use Rattle.tm_table.specs.declared.table.Layout.{Layout}
 use Rattle.tm_table.specs.declared.table.Layout.TheVariants.{R, I, S, B, U, J, Shift6, Shift5, Order, Whole}
@@ -13,11 +14,20 @@ use Rattle.tm_table.specs.Table.{row_of, table}
 -- the parts of a word: opcode 6..0, rd 11..7, funct3 14..12, rs1 19..15, rs2 24..20, bit 25, and the
 -- upper six bits of funct7, 31..26 (RV64I 2.1)
 abbrev pub split : ℕ → Fields
-split w = record { opcode = w % 2 ^ 7; rd = w / 2 ^ 7 % 2 ^ 5; funct3 = w / 2 ^ 12 % 2 ^ 3; rs1 = w / 2 ^ 15 % 2 ^ 5; rs2 = w / 2 ^ 20 % 2 ^ 5; bit25 = w / 2 ^ 25 % 2; funct6 = w / 2 ^ 26 }
+split w = record {
+  opcode = w % 2 ^ 7;
+  rd = w / 2 ^ 7 % 2 ^ 5;
+  funct3 = w / 2 ^ 12 % 2 ^ 3;
+  rs1 = w / 2 ^ 15 % 2 ^ 5;
+  rs2 = w / 2 ^ 20 % 2 ^ 5;
+  bit25 = w / 2 ^ 25 % 2;
+  funct6 = w / 2 ^ 26;
+}
 
 -- the word with these parts (RV64I 2.1)
 abbrev pub join : Fields → ℕ
-join f = f.opcode + f.rd * 2 ^ 7 + f.funct3 * 2 ^ 12 + f.rs1 * 2 ^ 15 + f.rs2 * 2 ^ 20 + f.bit25 * 2 ^ 25 + f.funct6 * 2 ^ 26
+join f = f.opcode + f.rd * 2 ^ 7 + f.funct3 * 2 ^ 12 + f.rs1 * 2 ^ 15 + f.rs2 * 2 ^ 20 + f.bit25 * 2 ^ 25 + f.funct6
+    * 2 ^ 26
 
 -- each part has no more bits than its place in a word (RV64I 2.1)
 pub record InRange (f : Fields) : Type 0 where
@@ -58,7 +68,8 @@ imm_u f = pos (f.funct3 + f.rs1 * 8 + f.rs2 * 256 + f.bit25 * 8192 + f.funct6 * 
 
 -- layout J: bits 31, 19..12, 20, 30..21, then 0 (RV64I 2.1)
 abbrev pub imm_j : Fields → ℤ
-imm_j f = signed 20 (f.rs2 / 2 * 2 + f.bit25 * 32 + f.funct6 % 32 * 64 + f.rs2 % 2 * 2048 + f.funct3 * 4096 + f.rs1 * 32768 + f.funct6 / 32 * 1048576)
+imm_j f = signed 20 (f.rs2 / 2 * 2 + f.bit25 * 32 + f.funct6 % 32 * 64 + f.rs2 % 2 * 2048 + f.funct3 * 4096 + f.rs1
+    * 32768 + f.funct6 / 32 * 1048576)
 
 -- ---- what a row fixes of a word
 
@@ -73,7 +84,8 @@ fixes J r f = true
 fixes Shift6 r f = f.funct3 == r.funct3 && f.funct6 == r.funct6
 fixes Shift5 r f = f.funct3 == r.funct3 && f.funct6 == r.funct6 && f.bit25 == 0
 fixes Order r f = f.funct3 == r.funct3 && f.rd == 0 && f.rs1 == 0 && nat_lt f.funct6 4
-fixes Whole r f = f.funct3 == r.funct3 && f.rd == 0 && f.rs1 == 0 && f.rs2 == r.extra && f.funct6 == r.funct6 && f.bit25 == 0
+fixes Whole r f = f.funct3 == r.funct3 && f.rd == 0 && f.rs1 == 0 && f.rs2 == r.extra && f.funct6 == r.funct6 && f.bit25
+    == 0
 
 -- whether a word with these parts is of this row (RV64I 2.1)
 abbrev pub is_of : Fields → Row → Bool
@@ -97,16 +109,97 @@ read_as Whole op f = record { op = op; rd = 0; rs1 = 0; rs2 = 0; imm = pos 0 }
 
 -- the parts of an instruction's word, with the immediate where its layout has it (RV64I 2.1)
 abbrev pub parts_as : Layout → Row → Instr → Fields
-parts_as R r i = record { opcode = r.opcode; rd = i.rd; funct3 = r.funct3; rs1 = i.rs1; rs2 = i.rs2; bit25 = 0; funct6 = r.funct6 }
-parts_as I r i = let n = low 12 i.imm in record { opcode = r.opcode; rd = i.rd; funct3 = r.funct3; rs1 = i.rs1; rs2 = n % 32; bit25 = n / 32 % 2; funct6 = n / 64 }
-parts_as S r i = let n = low 12 i.imm in record { opcode = r.opcode; rd = n % 32; funct3 = r.funct3; rs1 = i.rs1; rs2 = i.rs2; bit25 = n / 32 % 2; funct6 = n / 64 }
-parts_as B r i = let n = low 13 i.imm in record { opcode = r.opcode; rd = n / 2 % 16 * 2 + n / 2048 % 2; funct3 = r.funct3; rs1 = i.rs1; rs2 = i.rs2; bit25 = n / 32 % 2; funct6 = n / 64 % 32 + n / 4096 * 32 }
-parts_as U r i = let n = low 20 i.imm in record { opcode = r.opcode; rd = i.rd; funct3 = n % 8; rs1 = n / 8 % 32; rs2 = n / 256 % 32; bit25 = n / 8192 % 2; funct6 = n / 16384 }
-parts_as J r i = let n = low 21 i.imm in record { opcode = r.opcode; rd = i.rd; funct3 = n / 4096 % 8; rs1 = n / 32768 % 32; rs2 = n / 2 % 16 * 2 + n / 2048 % 2; bit25 = n / 32 % 2; funct6 = n / 64 % 32 + n / 1048576 * 32 }
-parts_as Shift6 r i = let n = low 6 i.imm in record { opcode = r.opcode; rd = i.rd; funct3 = r.funct3; rs1 = i.rs1; rs2 = n % 32; bit25 = n / 32; funct6 = r.funct6 }
-parts_as Shift5 r i = let n = low 5 i.imm in record { opcode = r.opcode; rd = i.rd; funct3 = r.funct3; rs1 = i.rs1; rs2 = n; bit25 = 0; funct6 = r.funct6 }
-parts_as Order r i = let n = low 8 i.imm in record { opcode = r.opcode; rd = 0; funct3 = r.funct3; rs1 = 0; rs2 = n % 32; bit25 = n / 32 % 2; funct6 = n / 64 }
-parts_as Whole r i = record { opcode = r.opcode; rd = 0; funct3 = r.funct3; rs1 = 0; rs2 = r.extra; bit25 = 0; funct6 = r.funct6 }
+parts_as R r i = record {
+  opcode = r.opcode;
+  rd = i.rd;
+  funct3 = r.funct3;
+  rs1 = i.rs1;
+  rs2 = i.rs2;
+  bit25 = 0;
+  funct6 = r.funct6;
+}
+parts_as I r i = let n = low 12 i.imm in record {
+  opcode = r.opcode;
+  rd = i.rd;
+  funct3 = r.funct3;
+  rs1 = i.rs1;
+  rs2 = n % 32;
+  bit25 = n / 32 % 2;
+  funct6 = n / 64;
+}
+parts_as S r i = let n = low 12 i.imm in record {
+  opcode = r.opcode;
+  rd = n % 32;
+  funct3 = r.funct3;
+  rs1 = i.rs1;
+  rs2 = i.rs2;
+  bit25 = n / 32 % 2;
+  funct6 = n / 64;
+}
+parts_as B r i = let n = low 13 i.imm in record {
+  opcode = r.opcode;
+  rd = n / 2 % 16 * 2 + n / 2048 % 2;
+  funct3 = r.funct3;
+  rs1 = i.rs1;
+  rs2 = i.rs2;
+  bit25 = n / 32 % 2;
+  funct6 = n / 64 % 32 + n / 4096 * 32;
+}
+parts_as U r i = let n = low 20 i.imm in record {
+  opcode = r.opcode;
+  rd = i.rd;
+  funct3 = n % 8;
+  rs1 = n / 8 % 32;
+  rs2 = n / 256 % 32;
+  bit25 = n / 8192 % 2;
+  funct6 = n / 16384;
+}
+parts_as J r i = let n = low 21 i.imm in record {
+  opcode = r.opcode;
+  rd = i.rd;
+  funct3 = n / 4096 % 8;
+  rs1 = n / 32768 % 32;
+  rs2 = n / 2 % 16 * 2 + n / 2048 % 2;
+  bit25 = n / 32 % 2;
+  funct6 =
+      n / 64 % 32 + n / 1048576 * 32;
+}
+parts_as Shift6 r i = let n = low 6 i.imm in record {
+  opcode = r.opcode;
+  rd = i.rd;
+  funct3 = r.funct3;
+  rs1 = i.rs1;
+  rs2 = n % 32;
+  bit25 = n / 32;
+  funct6 = r.funct6;
+}
+parts_as Shift5 r i = let n = low 5 i.imm in record {
+  opcode = r.opcode;
+  rd = i.rd;
+  funct3 = r.funct3;
+  rs1 = i.rs1;
+  rs2 = n;
+  bit25 = 0;
+  funct6 = r.funct6;
+}
+parts_as Order r i = let n = low 8 i.imm in record {
+  opcode = r.opcode;
+  rd = 0;
+  funct3 = r.funct3;
+  rs1 = 0;
+  rs2 = n % 32;
+  bit25 = n / 32 % 2;
+  funct6 = n / 64;
+}
+parts_as Whole r i = record {
+  opcode = r.opcode;
+  rd = 0;
+  funct3 = r.funct3;
+  rs1 = 0;
+  rs2 = r.extra;
+  bit25 = 0;
+  funct6 = r.funct6;
+}
 
 -- the parts of an instruction's word, by its op's row (RV64I 2.1)
 abbrev pub parts_of : Instr → Fields

@@ -2,7 +2,9 @@ ghost use Rattle.std.specs.Prelude.{◌≡◌, ◌≢◌, ◌↔◌, ◌+◌, �
 ghost use Rattle.tm_table.specs.declared.instr.Instr.{Instr as TheInstr};
 ghost use Rattle.tm_table.specs.declared.table.Layout.TheVariants.{R, I, S, B, U, J};
 ghost use Rattle.tm_table.specs.Table.{row_of as own_row_of, table};
-ghost use Rattle.tm_table.specs.Words.{split as parts_of_word, join as joined, decoded, word_of, Fits, FitsAs, InRange, From, imm_s, imm_b, imm_u, imm_j, read_as as instr_of, parts_as as parts_by, is_of as row_is_of, signed as signed_number};
+ghost use Rattle.tm_table.specs.Words.{split as parts_of_word, join as joined, decoded, word_of, Fits, FitsAs};
+ghost use Rattle.tm_table.specs.Words.{InRange, From, imm_s, imm_b, imm_u, imm_j, read_as as instr_of};
+ghost use Rattle.tm_table.specs.Words.{parts_as as parts_by, is_of as row_is_of, signed as signed_number};
 
 use crate::instr::{Instr, Op};
 use crate::table::{Fields, Layout, ROWS, Row};

@@ -1,5 +1,6 @@
 ghost use Rattle.std.specs.Prelude.{◌≡◌, ◌<◌, ◌%◌, ◌^◌, ◌*◌};
-ghost use Rattle.tm_table.specs.Row.{IsWidth, sign_extended, shifted_down, signed64, signed32, signed_lt, flag as flag_of, loaded as loaded_value};
+ghost use Rattle.tm_table.specs.Row.{IsWidth, sign_extended, shifted_down, signed64, signed32, signed_lt};
+ghost use Rattle.tm_table.specs.Row.{flag as flag_of, loaded as loaded_value};
 
 /// Whether `a` is less than `b`, both with a sign.
 pub fn less(a: u64, b: u64) -> bool

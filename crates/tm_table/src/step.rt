@@ -1,7 +1,8 @@
 ghost use Rattle.std.specs.Prelude.{◌≡◌, ◌↔◌, ◌+◌, ◌<◌, ◌%◌, ◌^◌, ℕ, IsSome, IfSome, IsTrue, unwrap_or};
 ghost use Rattle.tm_table.specs.State.{hart_of};
 ghost use Rattle.tm_table.specs.Words.{low, Fits};
-ghost use Rattle.tm_table.specs.Row.{put as put_in, Loads, Stores, Jumps, word64, effect_by, effect, effect_at, after, row, read_in, loads as loads_of, read_at, is_load, IsGiven, IsWidth, HasWidth};
+ghost use Rattle.tm_table.specs.Row.{put as put_in, Loads, Stores, Jumps, word64, effect_by, effect, effect_at, after};
+ghost use Rattle.tm_table.specs.Row.{row, read_in, loads as loads_of, read_at, is_load, IsGiven, IsWidth, HasWidth};
 
 use crate::instr::{Instr, Op};
 use crate::numbers::{flag, less, loaded, low_bytes, shift_down, shift_word_down, word};

@@ -11,8 +11,8 @@ use std::alloc::Global;
 use tm_base::{NoMemory, Text, push_decimal};
 use tm_tmpl_types::{BodyDecl, CaseDecl, Kind, Selector, SlotDecl, SlotText, Template, WindowDecl};
 
-/// A template's printed form: single spaces, decimal numbers, no indent, one LF behind each statement. It is read back as a template
-/// that equals this one apart from places.
+/// A template's printed form: single spaces, decimal numbers, no indent, one LF behind each statement. It is read
+/// back as a template that equals this one apart from places.
 #[tactic(auto, unfolding(crate::specs::Printed::printed))]
 pub fn print_template(alloc: Global, t: &Template) -> Result<Text, NoMemory>
     ensures text { IfOk result (λ text. text ≡ printed.printed t.now) }
@@ -67,7 +67,8 @@ fn put_passes(out: &mut Text, passes: u32) -> Result<(), NoMemory>
 
 #[tactic(auto, unfolding(crate::specs::Printed::line_of, crate::specs::Printed::words_of))]
 fn put_window(out: &mut Text, window: WindowDecl) -> Result<(), NoMemory>
-    ensures { OnOk result (out.new ≡ out.old ++ printed.line_of (readings.window window.number window.kind window.lines)) }
+    ensures { OnOk result (out.new
+        ≡ out.old ++ printed.line_of (readings.window window.number window.kind window.lines)) }
 {
     put(out, b"window", b' ')?;
     put_number(out, window.number, b' ')?;
@@ -108,7 +109,8 @@ fn put_pair(out: &mut Text, word: &[u8], number: u32, end: u8) -> Result<(), NoM
 
 // The last two weights of a mix.
 fn put_last(out: &mut Text, store: u32, branch: u32) -> Result<(), NoMemory>
-    ensures { OnOk result (out.new ≡ out.old ++ (printed.spaced (codes "store" ∷ decimal store ∷ codes "branch" ∷ decimal branch ∷ []) ++ 10 ∷ [])) }
+    ensures { OnOk result (out.new ≡ out.old
+        ++ (printed.spaced (codes "store" ∷ decimal store ∷ codes "branch" ∷ decimal branch ∷ []) ++ 10 ∷ [])) }
 {
     put_pair(out, b"store", store, b' ')?;
     put_pair(out, b"branch", branch, b'\n')

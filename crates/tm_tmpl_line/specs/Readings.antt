@@ -1,5 +1,7 @@
 -- What tokens are read as, and the form of each statement. All of this is this project's own.
-use Rattle.std.specs.Prelude.{ℕ, ◌≡◌, ◌≤◌, ◌+◌, ◌-◌, ◌==◌, ◌^◌, Bool, true, false, ◌&&◌, ◌||◌, not, nat_le, nat_lt, if◌then◌else◌, List, [], ◌∷◌, length, take, drop, Option, Some, None, Result, Ok, Err, codes, slice_index}
+use Rattle.std.specs.Prelude.{ℕ, ◌≡◌, ◌≤◌, ◌+◌, ◌-◌, ◌==◌, ◌^◌, Bool, true, false, ◌&&◌, ◌||◌, not, nat_le, nat_lt}
+use Rattle.std.specs.Prelude.{if◌then◌else◌, List, [], ◌∷◌, length, take, drop, Option, Some, None, Result, Ok, Err}
+use Rattle.std.specs.Prelude.{codes, slice_index}
 use Rattle.std.specs.List.{list_all}
 use Rattle.std.specs.Str.{bytes_eq}
 use Rattle.tm_base.specs.Numbers.{number_of}
@@ -164,7 +166,9 @@ passes_line xs = last_number xs >>= (λ n rest. Ok (passes n, rest))
 
 -- a window's number, its kind, and how many lines it has
 abbrev pub window_line : List Lexeme → Reading Statement
-window_line xs = one want.Number number xs >>= (λ w rest. one want.Kind kind rest >>= (λ k rest. one want.Number number rest >>= (λ n rest. ended (window w k n) rest)))
+window_line xs =
+    one want.Number number xs >>= (λ w rest. one want.Kind kind rest >>=
+    (λ k rest. one want.Number number rest >>= (λ n rest. ended (window w k n) rest)))
 
 -- a name
 abbrev pub case_line : List Lexeme → Reading Statement
@@ -180,8 +184,11 @@ emit_line xs = one want.Asm asm xs >>= (λ a rest. ended (slot (Emit a)) rest)
 
 -- how many slots, and the weights of the four classes
 abbrev pub mix_line : List Lexeme → Reading Statement
-mix_line xs = one want.Number number xs >>= (λ n rest. weight (codes "alu") rest >>= (λ a rest. weight (codes "load") rest >>= (λ l rest.
-    weight (codes "store") rest >>= (λ s rest. weight (codes "branch") rest >>= (λ b rest. ended (slot (Mix n a l s b)) rest)))))
+mix_line xs =
+    one want.Number number xs >>= (λ n rest. weight (codes "alu") rest >>=
+    (λ a rest. weight (codes "load") rest >>= (λ l rest.
+    weight (codes "store") rest >>= (λ s rest. weight (codes "branch") rest >>=
+    (λ b rest. ended (slot (Mix n a l s b)) rest)))))
 
 -- ---- the tokens of a text, and what is read of a line
 

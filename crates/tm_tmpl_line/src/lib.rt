@@ -1,6 +1,7 @@
 //! What a template says, and the form of each of its statements.
 //!
-//! Each call takes a text and the tokens of one line of it, the line's first word first, and reads what stands behind that word. The fault is
+//! Each call takes a text and the tokens of one line of it, the line's first word first, and reads what stands behind
+//! that word. The fault is
 //! `Expected` at the first token that doesn't fit, or `Early` where the tokens end before.
 #![tactic(auto)]
 

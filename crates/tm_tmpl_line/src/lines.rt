@@ -9,7 +9,8 @@ use tm_lex::Token;
 /// The name behind `template`: 1 to 16 bytes.
 pub fn template_line<'a>(text: &'a [u8], line: &[Token]) -> Result<&'a [u8], TmplFault>
     requires { All (readings.IsSpan text.now) line.now }
-    ensures ok { IfOk result (λ name. readings.template_line (readings.lexemes text.now (drop 1 line.now)) ≡ Ok (readings.template name.now, readings.lexemes text.now (drop 3 line.now))) }
+    ensures ok { IfOk result (λ name. readings.template_line (readings.lexemes text.now (drop 1 line.now))
+        ≡ Ok (readings.template name.now, readings.lexemes text.now (drop 3 line.now))) }
     ensures err { IfErr result (λ e. readings.template_line (readings.lexemes text.now (drop 1 line.now)) ≡ Err e) }
 {
     let name = name_at(text, line, 1)?;
@@ -20,7 +21,8 @@ pub fn template_line<'a>(text: &'a [u8], line: &[Token]) -> Result<&'a [u8], Tmp
 /// The number behind `passes`, as it is written.
 pub fn passes_line(text: &[u8], line: &[Token]) -> Result<u32, TmplFault>
     requires { All (readings.IsSpan text.now) line.now }
-    ensures ok { IfOk result (λ n. readings.passes_line (readings.lexemes text.now (drop 1 line.now)) ≡ Ok (readings.passes n, readings.lexemes text.now (drop 3 line.now))) }
+    ensures ok { IfOk result (λ n. readings.passes_line (readings.lexemes text.now (drop 1 line.now))
+        ≡ Ok (readings.passes n, readings.lexemes text.now (drop 3 line.now))) }
     ensures err { IfErr result (λ e. readings.passes_line (readings.lexemes text.now (drop 1 line.now)) ≡ Err e) }
 {
     last_number(text, line, 1)
@@ -29,7 +31,8 @@ pub fn passes_line(text: &[u8], line: &[Token]) -> Result<u32, TmplFault>
 /// The number, the kind and the lines of a window, as they are written.
 pub fn window_line(text: &[u8], line: &[Token]) -> Result<(u32, Kind, u32), TmplFault>
     requires { All (readings.IsSpan text.now) line.now }
-    ensures ok { IfOk result (λ w. readings.window_line (readings.lexemes text.now (drop 1 line.now)) ≡ Ok (readings.window w.0 w.1 w.2, readings.lexemes text.now (drop 5 line.now))) }
+    ensures ok { IfOk result (λ w. readings.window_line (readings.lexemes text.now (drop 1 line.now))
+        ≡ Ok (readings.window w.0 w.1 w.2, readings.lexemes text.now (drop 5 line.now))) }
     ensures err { IfErr result (λ e. readings.window_line (readings.lexemes text.now (drop 1 line.now)) ≡ Err e) }
 {
     let number = number_at(text, line, 1)?;
@@ -41,7 +44,8 @@ pub fn window_line(text: &[u8], line: &[Token]) -> Result<(u32, Kind, u32), Tmpl
 /// The name behind `case`: 1 to 16 bytes.
 pub fn case_line<'a>(text: &'a [u8], line: &[Token]) -> Result<&'a [u8], TmplFault>
     requires { All (readings.IsSpan text.now) line.now }
-    ensures ok { IfOk result (λ name. readings.case_line (readings.lexemes text.now (drop 1 line.now)) ≡ Ok (readings.case_of name.now, readings.lexemes text.now (drop 3 line.now))) }
+    ensures ok { IfOk result (λ name. readings.case_line (readings.lexemes text.now (drop 1 line.now))
+        ≡ Ok (readings.case_of name.now, readings.lexemes text.now (drop 3 line.now))) }
     ensures err { IfErr result (λ e. readings.case_line (readings.lexemes text.now (drop 1 line.now)) ≡ Err e) }
 {
     let name = name_at(text, line, 1)?;
@@ -52,7 +56,8 @@ pub fn case_line<'a>(text: &'a [u8], line: &[Token]) -> Result<&'a [u8], TmplFau
 /// Whom the body is for, behind `body`.
 pub fn body_line(text: &[u8], line: &[Token]) -> Result<Selector, TmplFault>
     requires { All (readings.IsSpan text.now) line.now }
-    ensures ok { IfOk result (λ whom. readings.body_line (readings.lexemes text.now (drop 1 line.now)) ≡ Ok (readings.body whom, readings.lexemes text.now (drop (readings.body_len whom) line.now))) }
+    ensures ok { IfOk result (λ whom. readings.body_line (readings.lexemes text.now (drop 1 line.now))
+        ≡ Ok (readings.body whom, readings.lexemes text.now (drop (readings.body_len whom) line.now))) }
     ensures err { IfErr result (λ e. readings.body_line (readings.lexemes text.now (drop 1 line.now)) ≡ Err e) }
 {
     match whom_at(text, line, 1)? {
@@ -69,7 +74,8 @@ pub fn body_line(text: &[u8], line: &[Token]) -> Result<Selector, TmplFault>
 /// The assembler line behind `emit`: the raw token, not read further.
 pub fn emit_line<'a>(text: &'a [u8], line: &[Token]) -> Result<&'a [u8], TmplFault>
     requires { All (readings.IsSpan text.now) line.now }
-    ensures ok { IfOk result (λ asm. readings.emit_line (readings.lexemes text.now (drop 1 line.now)) ≡ Ok (readings.slot (SlotText.Emit asm.now), readings.lexemes text.now (drop 3 line.now))) }
+    ensures ok { IfOk result (λ asm. readings.emit_line (readings.lexemes text.now (drop 1 line.now))
+        ≡ Ok (readings.slot (SlotText.Emit asm.now), readings.lexemes text.now (drop 3 line.now))) }
     ensures err { IfErr result (λ e. readings.emit_line (readings.lexemes text.now (drop 1 line.now)) ≡ Err e) }
 {
     let asm = asm_at(text, line, 1)?;
@@ -80,7 +86,8 @@ pub fn emit_line<'a>(text: &'a [u8], line: &[Token]) -> Result<&'a [u8], TmplFau
 /// The number of slots and the weights behind `mix`, as they are written.
 pub fn mix_line(text: &[u8], line: &[Token]) -> Result<SlotText, TmplFault>
     requires { All (readings.IsSpan text.now) line.now }
-    ensures ok { IfOk result (λ mix. readings.mix_line (readings.lexemes text.now (drop 1 line.now)) ≡ Ok (readings.slot mix, readings.lexemes text.now (drop 11 line.now))) }
+    ensures ok { IfOk result (λ mix. readings.mix_line (readings.lexemes text.now (drop 1 line.now))
+        ≡ Ok (readings.slot mix, readings.lexemes text.now (drop 11 line.now))) }
     ensures err { IfErr result (λ e. readings.mix_line (readings.lexemes text.now (drop 1 line.now)) ≡ Err e) }
 {
     let count = number_at(text, line, 1)?;
@@ -102,7 +109,8 @@ pub fn mix_line(text: &[u8], line: &[Token]) -> Result<SlotText, TmplFault>
 fn weight_at(text: &[u8], line: &[Token], at: usize, class: &[u8]) -> Result<u32, TmplFault>
     requires spans { All (readings.IsSpan text.now) line.now }
     requires few { at ≤ 8 }
-    ensures ok { IfOk result (λ n. readings.weight class.now (readings.lexemes text.now (drop at line.now)) ≡ Ok (n, readings.lexemes text.now (drop (at + 2) line.now))) }
+    ensures ok { IfOk result (λ n. readings.weight class.now (readings.lexemes text.now (drop at line.now))
+        ≡ Ok (n, readings.lexemes text.now (drop (at + 2) line.now))) }
     ensures err { IfErr result (λ e. readings.weight class.now (readings.lexemes text.now (drop at line.now)) ≡ Err e) }
 {
     class_at(text, line, at, class)?;
@@ -113,7 +121,8 @@ fn weight_at(text: &[u8], line: &[Token], at: usize, class: &[u8]) -> Result<u32
 fn last_number(text: &[u8], line: &[Token], at: usize) -> Result<u32, TmplFault>
     requires spans { All (readings.IsSpan text.now) line.now }
     requires few { at ≤ 8 }
-    ensures ok { IfOk result (λ n. readings.last_number (readings.lexemes text.now (drop at line.now)) ≡ Ok (n, readings.lexemes text.now (drop (at + 2) line.now))) }
+    ensures ok { IfOk result (λ n. readings.last_number (readings.lexemes text.now (drop at line.now))
+        ≡ Ok (n, readings.lexemes text.now (drop (at + 2) line.now))) }
     ensures err { IfErr result (λ e. readings.last_number (readings.lexemes text.now (drop at line.now)) ≡ Err e) }
 {
     let number = number_at(text, line, at)?;

@@ -1,12 +1,15 @@
 -- Which statement may follow which, and the template that statements make. All of this is this project's own.
-use Rattle.std.specs.Prelude.{ℕ, ◌≡◌, ◌⊎◌, ◌+◌, ◌==◌, not, if◌then◌else◌, List, [], ◌∷◌, count_by, Option, Some, None, Result, Ok, Err, codes}
+use Rattle.std.specs.Prelude.{ℕ, ◌≡◌, ◌⊎◌, ◌+◌, ◌==◌, not, if◌then◌else◌, List, [], ◌∷◌, count_by, Option, Some, None}
+use Rattle.std.specs.Prelude.{Result, Ok, Err, codes}
 use Rattle.std.specs.List.{suffix_len}
 use Rattle.std.specs.Str.{bytes_eq}
 use Rattle.tm_base.specs.declared.Pos.{Pos}
 use Rattle.tm_lex.specs.Lexing.{tokens_of}
 use Rattle.tm_lex.specs.declared.token.Token.{Token}
 use Rattle.tm_lex.specs.declared.token.LexFault.{LexFault}
-use Rattle.tm_tmpl_line.specs.Readings.{Lexeme, lexemes, is_line_end, Reading, Statement, At, template, passes, window, case_of, body, slot, template_line, passes_line, window_line, case_line, body_line, emit_line, mix_line}
+use Rattle.tm_tmpl_line.specs.Readings.{Lexeme, lexemes, is_line_end, Reading, Statement, At, template, passes}
+use Rattle.tm_tmpl_line.specs.Readings.{window, case_of, body, slot, template_line, passes_line, window_line}
+use Rattle.tm_tmpl_line.specs.Readings.{case_line, body_line, emit_line, mix_line}
 use Rattle.tm_tmpl_types.specs.declared.template.Want.TheVariants as want
 use Rattle.tm_tmpl_types.specs.declared.template.TmplFault.{TmplFault}
 use Rattle.tm_tmpl_types.specs.declared.template.TmplFault.TheVariants.{Lex, Early, Expected}
@@ -110,7 +113,10 @@ put (p, window w k n) r = record r {
   windows_left = (record { at = p; number = w; kind = k; lines = n })
       ∷ r.windows_left;
 }
-put (p, case_of n) r = record r { bodies_left = []; made = record r.made { cases = (record { at = p; name = n; bodies = r.bodies_left }) ∷ r.made.cases } }
+put (p, case_of n) r = record r {
+  bodies_left = [];
+  made = record r.made { cases = (record { at = p; name = n; bodies = r.bodies_left }) ∷ r.made.cases };
+}
 put (p, body s) r = record r {
   slots_left = [];
   bodies_left = (record { at = p; whom = s; slots = r.slots_left })
@@ -133,7 +139,14 @@ no_parts text = record {
   slots_left = [];
   bodies_left = [];
   windows_left = [];
-  made = record { name = []; passes = 0; passes_at = record { line = 1; col = 1 }; windows = []; cases = []; end = end_of text };
+  made = record {
+    name = [];
+    passes = 0;
+    passes_at = record { line = 1; col = 1 };
+    windows = [];
+    cases = [];
+    end = end_of text;
+  };
 }
 
 -- ---- the template of a text, or its first fault

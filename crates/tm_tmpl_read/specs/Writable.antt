@@ -8,7 +8,8 @@ use Rattle.tm_tmpl_types.specs.declared.template.Selector.TheVariants as whose
 use Rattle.tm_tmpl_types.specs.declared.template.SlotText.{SlotText}
 use Rattle.tm_tmpl_types.specs.declared.template.SlotText.TheVariants.{Emit, Mix}
 use Rattle.tm_tmpl_types.specs.declared.template.Template.{Template}
-use Rattle.tm_tmpl_line.specs.Readings.{Lexeme, is_raw, is_name, Statement, template, passes, window, case_of, body, slot, At}
+use Rattle.tm_tmpl_line.specs.Readings.{Lexeme, is_raw, is_name, Statement, template, passes, window, case_of, body}
+use Rattle.tm_tmpl_line.specs.Readings.{slot, At}
 use Rattle.tm_tmpl_read.specs.Steps.{windows_at, cases_at}
 
 -- an assembler line: at most 64 bytes that may stand in a line, without separators at its ends

@@ -1,4 +1,5 @@
-ghost use Rattle.std.specs.Prelude.{◌≡◌, ◌≢◌, ◌^◌, ◌<◌, ◌≤◌, ◌+◌, ◌==◌, Ok, Err, IfOk, IfErr, All, length, count_by, not};
+ghost use Rattle.std.specs.Prelude.{◌≡◌, ◌≢◌, ◌^◌, ◌<◌, ◌≤◌, ◌+◌, ◌==◌, Ok, Err, IfOk, IfErr, All, length, count_by};
+ghost use Rattle.std.specs.Prelude.{not};
 ghost use Rattle.std.specs.List.{suffix_len};
 ghost use Rattle.tm_tmpl_line.specs.Readings as readings;
 ghost use Rattle.tm_tmpl_read.specs.Grammar as grammar;
@@ -12,15 +13,15 @@ use std::alloc::Global;
 use tm_base::Pos;
 use tm_lex::{LexFault, Token, tokens};
 
-/// Reads a template: the one that the text spells, or the first place at which the text leaves the grammar. Where the text has no
-/// tokens, the fault is theirs.
+/// Reads a template: the one that the text spells, or the first place at which the text leaves the grammar. Where the
+/// text has no tokens, the fault is theirs.
 pub fn parse_template(alloc: Global, text: &[u8]) -> Result<Template, TmplFault>
     requires { length text.now < 2 ^ 31 }
     ensures ok { IfOk result (λ t. grammar.template_of text.now ≡ Ok t) }
     ensures err { IfErr result (λ e. e ≢ TmplFault.NoMemory → grammar.template_of text.now ≡ Err e) }
 
-    // Each token of the text stands for the next piece of the template, one for one; or the text leaves every template at the fault,
-    // and at no place before. A text that spells a template is read as it.
+    // Each token of the text stands for the next piece of the template, one for one; or the text leaves every
+    // template at the fault, and at no place before. A text that spells a template is read as it.
     ensures spelled { IfOk result (λ t. spelled.IsSpelled text.now t) }
     ensures left { IfErr result (λ e. spelled.IsFaultOf text.now e) }
     ensures only { (t : Template) → spelled.IsSpelled text.now t → spelled.IsOrNoMemory t result }
@@ -49,7 +50,8 @@ fn read_tokens(alloc: Global, text: &[u8], tokens: &[Token]) -> Result<Template,
     requires spans { All (readings.IsSpan text.now) tokens.now }
     requires size { length text.now < 2 ^ 31 }
     ensures ok { IfOk result (λ t. grammar.made_of text.now (steps.follows text.now tokens.now grammar.start) ≡ Ok t) }
-    ensures err { IfErr result (λ e. e ≢ TmplFault.NoMemory → grammar.made_of text.now (steps.follows text.now tokens.now grammar.start) ≡ Err e) }
+    ensures err { IfErr result (λ e. e ≢ TmplFault.NoMemory
+        → grammar.made_of text.now (steps.follows text.now tokens.now grammar.start) ≡ Err e) }
 {
     let (name, tokens) = read_name(alloc, text, tokens)?;
     let (passes, passes_at, tokens) = read_passes(text, tokens)?;

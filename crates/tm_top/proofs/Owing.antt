@@ -33,12 +33,6 @@ use Rattle.tm_top_owed.specs.Steps.Told.{told_whole, told_short}
 
 -- ---- how a call ended
 
--- asked that are no command
-pub ended_usage : (asked : Option Command) (desk : DeskChange) (out err : SinkChange) (status : ℕ)
-    → asked ≡ None → FilesStay desk → Silent out → Told err usage 2 status → Ended asked desk out err None status
-ended_usage asked desk out err status none files silent (told_whole two said) = no_command two refl none files silent said
-ended_usage asked desk out err status none files silent (told_short six fronts) = no_memory_for_usage six refl none files silent fronts
-
 -- a stop's fault has a line
 pub tellable : (s : Stop) (c : Command) (desk : DeskChange) (out : SinkChange) → Stopped s c desk out → IsTellable s
 tellable (stop.Refused role fault) c desk out stopped = stopped.0.has_line

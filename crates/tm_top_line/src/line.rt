@@ -1,7 +1,8 @@
 // The line of a fault.
 ghost use Rattle.std.specs.Prelude.{◌≡◌, ◌++◌, IfOk, IsFalse, OnOk};
 ghost use Rattle.tm_top_line.specs.Inputs.{input_text};
-ghost use Rattle.tm_top_line.specs.Lines.{any_text, desk_text, elf_text, fault_text, image_text, role_name, wants_memory};
+ghost use Rattle.tm_top_line.specs.Lines.{any_text, desk_text, elf_text, fault_text, image_text, role_name};
+ghost use Rattle.tm_top_line.specs.Lines.{wants_memory};
 
 use crate::fault::AnyFault;
 use crate::grammar::put_grammar;

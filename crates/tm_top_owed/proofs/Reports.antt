@@ -20,7 +20,3 @@ pub put_front : {X E : Type 0} (result : Result X E) (sink : SinkChange) (text :
     → (IsTrue sink.tells → OnErr result ((n : ℕ) × (sink.taken_after ≡ sink.taken ++ take n text))) → TookFront sink text
 put_front (Ok x) sink text whole front = whole_front sink text whole
 put_front (Err e) sink text whole front = front
-
--- where only want of memory was said, nothing of the text was
-pub only_no_memory : (sink : SinkChange) (text : List ℕ) → TookFront sink no_memory → TookFronts sink text
-only_no_memory sink text h = λ told. let said = h told in (0, said.0, said.1 ∙ ap (λ front. front ++ take said.0 no_memory) (sym (append-nil sink.taken)))

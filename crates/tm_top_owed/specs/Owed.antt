@@ -1,6 +1,7 @@
 -- What a command owes: what its files, its sinks and its journal are after it, by the status that it ends with (this
 -- project's own).
-use Rattle.std.specs.Prelude.{◌≡◌, ◌≢◌, ◌⊎◌, ℕ, Bool, true, false, IsTrue, IsFalse, List, [], length, Option, None, Some, Ok}
+use Rattle.std.specs.Prelude.{◌≡◌, ◌≢◌, ◌⊎◌, ℕ, Bool, true, false, IsTrue, IsFalse, List, [], length, Option, None}
+use Rattle.std.specs.Prelude.{Some, Ok}
 use Rattle.tm_desk.specs.Causes.{Files}
 use Rattle.tm_desk.specs.declared.desk.DeskError.TheVariants.{Failed, TooLong, NoMemory}
 use Rattle.tm_plan_map.specs.declared.admitted.Admitted.{Admitted}
@@ -153,7 +154,8 @@ IsReady (to_run r) desk e = IsRunOf r desk.tells desk.held e
 IsReady (to_sample number) desk e = IsSampleOf number e
 
 -- The job was done: all that comes before the text, and the text was printed.
-pub record IsDone (c : Command) (desk : DeskChange) (out : SinkChange) (status : ℕ) (journal : Option (List Event)) : Type 0 where
+pub record IsDone (c : Command) (desk : DeskChange) (out : SinkChange) (status : ℕ) (journal : Option (List Event)) :
+    Type 0 where
   pub text : List ℕ
   pub ready : IsReady c desk (record { text = text; status = status; journal = journal })
   pub printed : Took out text
@@ -245,7 +247,8 @@ pub data MayBegin (c : Command) (desk : DeskChange) (out : SinkChange) (text : L
 
 -- How a call ended whose words are this command, or none: there are these statuses alone, and this holds with each.
 -- Only where a job was done there may be a journal.
-pub data Ended (asked : Option Command) (desk : DeskChange) (out err : SinkChange) (journal : Option (List Event)) (status : ℕ) : Type 0 where
+pub data Ended (asked : Option Command) (desk : DeskChange) (out err : SinkChange) (journal : Option (List Event))
+    (status : ℕ) : Type 0 where
   -- the job was done, and no file changed that the command doesn't write
   done : (c : Command) → asked ≡ Some c → IsDone c desk out status journal → RestStays c desk
       → Silent err → Ended asked desk out err journal status
@@ -279,7 +282,8 @@ AlwaysDone c desk out journal status = IsTrue desk.tells → (DeskFailed desk �
     → first_fault c desk.held ≡ None → IsDone c desk out status journal ⊎ (status ≡ 6)
 
 -- All that a call owes.
-pub record Owes (asked : Option Command) (desk : DeskChange) (out err : SinkChange) (journal : Option (List Event)) (status : ℕ) : Type 0 where
+pub record Owes (asked : Option Command) (desk : DeskChange) (out err : SinkChange) (journal : Option (List Event))
+    (status : ℕ) : Type 0 where
   pub ended : Ended asked desk out err journal status
   -- words that are no command are always refused, but for want of memory
   pub always_usage : asked ≡ None → (status ≡ 2) ⊎ (status ≡ 6)

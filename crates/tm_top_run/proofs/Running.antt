@@ -126,14 +126,6 @@ limit-of : (p : Program) (lines : List FaultLine) (limit : ℕ) (g t : Guested) 
     → t.limit ≡ limit
 limit-of p lines limit g t is same = same.limit ∙ ap (λ (x : Guested). x.limit) is
 
--- it is told by its limit and its journal
-pub told-again : (p : Program) (lines : List FaultLine) (limit : ℕ) (g t : Guested) (events : List Event)
-    (text : List ℕ) (status : ℕ) → g ≡ fresh p lines limit → IsSame g t → events ≡ t.journal
-    → IsToldOf p t.limit t.journal text status → IsToldOf p limit events text status
-told-again p lines limit g t events text status is same journal told =
-    subst (λ (n : ℕ). IsToldOf p n events text status) (limit-of p lines limit g t is same)
-    (subst (λ (es : List Event). IsToldOf p t.limit es text status) (sym journal) told)
-
 -- its events are in round order
 pub in-order : (p : Program) (lines : List FaultLine) (limit : ℕ) (g t : Guested) (events : List Event)
     → g ≡ fresh p lines limit → lines ≡ [] → IsSame g t → IsOver p t → events ≡ t.journal

@@ -1,5 +1,6 @@
 -- The topology that a TOML document states. What TOML is, `toml` says; the keys and their rules are this project's own.
-use Rattle.std.specs.Prelude.{ℕ, ◌*◌, ◌==◌, Bool, ◌&&◌, ◌||◌, not, nat_le, if◌then◌else◌, ℤ, pos, negsuc, List, [], ◌∷◌, filter, Option, Some, None, Result, Ok, Err, codes}
+use Rattle.std.specs.Prelude.{ℕ, ◌*◌, ◌==◌, Bool, ◌&&◌, ◌||◌, not, nat_le, if◌then◌else◌, ℤ, pos, negsuc, List, []}
+use Rattle.std.specs.Prelude.{◌∷◌, filter, Option, Some, None, Result, Ok, Err, codes}
 use Rattle.std.specs.Str.{is_utf8, bytes_eq}
 use Rattle.std.specs.Ordering.{nat_cmp, is_lt}
 use Rattle.std.specs.Cmp.Lexicographic.{slice_cmp}
@@ -10,7 +11,8 @@ use Rattle.tm_topo.specs.declared.system.Topology.{Topology}
 use Rattle.tm_topo.specs.declared.system.TopoKey.{TopoKey}
 use Rattle.tm_topo.specs.declared.system.TopoKey.TheVariants.{Cores, Threads, Line, Bias}
 use Rattle.tm_topo.specs.declared.system.TopoFault.{TopoFault}
-use Rattle.tm_topo.specs.declared.system.TopoFault.TheVariants.{NotToml, UnknownKey, Missing, WrongKind, OutOfRange, TooManyHarts}
+use Rattle.tm_topo.specs.declared.system.TopoFault.TheVariants.{NotToml, UnknownKey, Missing, WrongKind, OutOfRange}
+use Rattle.tm_topo.specs.declared.system.TopoFault.TheVariants.{TooManyHarts}
 
 -- the text of a key
 abbrev pub key_text : TopoKey → List ℕ
@@ -30,7 +32,8 @@ keys_of (member k d ms) = k ∷ keys_of ms
 
 -- whether a text is one of the keys
 abbrev pub is_known : List ℕ → Bool
-is_known k = ((bytes_eq k (key_text Cores) || bytes_eq k (key_text Threads)) || bytes_eq k (key_text Line)) || bytes_eq k (key_text Bias)
+is_known k = ((bytes_eq k (key_text Cores) || bytes_eq k (key_text Threads)) || bytes_eq k (key_text Line))
+    || bytes_eq k (key_text Bias)
 
 -- the lesser of a text and another one, where there is one, in byte order
 abbrev pub lesser : List ℕ → Option (List ℕ) → List ℕ

@@ -1,4 +1,5 @@
-ghost use Rattle.std.specs.Prelude.{◌≡◌, ◌≢◌, Ok, Err, Some, None, IfOk, IfErr, option_map, string_bytes, ◌≤◌, find, not};
+ghost use Rattle.std.specs.Prelude.{◌≡◌, ◌≢◌, Ok, Err, Some, None, IfOk, IfErr, option_map, string_bytes, ◌≤◌, find};
+ghost use Rattle.std.specs.Prelude.{not};
 ghost use Rattle.std.specs.BTreeMap.{keys, IsOrdered};
 ghost use Rattle.std.specs.String.{string_cmp};
 ghost use Rattle.toml.specs.View.{table_view};
@@ -10,8 +11,8 @@ use std::alloc::Global;
 use tm_base::Text;
 use toml::Table;
 
-/// Reads a topology: the numbers that the document states, or its first fault. The least unknown key comes before all faults of known
-/// ones, these come in the order cores, threads, line, bias, and too many harts come last.
+/// Reads a topology: the numbers that the document states, or its first fault. The least unknown key comes before all
+/// faults of known ones, these come in the order cores, threads, line, bias, and too many harts come last.
 pub fn parse_topology(alloc: Global, text: &[u8]) -> Result<Topology, TopoFault>
     ensures ok { IfOk result (λ t. reading.topology_of text.now ≡ Ok t) }
     ensures err { IfErr result (λ e. e ≢ TopoFault.NoMemory → reading.topology_of text.now ≡ Err e) }
@@ -32,7 +33,8 @@ pub fn parse_topology(alloc: Global, text: &[u8]) -> Result<Topology, TopoFault>
 // The topology that a document's table states.
 fn topology_in(alloc: Global, table: &Table) -> Result<Topology, TopoFault>
     ensures ok { IfOk result (λ t. reading.of_document (Some (table_view table.now)) ≡ Ok t) }
-    ensures err { IfErr result (λ e. e ≢ TopoFault.NoMemory → reading.of_document (Some (table_view table.now)) ≡ Err e) }
+    ensures err { IfErr result (λ e. e ≢ TopoFault.NoMemory → reading.of_document (Some (table_view table.now))
+        ≡ Err e) }
 {
     match unknown_key(table) {
         Some(key) => Err(unknown(alloc, key.as_str())),
@@ -69,7 +71,8 @@ fn unknown_key(table: &Table) -> Option<&String>
 
 // The first key, in the table's order, that isn't one of the topology's.
 fn first_unknown(table: &Table) -> Option<&String>
-    ensures found { option_map (λ k. k.now) result ≡ find (λ k. not (reading.is_known (string_bytes k))) (keys table.now) }
+    ensures found { option_map (λ k. k.now) result
+        ≡ find (λ k. not (reading.is_known (string_bytes k))) (keys table.now) }
     ensures ordered { IsOrdered string_cmp table.now }
 {
     table.keys().find(|key| !is_known(key.as_str()))

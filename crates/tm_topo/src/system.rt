@@ -4,8 +4,8 @@ ghost use Rattle.tm_topo.specs.Reading as reading;
 use std::fmt;
 use tm_base::Text;
 
-/// The system that a test is built for: 1 to 8 cores of 1 to 8 threads each, 8 harts at most, lines of 32, 64 or 128 bytes, and how
-/// often, of a hundred times, an access goes to its case's hot line.
+/// The system that a test is built for: 1 to 8 cores of 1 to 8 threads each, 8 harts at most, lines of 32, 64 or 128
+/// bytes, and how often, of a hundred times, an access goes to its case's hot line.
 #[derive(Clone, Copy, Debug, PartialEq, Eq)]
 pub struct Topology {
     pub cores: u32,

@@ -1,5 +1,6 @@
 -- What is checked, and the masks that say so (this project's own).
-use Rattle.std.specs.Prelude.{◌≡◌, ◌⊎◌, ◌↔◌, ℕ, ◌+◌, ◌-◌, ◌/◌, ◌%◌, ◌^◌, ◌<◌, ◌≤◌, length, slice_get, slice_index, Some, IsTrue, IsFalse}
+use Rattle.std.specs.Prelude.{◌≡◌, ◌⊎◌, ◌↔◌, ℕ, ◌+◌, ◌-◌, ◌/◌, ◌%◌, ◌^◌, ◌<◌, ◌≤◌, length, slice_get, slice_index}
+use Rattle.std.specs.Prelude.{Some, IsTrue, IsFalse}
 use Rattle.tm_plan_cases.specs.declared.cases.Cases.{Cases}
 use Rattle.tm_plan_cases.specs.declared.cases.Stream.{Stream}
 use Rattle.tm_plan_cases.specs.declared.masks.Masks.{Masks}

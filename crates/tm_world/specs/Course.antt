@@ -1,5 +1,7 @@
 -- What each hart of a program does on its own steps, on every half run (this project's own).
-use Rattle.std.specs.Prelude.{◌≡◌, ◌≢◌, ℕ, zero, suc, ◌+◌, ◌-◌, ◌*◌, ◌%◌, ◌<◌, ◌≤◌, Bool, true, false, ◌&&◌, ◌||◌, nat_lt, nat_le, ◌==◌, List, ◌∷◌, slice_index, Option, Some, None, IsTrue, IsFalse, IfSome, All}
+use Rattle.std.specs.Prelude.{◌≡◌, ◌≢◌, ℕ, zero, suc, ◌+◌, ◌-◌, ◌*◌, ◌%◌, ◌<◌, ◌≤◌, Bool, true, false, ◌&&◌, ◌||◌}
+use Rattle.std.specs.Prelude.{nat_lt, nat_le, ◌==◌, List, ◌∷◌, slice_index, Option, Some, None, IsTrue, IsFalse}
+use Rattle.std.specs.Prelude.{IfSome, All}
 use Rattle.tm_table.specs.declared.state.Access.{Access}
 use Rattle.tm_table.specs.declared.state.Access.TheVariants.{Quiet, Read, Write}
 use Rattle.tm_table.specs.State.{Hart}
@@ -9,7 +11,8 @@ use Rattle.tm_plan_map.specs.Map.{flag_at, verdict_at, window_at}
 use Rattle.tm_plan_cases.specs.Collected.{is_declared, owned}
 use Rattle.tm_base.specs.Lists.{any, count_from}
 use Rattle.tm_world.specs.Lists.{front_to, IsFront}
-use Rattle.tm_world.specs.Place.{harts, round_count, case_of_round, first_registers, passes, end_of, exit_of, halt_of, is_flag, is_private}
+use Rattle.tm_world.specs.Place.{harts, round_count, case_of_round, first_registers, passes, end_of, exit_of, halt_of}
+use Rattle.tm_world.specs.Place.{is_flag, is_private}
 use Rattle.tm_world.specs.Run.{Step, Run, own, Always, now, pc_of, access_of, phase, in_phase, Writes}
 use Rattle.tm_world.specs.Writers.{may_write, run_phase, case_of_phase, round_of_phase, stream_in}
 use Rattle.tm_world.specs.Kinds.{Half, first_of_hart, stream_at, writes_flag}
@@ -102,7 +105,8 @@ OutsideWrites p h (Some c) q s = Unit {0}
 
 -- Outside streams a hart writes only what it may, and no shared byte in an odd phase.
 abbrev pub KeepsWrites : Program → ℕ → Hart → List Step → Type 0
-KeepsWrites p h first = Always (λ past s. OutsideWrites p h (stream_at p h (now first past).pc) (phase (exit_of p h) past) s)
+KeepsWrites p h first =
+    Always (λ past s. OutsideWrites p h (stream_at p h (now first past).pc) (phase (exit_of p h) past) s)
 
 -- ---- the barrier
 
@@ -137,7 +141,8 @@ KeepsBarrier p h first = Always (λ past s. Barrier p h (phase (exit_of p h) pas
 
 -- Hart h has read each dword that it collects among its steps of phase q.
 abbrev pub HasCollected : Program → ℕ → ℕ → List Step → Type 0
-HasCollected p h q steps = All (λ a. IsTrue (any (λ t. reads_in a 8 (access_of t)) (in_phase (exit_of p h) q steps))) (owned p.cases h)
+HasCollected p h q steps = All (λ a. IsTrue (any (λ t. reads_in a 8 (access_of t)) (in_phase (exit_of p h) q steps)))
+    (owned p.cases h)
 
 -- A step of a phase q that follows a run phase: it reads each dword that the hart collects with width 8 and at most
 -- once in the phase; and all of them are read before it writes a shared byte, and before it leaves the phase.
@@ -155,7 +160,8 @@ round_before p (suc q) = round_of_phase p q
 
 -- In each phase that follows a run phase the hart collects as said.
 abbrev pub KeepsCollecting : Program → ℕ → Hart → List Step → Type 0
-KeepsCollecting p h first = Always (λ past s. let q = phase (exit_of p h) past in IfSome (round_before p q) (λ e. Collects p h q past s))
+KeepsCollecting p h first = Always (λ past s. let q = phase (exit_of p h) past in
+    IfSome (round_before p q) (λ e. Collects p h q past s))
 
 -- Where the hart comes to halt in a phase that follows a run phase, it has read all that it collects in it. The phase
 -- is the one in which it is after the step, so that a step at the exit mark that lands on halt counts too.

@@ -1,5 +1,6 @@
 -- The kinds of run: paths, legal runs, plain runs and half runs (this project's own).
-use Rattle.std.specs.Prelude.{◌≡◌, ◌≢◌, ℕ, ◌+◌, ◌%◌, ◌^◌, ◌<◌, ◌≤◌, Bool, false, ◌&&◌, ◌||◌, not, nat_lt, ◌==◌, List, length, slice_index, Option, Some, None, IsTrue, if◌then◌else◌, unwrap_or}
+use Rattle.std.specs.Prelude.{◌≡◌, ◌≢◌, ℕ, ◌+◌, ◌%◌, ◌^◌, ◌<◌, ◌≤◌, Bool, false, ◌&&◌, ◌||◌, not, nat_lt, ◌==◌, List}
+use Rattle.std.specs.Prelude.{length, slice_index, Option, Some, None, IsTrue, if◌then◌else◌, unwrap_or}
 use Rattle.tm_table.specs.declared.state.Access.{Access}
 use Rattle.tm_table.specs.declared.state.Access.TheVariants.{Quiet, Read, Write}
 use Rattle.tm_table.specs.State.{Hart}
@@ -8,8 +9,10 @@ use Rattle.tm_plan_cases.specs.declared.program.Program.{Program}
 use Rattle.tm_plan_map.specs.Map.{guest_base, guest_end, flag_at}
 use Rattle.tm_base.specs.Lists.{any, count_from}
 use Rattle.tm_world.specs.Lists.{count, first_of, or_else}
-use Rattle.tm_world.specs.Place.{harts, case_count, start_of, end_of, exit_of, halt_of, inside, is_text, is_table, is_private, is_window, image_byte, word_at}
-use Rattle.tm_world.specs.Run.{Step, Run, hart_of, pc_of, access_of, own, Always, now, first_state, last_write, Reads, Writes, read_value, HasShape, phase}
+use Rattle.tm_world.specs.Place.{harts, case_count, start_of, end_of, exit_of, halt_of, inside, is_text, is_table}
+use Rattle.tm_world.specs.Place.{is_private, is_window, image_byte, word_at}
+use Rattle.tm_world.specs.Run.{Step, Run, hart_of, pc_of, access_of, own, Always, now, first_state, last_write, Reads}
+use Rattle.tm_world.specs.Run.{Writes, read_value, HasShape, phase}
 use Rattle.tm_world.specs.Writers.{writers, settled, wrote}
 
 -- ---- paths
@@ -95,7 +98,8 @@ legal_owed p past h q b = if another h (writers p q b) then None else or_else (w
 pub record Legal (p : Program) (r : Run) : Type 0 where
   pub paths : Paths p r
   pub met : Always (Met p) r.steps
-  pub reads : Always (λ past s. Reads (legal_owed p past (hart_of s) (phase_of p past (hart_of s))) (access_of s)) r.steps
+  pub reads : Always (λ past s. Reads (legal_owed p past (hart_of s) (phase_of p past (hart_of s))) (access_of s))
+      r.steps
 
 -- ---- plain runs
 

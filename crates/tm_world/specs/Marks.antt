@@ -4,7 +4,8 @@ use Rattle.tm_table.specs.State.{Hart}
 use Rattle.tm_plan_cases.specs.declared.program.Program.{Program}
 use Rattle.tm_base.specs.Lists.{count_from}
 use Rattle.tm_world.specs.Lists.{those}
-use Rattle.tm_world.specs.Place.{case_count, round_count, case_of_round, passes, start_of, end_of, exit_of, halt_of, inside}
+use Rattle.tm_world.specs.Place.{case_count, round_count, case_of_round, passes, start_of, end_of, exit_of, halt_of}
+use Rattle.tm_world.specs.Place.{inside}
 use Rattle.tm_world.specs.Run.{Step, now}
 
 -- The exit mark, entering stream (h, c), its end, halt; and what no hart should do: to come into stream (h, c) from
@@ -43,4 +44,5 @@ pass_way c = Exit ∷ Enter c ∷ End c ∷ Exit ∷ []
 
 -- the whole way: for each round case and in it each pass that of the pass, and after the last of them halt
 abbrev pub whole_way : Program → List Mark
-whole_way p = flat_map (λ e. flat_map (λ k. pass_way (case_of_round p e)) (count_from 0 (passes p))) (count_from 0 (round_count p)) ++ (Halt ∷ [])
+whole_way p = flat_map (λ e. flat_map (λ k. pass_way (case_of_round p e)) (count_from 0 (passes p)))
+    (count_from 0 (round_count p)) ++ (Halt ∷ [])

@@ -1,9 +1,11 @@
 -- Where a program's marks and bytes stand in the guest's memory, and what its image holds there (this project's own).
-use Rattle.std.specs.Prelude.{ℕ, List, ◌+◌, ◌-◌, ◌*◌, ◌/◌, ◌%◌, ◌^◌, Bool, ◌&&◌, nat_le, nat_lt, ◌==◌, length, slice_get, slice_index, Option, None, if◌then◌else◌}
+use Rattle.std.specs.Prelude.{ℕ, List, ◌+◌, ◌-◌, ◌*◌, ◌/◌, ◌%◌, ◌^◌, Bool, ◌&&◌, nat_le, nat_lt, ◌==◌, length}
+use Rattle.std.specs.Prelude.{slice_get, slice_index, Option, None, if◌then◌else◌}
 use Rattle.tm_plan_cases.specs.declared.cases.Case.{Case}
 use Rattle.tm_plan_cases.specs.declared.cases.Stream.{Stream}
 use Rattle.tm_plan_cases.specs.declared.program.Program.{Program}
-use Rattle.tm_plan_map.specs.Map.{text_base, tables_base, flag_at, verdict_at, private_at, private_size, windows_base, windows_size, within}
+use Rattle.tm_plan_map.specs.Map.{text_base, tables_base, flag_at, verdict_at, private_at, private_size, windows_base}
+use Rattle.tm_plan_map.specs.Map.{windows_size, within}
 use Rattle.tm_plan_cases.specs.Collected.{round_cases}
 use Rattle.tm_base.specs.Lists.{any, count_from}
 

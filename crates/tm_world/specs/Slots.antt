@@ -1,7 +1,8 @@
 -- A stream as far as dependence goes: what each slot reads and writes, whether it races, and where it may go (this
 -- project's own). A resource is a number: a register below 32, or the address of a byte that the hart alone may
 -- write.
-use Rattle.std.specs.Prelude.{◌≡◌, ℕ, ◌<◌, Bool, true, false, ◌&&◌, not, ◌==◌, List, [], ◌∷◌, ◌++◌, slice_get, Option, Some, None, Contains, if◌then◌else◌}
+use Rattle.std.specs.Prelude.{◌≡◌, ℕ, ◌<◌, Bool, true, false, ◌&&◌, not, ◌==◌, List, [], ◌∷◌, ◌++◌, slice_get, Option}
+use Rattle.std.specs.Prelude.{Some, None, Contains, if◌then◌else◌}
 use Rattle.tm_table.specs.declared.instr.Instr.{Instr}
 use Rattle.tm_plan_cases.specs.declared.cases.Cases.{Cases}
 use Rattle.tm_plan_cases.specs.declared.cases.Stream.{Stream}

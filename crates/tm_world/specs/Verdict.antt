@@ -1,5 +1,7 @@
 -- End values, and the verdict over them, on one hart's own steps (this project's own).
-use Rattle.std.specs.Prelude.{◌≡◌, ℕ, ◌+◌, ◌-◌, ◌*◌, ◌/◌, ◌%◌, ◌^◌, ◌<◌, Bool, ◌&&◌, not, nat_lt, ◌==◌, List, [], ◌∷◌, length, slice_index, slice_get, Option, Some, None, IsTrue, All, map, if◌then◌else◌, option_map}
+use Rattle.std.specs.Prelude.{◌≡◌, ℕ, ◌+◌, ◌-◌, ◌*◌, ◌/◌, ◌%◌, ◌^◌, ◌<◌, Bool, ◌&&◌, not, nat_lt, ◌==◌, List, [], ◌∷◌}
+use Rattle.std.specs.Prelude.{length, slice_index, slice_get, Option, Some, None, IsTrue, All, map, if◌then◌else◌}
+use Rattle.std.specs.Prelude.{option_map}
 use Rattle.tm_table.specs.declared.state.Access.TheVariants.{Write}
 use Rattle.tm_table.specs.State.{Hart}
 use Rattle.tm_plan_cases.specs.declared.program.Program.{Program}
@@ -31,7 +33,8 @@ pub data Part : Type 0 where
 -- The end value of a register of hart h, or of a byte that hart h collects, in pass k of round case e: the register's
 -- value where the hart leaves the stream, and what the hart's first read of the byte in the phase after it returned.
 abbrev pub end_value : Program → ℕ → ℕ → ℕ → Hart → List Step → Part → Option ℕ
-end_value p h e k first own (Register r) = option_map (λ (s : Hart). slice_index s.x r) (left_with p h (case_of_round p e) (run_phase p e k) first own)
+end_value p h e k first own (Register r) =
+    option_map (λ (s : Hart). slice_index s.x r) (left_with p h (case_of_round p e) (run_phase p e k) first own)
 end_value p h e k first own (Byte b) = first_read p h b (run_phase p e k + 1) own
 
 -- ---- the verdict

@@ -1,12 +1,14 @@
 -- The parts of the course that speak of the text, of all harts, and of legal runs; and the course (this project's own).
-use Rattle.std.specs.Prelude.{◌≡◌, ◌≢◌, ◌⊎◌, ℕ, ◌+◌, ◌-◌, ◌*◌, ◌/◌, ◌%◌, ◌<◌, ◌≤◌, false, List, [], ◌∷◌, length, slice_get, slice_index, Some, IsTrue, AllPairs, All, flat_map, map}
+use Rattle.std.specs.Prelude.{◌≡◌, ◌≢◌, ◌⊎◌, ℕ, ◌+◌, ◌-◌, ◌*◌, ◌/◌, ◌%◌, ◌<◌, ◌≤◌, false, List, [], ◌∷◌, length}
+use Rattle.std.specs.Prelude.{slice_get, slice_index, Some, IsTrue, AllPairs, All, flat_map, map}
 use Rattle.tm_plan_cases.specs.declared.program.Program.{Program}
 use Rattle.tm_plan_cases.specs.declared.cases.Case.{Case}
 use Rattle.tm_plan_cases.specs.declared.cases.Stream.{Stream}
 use Rattle.tm_plan_map.specs.Map.{text_base, windows_base}
 use Rattle.tm_plan_cases.specs.Collected.{is_declared}
 use Rattle.tm_base.specs.Lists.{count_from}
-use Rattle.tm_world.specs.Place.{harts, case_count, case_of_round, first_dwords, start_of, end_of, exit_of, halt_of, inside, byte_of, word_at}
+use Rattle.tm_world.specs.Place.{harts, case_count, case_of_round, first_dwords, start_of, end_of, exit_of, halt_of}
+use Rattle.tm_world.specs.Place.{inside, byte_of, word_at}
 use Rattle.tm_world.specs.Run.{Run, own, Always, now, access_of, hart_of, Writes}
 use Rattle.tm_world.specs.Writers.{may_write, settled, stream_in}
 use Rattle.tm_world.specs.Kinds.{Legal, phase_of, first_of_hart}
@@ -26,7 +28,8 @@ mark_addresses p = flat_map (marks_of p) (count_from 0 (harts p))
 
 -- the ranges of all streams, each from its start up to its end
 abbrev pub stream_ranges : Program → List (ℕ × ℕ)
-stream_ranges p = flat_map (λ h. map (λ c. (start_of p h c, end_of p h c)) (count_from 0 (case_count p))) (count_from 0 (harts p))
+stream_ranges p = flat_map (λ h. map (λ c. (start_of p h c, end_of p h c)) (count_from 0 (case_count p)))
+    (count_from 0 (harts p))
 
 -- All marks are different addresses, and none is the text's first word, which lies in no stream; the streams don't
 -- overlap; the word at each halt mark is a jump to itself; and from a stream's start to its end stand exactly the
@@ -47,7 +50,9 @@ pub record Laid (p : Program) : Type 0 where
 
 -- Each write of a run covers bytes that its hart may write, inside a stream too.
 abbrev pub WritesRight : Program → Run → Type 0
-WritesRight p r = Always (λ past s. Writes (λ b. IsTrue (may_write p (phase_of p past (hart_of s)) (hart_of s) b)) (access_of s)) r.steps
+WritesRight p r =
+    Always (λ past s. Writes (λ b. IsTrue (may_write p (phase_of p past (hart_of s)) (hart_of s) b)) (access_of s))
+    r.steps
 
 -- ---- first bytes on legal runs
 
@@ -59,7 +64,8 @@ first_byte dwords b = byte_of (slice_index dwords ((b - windows_base) / 8)) ((b 
 -- round case's first byte, in the phase that the hart is in after the entering step.
 abbrev pub SettlesFirst : Program → Run → Type 0
 SettlesFirst p r = Always (λ past s. (e b : ℕ) (case : Case) → slice_get p.cases.cases (case_of_round p e) ≡ Some case
-    → IsTrue (comes_to p (hart_of s) (Enter (case_of_round p e)) (now (first_of_hart r (hart_of s)) (own (hart_of s) past)).pc s.after.pc)
+    → IsTrue (comes_to p (hart_of s) (Enter (case_of_round p e))
+    (now (first_of_hart r (hart_of s)) (own (hart_of s) past)).pc s.after.pc)
     → IsTrue (is_declared p.cases b)
     → settled p (s ∷ past) (phase_of p (s ∷ past) (hart_of s)) b ≡ Some (first_byte (first_dwords p e case) b)) r.steps
 

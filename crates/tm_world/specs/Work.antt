@@ -1,5 +1,6 @@
 -- Idle steps, and the bound on all others (this project's own).
-use Rattle.std.specs.Prelude.{◌≡◌, ◌≢◌, ℕ, zero, suc, ◌+◌, ◌≤◌, Bool, false, ◌&&◌, ◌||◌, not, nat_lt, ◌==◌, List, [], ◌∷◌, Some, None, if◌then◌else◌}
+use Rattle.std.specs.Prelude.{◌≡◌, ◌≢◌, ℕ, zero, suc, ◌+◌, ◌≤◌, Bool, false, ◌&&◌, ◌||◌, not, nat_lt, ◌==◌, List, []}
+use Rattle.std.specs.Prelude.{◌∷◌, Some, None, if◌then◌else◌}
 use Rattle.tm_table.specs.declared.state.Access.{Access}
 use Rattle.tm_table.specs.declared.state.Access.TheVariants.{Quiet, Read, Write}
 use Rattle.tm_table.specs.State.{Hart}
@@ -22,7 +23,8 @@ gets_less a most (Write addr width value) = false
 -- An idle read: hart h has signalled in its phase q, and finds another hart's flag below q + 1.
 abbrev pub is_idle_read : Program → ℕ → List Step → Step → Bool
 is_idle_read p h past s = any (signals h) (this_phase p h past)
-    && any (λ g. not (g == h) && gets_less (flag_at g) (phase (exit_of p h) past + 1) (access_of s)) (count_from 0 (harts p))
+    && any (λ g. not (g == h) && gets_less (flag_at g) (phase (exit_of p h) past + 1) (access_of s))
+    (count_from 0 (harts p))
 
 -- one of the n newest steps is an idle read
 abbrev pub idle_lately : Program → ℕ → ℕ → List Step → Bool

@@ -1,5 +1,6 @@
 -- Who may write a byte in a phase, and to what it settles (this project's own).
-use Rattle.std.specs.Prelude.{ℕ, zero, suc, ◌+◌, ◌*◌, ◌/◌, ◌%◌, Bool, false, ◌&&◌, ◌||◌, nat_lt, ◌==◌, List, [], ◌∷◌, slice_get, Option, Some, None, if◌then◌else◌}
+use Rattle.std.specs.Prelude.{ℕ, zero, suc, ◌+◌, ◌*◌, ◌/◌, ◌%◌, Bool, false, ◌&&◌, ◌||◌, nat_lt, ◌==◌, List, [], ◌∷◌}
+use Rattle.std.specs.Prelude.{slice_get, Option, Some, None, if◌then◌else◌}
 use Rattle.tm_plan_cases.specs.declared.program.Program.{Program}
 use Rattle.tm_plan_cases.specs.declared.cases.Cases.{Cases}
 use Rattle.tm_plan_cases.specs.declared.cases.Case.{Case}
@@ -9,7 +10,8 @@ use Rattle.tm_plan_cases.specs.Collected.{is_declared, collector}
 use Rattle.tm_base.specs.Lists.{any, count_from}
 use Rattle.tm_plan_map.specs.Slots.{instr_of, stores_to}
 use Rattle.tm_world.specs.Lists.{those, or_else}
-use Rattle.tm_world.specs.Place.{harts, round_count, case_of_round, passes, exit_of, is_flag, is_verdict, is_private, is_window, image_byte}
+use Rattle.tm_world.specs.Place.{harts, round_count, case_of_round, passes, exit_of, is_flag, is_verdict, is_private}
+use Rattle.tm_world.specs.Place.{is_window, image_byte}
 use Rattle.tm_world.specs.Run.{Step, own, last_write, in_phase}
 
 -- ---- streams

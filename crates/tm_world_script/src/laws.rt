@@ -1,5 +1,6 @@
 // Laws over the definitions, each as the contract of a function that does nothing.
-ghost use Rattle.tm_world_script.specs.Laws.{ActionsDiffer, NoLinesArePlain, AcceptedAreSmall, CourseKeeps, SoundKeeps, SoundPlainRuns};
+ghost use Rattle.tm_world_script.specs.Laws.{ActionsDiffer, NoLinesArePlain, AcceptedAreSmall, CourseKeeps};
+ghost use Rattle.tm_world_script.specs.Laws.{SoundKeeps, SoundPlainRuns};
 
 use tm_plan_cases::{Cases, Program};
 
