@@ -135,9 +135,10 @@ impl<'a> Guest<'a> {
         finds_less(self.next_access(h), h, harts, self.phase(h) + 1)
     }
 
-    /// How many harts the program has.
+    /// How many harts the program has: one at least.
     pub fn harts(&self) -> u32
-        ensures { result ≡ harts self.now.program }
+        ensures is { result ≡ harts self.now.program }
+        ensures some { 1 ≤ result }
     {
         self.program.cases.harts
     }

@@ -64,9 +64,10 @@ impl<'a> Held<'a> {
         Held { guest }
     }
 
-    /// How many harts the program has.
+    /// How many harts the program has: one at least.
     pub(crate) fn harts(&self) -> u32
-        ensures { result ≡ harts self.now.program }
+        ensures is { result ≡ harts self.now.program }
+        ensures some { 1 ≤ result }
     {
         self.guest.harts()
     }

@@ -57,10 +57,6 @@ impl<'a> Mill<'a> {
     {
         let held = Held::new(guest);
         let harts = held.harts();
-        if harts == 0 {
-            // No guest is without harts: its type keeps that, but none of its calls says it.
-            return Err(NoMemory);
-        }
         let start = Snapshot::of(&held);
         let (line, seats) = Line::start(alloc, held, harts)?;
         Ok((Mill { line, start }, seats))

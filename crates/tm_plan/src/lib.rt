@@ -9,3 +9,4 @@ pub use tm_plan_cases::{
 };
 pub use tm_plan_journal::Journal;
 pub use tm_plan_owned::{budget, owned, owned_addr, work};
+pub use tm_plan_script::{Action, FaultLine, Faults};

@@ -7,5 +7,5 @@ returns c =
     let its = c.journal.ensures in
     told-cut c.args.program.now c.args.guest.now c.in_ok-text.text c.len.result c.count_halted.result c.harts.result
     c.requires.sound c.requires.over (record { faulted = its.faulted; plain = its.plain; few = its.few })
-    c.requires.running (c.len.ensures ∙ ap length its.events) c.count_halted.ensures c.harts.ensures
+    c.requires.running (c.len.ensures ∙ ap length its.events) c.count_halted.ensures c.harts.ensures.is
     c.in_ok-text.ensures

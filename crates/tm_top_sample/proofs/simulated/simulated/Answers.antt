@@ -39,4 +39,4 @@ returns-in_ok-text-in-Full c =
       few = its.few;
     })
     c.in-Full.ensures.end its.events
-    (rw (c.len.ensures, c.count_halted-halted.ensures, c.harts-harts.ensures) at c.in_ok-text-in-Full.ensures)
+    (rw (c.len.ensures, c.count_halted-halted.ensures, c.harts-harts.ensures.is) at c.in_ok-text-in-Full.ensures)

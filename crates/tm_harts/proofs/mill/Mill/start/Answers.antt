@@ -10,4 +10,4 @@ returns-clause-all c =
     let made = c.in_ok-line.ensures.seats in
     let program = ap (λ (g : Guested). harts g.program) (sym c.of-start.ensures) in
     all_new (mill_of c.in_ok-line.line c.of-start.result.value) c.in_ok-line.seats.items
-    (made.0 ∙ (c.harts-harts.ensures ∙ program)) made.1
+    (made.0 ∙ (c.harts-harts.ensures.is ∙ program)) made.1
