@@ -1,7 +1,12 @@
 #!/usr/bin/env bash
-# Compares a listing with GNU objdump: builds an image, lists it, and looks for each slot's word and op name at its address in the
-# disassembly. It isn't part of the gate. Debian has objdump in binutils-riscv64-linux-gnu; where there is none, this says so and ends with 0.
+# Compares a listing with GNU objdump: builds an image, lists it, and looks for each slot's word and op name at its
+# address in the disassembly. It isn't part of the gate. Debian has objdump in binutils-riscv64-linux-gnu; where there
+# is none, this says so and ends with 0.
+#
+# usage: listing_against_objdump.sh THREADMILL
 set -euo pipefail
+
+program=$(realpath "${1:?usage: listing_against_objdump.sh THREADMILL}")
 
 objdump=$(command -v riscv64-linux-gnu-objdump || command -v riscv64-unknown-elf-objdump || true)
 if [ -z "$objdump" ]; then
@@ -11,13 +16,13 @@ fi
 
 work=$(mktemp -d)
 trap 'rm -rf "$work"' EXIT
-printf 'cores = 1\nthreads = 1\nline = 64\n' > "$work/a.toml"
-printf '%s\n' 'template t' 'passes 2' 'window 0 true 1' 'case a' 'body all' \
-    'emit addi x6, x5, 1' 'emit addi x27, x0, -2048' 'emit add x7, x6, x6' 'emit xor x8, x7, x27' > "$work/a.tm"
+printf 'cores = 2\nthreads = 2\nline = 64\n' > "$work/a.toml"
+printf '%s\n' 'template t' 'passes 2' 'window 0 true 1' 'window 2 own 8' 'case a' 'body all' \
+    'emit addi x27, x0, -2048' 'mix 100 alu 4 load 3 store 3 branch 1' \
+    'case b' 'body all' 'mix 250 alu 1 load 1 store 1 branch 1' > "$work/a.tm"
 
-cd "$(dirname "$0")/../crates/threadmill"
-rt run -- build "$work/a.toml" "$work/a.tm" "$work/a.elf" --seed 1
-rt run -- list "$work/a.elf" > "$work/listing"
+"$program" build "$work/a.toml" "$work/a.tm" "$work/a.elf" --seed 1
+"$program" list "$work/a.elf" > "$work/listing"
 "$objdump" -t "$work/a.elf" > "$work/symbols"
 "$objdump" -d -M no-aliases,numeric "$work/a.elf" > "$work/code"
 

@@ -62,8 +62,8 @@ def plan_of(plan):
         raise Failure("the image has no plan")
     topology_size, template_size = struct.unpack_from("<II", plan, 16)
     topology = tomllib.loads(plan[24 : 24 + topology_size].decode())
-    lines = [line.split("#")[0].split() for line in plan[24 + topology_size :][:template_size].decode("latin-1").split("\n")]
-    lines = [words for words in lines if words]
+    text = plan[24 + topology_size :][:template_size].decode("latin-1")
+    lines = [words for words in (line.split("#")[0].split() for line in text.split("\n")) if words]
     windows = {int(words[1], 0): int(words[3], 0) for words in lines if words[0] == "window"}
     cases = [words[1] for words in lines if words[0] == "case"]
     return topology["cores"] * topology["threads"], topology["line"], windows, cases
@@ -88,7 +88,8 @@ class Machine:
         path = str(Path(folder) / "monitor")
         words = [program, "-machine", "virt", "-bios", "none", "-smp", str(harts), "-m", "64M", "-display", "none"]
         words += ["-serial", "none", "-kernel", image, "-monitor", f"unix:{path},server=on,wait=off"]
-        self.process = subprocess.Popen(words, stdin=subprocess.DEVNULL, stdout=subprocess.DEVNULL, stderr=subprocess.PIPE)
+        quiet = subprocess.DEVNULL
+        self.process = subprocess.Popen(words, stdin=quiet, stdout=quiet, stderr=subprocess.PIPE)
         self.socket = socket.socket(socket.AF_UNIX, socket.SOCK_STREAM)
         self.socket.settimeout(10)
         for _ in range(200):

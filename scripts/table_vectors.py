@@ -41,7 +41,8 @@ SHAPE_OF = {name: shape for shape, names in SHAPES.items() for name in names.spl
 
 # the disassembler names these in the base set; they have no row here
 NOT_IN_TABLE = set(
-    "fence.tso fence.i csrrw csrrs csrrc csrrwi csrrsi csrrci unimp sret mret uret dret hret wfi sfence.vma sfence.vm".split()
+    "fence.tso fence.i csrrw csrrs csrrc csrrwi csrrsi csrrci unimp sret mret uret dret hret wfi sfence.vma "
+    "sfence.vm".split()
 )
 
 PROGRAM = """#![tactic(auto)]
@@ -190,7 +191,10 @@ def assembled(folder, lines):
     run([ASSEMBLER, "-march=rv64i", "-mabi=lp64", "-mno-relax", "-o", "vectors.o", "vectors.s"], folder)
     text = run([DISASSEMBLER, "-d", "-z", "-M", "no-aliases,numeric", "vectors.o"], folder)
     found = re.findall(r"^\s*([0-9a-f]+):\s+([0-9a-f]{8}|[0-9a-f]{4})\s+(\S+)[ \t]*([^\n]*)$", text, re.M)
-    return [(int(at, 16), int(word, 16), name, rest.split("#")[0].split("<")[0].strip()) for at, word, name, rest in found]
+    return [
+        (int(at, 16), int(word, 16), name, rest.split("#")[0].split("<")[0].strip())
+        for at, word, name, rest in found
+    ]
 
 
 def number(text):

@@ -1,0 +1,132 @@
+#!/usr/bin/env python3
+"""Measures the program beside GNU as, ld and QEMU on the same machine. It isn't part of the gate.
+
+usage: speed.py THREADMILL FOLDER
+
+Needs riscv64-linux-gnu-as and -ld (Debian: binutils-riscv64-linux-gnu) and qemu-system-riscv64 (qemu-system-misc);
+what is missing is left out, and said.
+"""
+import argparse
+import os
+import shutil
+import subprocess
+import sys
+import time
+from pathlib import Path
+
+MIXED = "cores = 2\nthreads = 2\nline = 64\nbias = 40\n"
+WINDOWS = "window 0 true 4\nwindow 1 false 4\nwindow 2 own 8\n"
+WIDE = "cores = 8\nthreads = 1\nline = 64\n"
+QEMU_SECONDS = 5
+
+
+def mixed(load):
+    """8 cases of 100 drawn slots for 4 harts."""
+    cases = "".join(f"case c{c}\nbody all\nmix 100 alu 4 load {load} store 3 branch 1\n" for c in range(8))
+    return "template mixed\npasses 4\n" + WINDOWS + cases
+
+
+def stores():
+    """32 cases of 256 stores for 8 harts and 8 passes."""
+    cases = "".join(f"case c{c}\nbody all\nmix 256 alu 0 load 0 store 1 branch 0\n" for c in range(32))
+    return "template stores\npasses 8\n" + WINDOWS + cases
+
+
+def measured(words, times=5):
+    """The least seconds of some runs, and the last run's output and greatest memory in MiB."""
+    best = None
+    for _ in range(times):
+        begun = time.monotonic()
+        process = subprocess.Popen([str(word) for word in words], stdout=subprocess.PIPE)
+        out = process.stdout.read().decode()
+        _, status, usage = os.wait4(process.pid, 0)
+        seconds = time.monotonic() - begun
+        best = seconds if best is None else min(best, seconds)
+    return best, out, usage.ru_maxrss / 1024, os.waitstatus_to_exitcode(status)
+
+
+def built(program, folder, name, topology, template):
+    paths = [folder / f"{name}.{end}" for end in ("toml", "tm", "elf")]
+    paths[0].write_text(topology)
+    paths[1].write_text(template)
+    seconds, out, memory, _ = measured([program, "build", *paths, "--seed", "1"])
+    print(f"build {name}: {1000 * seconds:.1f} ms, {memory:.0f} MiB at most: {out.strip()}")
+    return paths[2]
+
+
+def assembled(program, folder, image):
+    """GNU as and ld on the streams' lines of the same image."""
+    tools = [shutil.which(f"riscv64-linux-gnu-{tool}") for tool in ("as", "ld")]
+    if None in tools:
+        print("as and ld aren't here")
+        return
+    listing = measured([program, "list", image], 1)[1]
+    lines = [line.split(" ", 2)[2] for line in listing.split("\n") if line[:1].isdigit()]
+    text = folder / "same.s"
+    short = {"lui", "auipc", "jal"}
+    jumps = {"beq", "bne", "blt", "bge", "bltu", "bgeu", "jal"}
+    fixed = []
+    for line in lines:
+        op, _, rest = line.partition(" ")
+        parts = rest.split(", ")
+        if op in jumps:
+            parts[-1] = ". + " + parts[-1]
+        if op in short - jumps:
+            parts[-1] = str(int(parts[-1], 0) & 0xFFFFF)
+        fixed.append(f"{op} {', '.join(parts)}\n")
+    text.write_text(".option norelax\n.option norvc\n" + "".join(fixed))
+    flags = ["-march=rv64i", "-mabi=lp64"]
+    first = measured([tools[0], *flags, "-o", folder / "same.o", text])
+    second = measured([tools[1], "-Ttext=0x80000000", "-e", "0x80000000", "-o", folder / "same", folder / "same.o"])
+    print(f"as: {1000 * first[0]:.1f} ms, ld: {1000 * second[0]:.1f} ms, on {len(lines)} lines of the same streams")
+
+
+def simulated(program, image, order, limit):
+    words = [program, "run", image, "--events", str(limit)] + (["--order", "round"] if order == "round" else [])
+    seconds, out, memory, status = measured(words, 3)
+    last = out.strip().split("\n")[-1]
+    events = limit if status == 4 else int(last.split()[-1])
+    print(f"run {order}: {events} events in {seconds:.3f} s, {events / seconds / 1e6:.2f} million a second, "
+          f"{memory:.0f} MiB at most, status {status}: {last}")
+
+
+def traced(folder, image, harts):
+    """QEMU's own trace of the same image, one instruction a block."""
+    program = shutil.which("qemu-system-riscv64")
+    if program is None:
+        print("QEMU isn't here")
+        return
+    trace = folder / "trace"
+    words = [program, "-machine", "virt", "-bios", "none", "-smp", str(harts), "-m", "64M", "-display", "none"]
+    words += ["-serial", "none", "-monitor", "none", "-kernel", str(image), "-singlestep", "-d", "exec,nochain"]
+    process = subprocess.Popen(words + ["-D", str(trace)], stdin=subprocess.DEVNULL)
+    time.sleep(QEMU_SECONDS)
+    process.kill()
+    process.wait()
+    with open(trace, "rb") as file:
+        count = sum(line.startswith(b"Trace") for line in file)
+    trace.unlink()
+    print(f"QEMU's trace: {count} lines in {QEMU_SECONDS} s, {count / QEMU_SECONDS / 1e6:.2f} million a second")
+
+
+def main():
+    words = argparse.ArgumentParser(description="Measures the program beside GNU as, ld and QEMU.")
+    words.add_argument("program")
+    words.add_argument("folder", type=Path)
+    asked = words.parse_args()
+    asked.folder.mkdir(parents=True, exist_ok=True)
+    print(f"{os.cpu_count()} processors, load {os.getloadavg()[0]:.1f}")
+    image = built(asked.program, asked.folder, "without_loads", MIXED, mixed(0))
+    assembled(asked.program, asked.folder, image)
+    image = built(asked.program, asked.folder, "mixed", MIXED, mixed(3))
+    built(asked.program, asked.folder, "stores", WIDE, stores())
+    for order in ("round", "threads"):
+        simulated(asked.program, image, order, 4000000)
+    long = built(asked.program, asked.folder, "long", MIXED, mixed(3).replace("passes 4", "passes 8"))
+    for order in ("round", "threads"):
+        simulated(asked.program, long, order, 400000)
+    traced(asked.folder, image, 4)
+
+
+if __name__ == "__main__":
+    sys.exit(main())
