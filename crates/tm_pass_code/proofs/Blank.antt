@@ -5,7 +5,7 @@ use Rattle.tm_table.specs.Words.{word_of}
 use Rattle.tm_asm.specs.Sheet.{Sheet, AllPlaced, instrs, plain, puts}
 use Rattle.tm_asm.specs.Sheet as sheet
 use Rattle.tm_blocks_base.specs.Instrs.{words_of}
-use Rattle.tm_asm.proofs.Append.{length-puts, plain-instrs}
+use Rattle.tm_asm.proofs.Append.{length-puts}
 use Rattle.tm_pass_code.specs.Plain.{blank, IsPlain}
 
 plain-placed : (ps : List (Option ℕ)) (is : List Instr) → AllPlaced ps (plain is)
@@ -20,6 +20,11 @@ all_placed s h = subst (λ (x : Sheet). AllPlaced x.places x.items) (sym h.1) (p
 same-words : (is : List Instr) → sheet.words_of is ≡ words_of is
 same-words [] = refl
 same-words (i ∷ is) = ap (λ (l : List ℕ). word_of i ∷ l) (same-words is)
+
+-- plain instructions are laid as they stand, whatever the labels
+plain-instrs : (ps : List (Option ℕ)) (at : ℕ) (is : List Instr) → instrs ps at (plain is) ≡ is
+plain-instrs ps at [] = refl
+plain-instrs ps at (i ∷ is) = ap (λ (l : List Instr). i ∷ l) (plain-instrs ps (at + 1) is)
 
 -- the words that plain code becomes
 pub plain-words : (s : Sheet) (is : List Instr) → s ≡ puts blank is → sheet.words_of (instrs s.places 0 s.items) ≡ words_of is
