@@ -1,5 +1,6 @@
 -- Laws of appended words.
-use Rattle.std.proofs.Common.{◌≡◌, ℕ, suc, ◌+◌, List, [], ◌∷◌, ◌++◌, length, refl, sym, ap, ◌∙◌, append_assoc, append-nil, length-append}
+use Rattle.std.proofs.Common.{◌≡◌, ℕ, suc, ◌+◌, List, [], ◌∷◌, ◌++◌, length, refl, sym, ap, ◌∙◌, append_assoc}
+use Rattle.std.proofs.Common.{append-nil, length-append}
 use Rattle.tm_table.specs.declared.instr.Instr.{Instr}
 use Rattle.tm_asm.specs.declared.code.Item.{Item}
 use Rattle.tm_asm.specs.declared.code.Item.TheVariants.{Plain}
@@ -17,7 +18,8 @@ puts-none s = ap (λ (l : List Item). record { items = l; places = s.places }) (
 pub puts-then : (s : Sheet) (a b : List Instr) → puts (puts s a) b ≡ puts s (a ++ b)
 unfolding puts
 puts-then s a b =
-    ap (λ (l : List Item). record { items = l; places = s.places }) (append_assoc s.items (plain a) (plain b) ∙ ap (λ (l : List Item). s.items ++ l) (sym (plain-append a b)))
+    ap (λ (l : List Item). record { items = l; places = s.places })
+    (append_assoc s.items (plain a) (plain b) ∙ ap (λ (l : List Item). s.items ++ l) (sym (plain-append a b)))
 
 plain-length : (is : List Instr) → length (plain is) ≡ length is
 plain-length [] = refl

@@ -1,5 +1,7 @@
 -- The words of code, one by one.
-use Rattle.std.proofs.Common.{◌≡◌, ◌≤◌, ◌<◌, ℕ, zero, suc, ◌+◌, ◌-◌, ◌*◌, ◌%◌, Bool, true, false, nat_le, if◌then◌else◌, List, [], ◌∷◌, ◌++◌, length, take, get_or, ℤ, pos, negsuc, Option, Some, Result, Ok, Err, OnOk, refl, sym, ap, ◌∙◌, subst, inl, inr, arith, length-take-le}
+use Rattle.std.proofs.Common.{◌≡◌, ◌≤◌, ◌<◌, ℕ, zero, suc, ◌+◌, ◌-◌, ◌*◌, ◌%◌, Bool, true, false, nat_le}
+use Rattle.std.proofs.Common.{if◌then◌else◌, List, [], ◌∷◌, ◌++◌, length, take, get_or, ℤ, pos, negsuc, Option, Some}
+use Rattle.std.proofs.Common.{Result, Ok, Err, OnOk, refl, sym, ap, ◌∙◌, subst, inl, inr, arith, length-take-le}
 use Rattle.std.specs.Prelude.{slice_get, is_err}
 use Rattle.std.proofs.lemmas.Int.{ints}
 use Rattle.std.proofs.Math.Bool.{and-true}
@@ -14,14 +16,16 @@ use Rattle.tm_asm.specs.declared.code.Item.{Item}
 use Rattle.tm_asm.specs.declared.code.Item.TheVariants.{Plain, Branch, Jump}
 use Rattle.tm_asm.specs.declared.fault.CodeFault.{CodeFault}
 use Rattle.tm_asm.specs.declared.fault.CodeFault.TheVariants.{FarBranch, NoMemory}
-use Rattle.tm_asm.specs.Sheet.{Sheet, IsFar, IsFarAt, IsFirstFar, IsGood, AllGood, HasPlace, AllPlaced, is_branch, instrs, words_of, resolved, reaches, branch_reaches, jump_reaches, distance, place_of}
+use Rattle.tm_asm.specs.Sheet.{Sheet, IsFar, IsFarAt, IsFirstFar, IsGood, AllGood, HasPlace, AllPlaced, is_branch}
+use Rattle.tm_asm.specs.Sheet.{instrs, words_of, resolved, reaches, branch_reaches, jump_reaches, distance, place_of}
 
 good_more : (xs : List Item) (x : Item) → AllGood xs → IsGood x → AllGood (xs ++ x ∷ [])
 good_more [] x h g = (g, tt)
 good_more (y ∷ xs) x h g = (h.0, good_more xs x h.1 g)
 
 -- one more word, or none
-pub good_push : (b : Bool) (xs : List Item) (x : Item) → AllGood xs → IsGood x → AllGood (if b then xs ++ x ∷ [] else xs)
+pub good_push : (b : Bool) (xs : List Item) (x : Item) → AllGood xs → IsGood x
+    → AllGood (if b then xs ++ x ∷ [] else xs)
 good_push true xs x h g = good_more xs x h g
 good_push false xs x h g = h
 
@@ -30,7 +34,8 @@ good_at [] k d lt h = absurd (omega arith)
 good_at (x ∷ xs) zero d lt h = h.0
 good_at (x ∷ xs) (suc k) d lt h = good_at xs k d (omega arith) h.1
 
-pub placed_at : (ps : List (Option ℕ)) (xs : List Item) (k : ℕ) (d : Item) → k < length xs → AllPlaced ps xs → HasPlace ps (get_or xs k d)
+pub placed_at : (ps : List (Option ℕ)) (xs : List Item) (k : ℕ) (d : Item) → k < length xs → AllPlaced ps xs
+    → HasPlace ps (get_or xs k d)
 placed_at ps [] k d lt h = absurd (omega arith)
 placed_at ps (x ∷ xs) zero d lt h = h.0
 placed_at ps (x ∷ xs) (suc k) d lt h = placed_at ps xs k d (omega arith) h.1
@@ -40,11 +45,13 @@ get_at [] k d lt = absurd (omega arith)
 get_at (x ∷ xs) zero d lt = refl
 get_at (x ∷ xs) (suc k) d lt = get_at xs k d (omega arith)
 
-pub instrs-append : (ps : List (Option ℕ)) (at : ℕ) (xs ys : List Item) → instrs ps at (xs ++ ys) ≡ instrs ps at xs ++ instrs ps (at + length xs) ys
+pub instrs-append : (ps : List (Option ℕ)) (at : ℕ) (xs ys : List Item) → instrs ps at (xs ++ ys)
+    ≡ instrs ps at xs ++ instrs ps (at + length xs) ys
 instrs-append ps at [] ys = let e : at ≡ at + 0 = omega arith in ap (λ (n : ℕ). instrs ps n ys) e
 instrs-append ps at (x ∷ xs) ys =
     let e : at + 1 + length xs ≡ at + suc (length xs) = omega arith in
-    ap (λ (l : List Instr). resolved ps at x ∷ l) (instrs-append ps (at + 1) xs ys ∙ ap (λ (n : ℕ). instrs ps (at + 1) xs ++ instrs ps n ys) e)
+    ap (λ (l : List Instr). resolved ps at x ∷ l) (instrs-append ps (at + 1) xs ys ∙ ap
+    (λ (n : ℕ). instrs ps (at + 1) xs ++ instrs ps n ys) e)
 
 words-append : (is js : List Instr) → words_of (is ++ js) ≡ words_of is ++ words_of js
 words-append [] js = refl
@@ -52,14 +59,21 @@ words-append (i ∷ is) js = ap (λ (l : List ℕ). word_of i ∷ l) (words-appe
 
 -- the words up to one more
 pub words-more : (ps : List (Option ℕ)) (xs : List Item) (k : ℕ) (d : Item) → k < length xs
-    → words_of (instrs ps 0 (take (k + 1) xs)) ≡ words_of (instrs ps 0 (take k xs)) ++ word_of (resolved ps k (get_or xs k d)) ∷ []
+    → words_of (instrs ps 0 (take (k + 1) xs)) ≡ words_of (instrs ps 0 (take k xs))
+    ++ word_of (resolved ps k (get_or xs k d)) ∷ []
 words-more ps xs k d lt =
     let size : 0 + length (take k xs) ≡ k = omega (arith, length-take-le k xs (omega arith)) in
-    rw (take_more xs k d lt, instrs-append ps 0 (take k xs) (get_or xs k d ∷ []), words-append (instrs ps 0 (take k xs)) (instrs ps (0 + length (take k xs)) (get_or xs k d ∷ [])), size)
+    rw (
+      take_more xs k d lt,
+      instrs-append ps 0 (take k xs) (get_or xs k d ∷ []),
+      words-append (instrs ps 0 (take k xs)) (instrs ps (0 + length (take k xs)) (get_or xs k d ∷ [])),
+      size,
+    )
 
 -- ---- the instruction of a word that reaches its label
 
-branch_fine : (from to : ℕ) → branch_reaches (distance from to) ≡ true → From (negsuc 4095) (pos 4095) (distance from to) × (low 13 (distance from to) % 2 ≡ 0)
+branch_fine : (from to : ℕ) → branch_reaches (distance from to) ≡ true
+    → From (negsuc 4095) (pos 4095) (distance from to) × (low 13 (distance from to) % 2 ≡ 0)
 branch_fine from to h =
     elim (leb_tells from to) [
       | inl t ↦
@@ -74,7 +88,8 @@ branch_fine from to h =
           rw e ((omega (arith, ints), omega (arith, ints)), omega arith)
     ]
 
-jump_fine : (from to : ℕ) → jump_reaches (distance from to) ≡ true → From (negsuc 1048575) (pos 1048575) (distance from to) × (low 21 (distance from to) % 2 ≡ 0)
+jump_fine : (from to : ℕ) → jump_reaches (distance from to) ≡ true
+    → From (negsuc 1048575) (pos 1048575) (distance from to) × (low 21 (distance from to) % 2 ≡ 0)
 jump_fine from to h =
     elim (leb_tells from to) [
       | inl t ↦
@@ -89,7 +104,8 @@ jump_fine from to h =
           rw e ((omega (arith, ints), omega (arith, ints)), omega arith)
     ]
 
-fits_branch : (op : Op) (rs1 rs2 : ℕ) (z : ℤ) → is_branch op ≡ true → rs1 < 32 → rs2 < 32 → From (negsuc 4095) (pos 4095) z → low 13 z % 2 ≡ 0
+fits_branch : (op : Op) (rs1 rs2 : ℕ) (z : ℤ) → is_branch op ≡ true → rs1 < 32 → rs2 < 32
+    → From (negsuc 4095) (pos 4095) z → low 13 z % 2 ≡ 0
     → Fits (record { op = op; rd = 0; rs1 = rs1; rs2 = rs2; imm = z })
 unfolding Fits
 fits_branch Beq rs1 rs2 z b h k f e = (refl, h, k, f, e)
@@ -100,13 +116,16 @@ fits_branch Bltu rs1 rs2 z b h k f e = (refl, h, k, f, e)
 fits_branch Bgeu rs1 rs2 z b h k f e = (refl, h, k, f, e)
 fits_branch _ rs1 rs2 z b h k f e = absurd (cc)
 
-fits_jump : (rd : ℕ) (z : ℤ) → rd < 32 → From (negsuc 1048575) (pos 1048575) z → low 21 z % 2 ≡ 0 → Fits (record { op = Jal; rd = rd; rs1 = 0; rs2 = 0; imm = z })
+fits_jump : (rd : ℕ) (z : ℤ) → rd < 32 → From (negsuc 1048575) (pos 1048575) z → low 21 z % 2 ≡ 0
+    → Fits (record { op = Jal; rd = rd; rs1 = 0; rs2 = 0; imm = z })
 unfolding Fits
 fits_jump rd z h f e = (h, refl, refl, f, e)
 
-pub fits_resolved : (ps : List (Option ℕ)) (at : ℕ) (x : Item) → IsGood x → reaches ps at x ≡ true → Fits (resolved ps at x)
+pub fits_resolved : (ps : List (Option ℕ)) (at : ℕ) (x : Item) → IsGood x → reaches ps at x ≡ true
+    → Fits (resolved ps at x)
 fits_resolved ps at (Plain i) g h = g
-fits_resolved ps at (Branch op rs1 rs2 label) g h = let f = branch_fine at (place_of ps label) h in fits_branch op rs1 rs2 _ g.0 g.1 g.2 f.0 f.1
+fits_resolved ps at (Branch op rs1 rs2 label) g h = let f = branch_fine at (place_of ps label) h in
+    fits_branch op rs1 rs2 _ g.0 g.1 g.2 f.0 f.1
 fits_resolved ps at (Jump rd label) g h = let f = jump_fine at (place_of ps label) h in fits_jump rd _ g f.0 f.1
 
 -- ---- finishing
@@ -116,8 +135,10 @@ pushed (Ok x) h p = p
 pushed (Err e) h p = absurd (cc)
 
 -- the words that reach, up to one more
-pub near_more : (ps : List (Option ℕ)) (xs : List Item) (n : ℕ) (d : Item) → n < length xs → ((k : ℕ) (x : Item) → k < n → slice_get xs k ≡ Some x → reaches ps k x ≡ true)
-    → reaches ps n (get_or xs n d) ≡ true → (k : ℕ) (x : Item) → k < n + 1 → slice_get xs k ≡ Some x → reaches ps k x ≡ true
+pub near_more : (ps : List (Option ℕ)) (xs : List Item) (n : ℕ) (d : Item) → n < length xs
+    → ((k : ℕ) (x : Item) → k < n → slice_get xs k ≡ Some x → reaches ps k x ≡ true)
+    → reaches ps n (get_or xs n d) ≡ true → (k : ℕ) (x : Item) → k < n + 1 → slice_get xs k ≡ Some x
+    → reaches ps k x ≡ true
 near_more ps xs n d lt before here k x h there =
     elim (leb_tells (suc k) n) [
       | inl t ↦ before k x t.1 there
@@ -129,13 +150,15 @@ near_more ps xs n d lt before here k x h there =
     ]
 
 -- the first word that doesn't reach
-pub far_first : (s : Sheet) (k : ℕ) (x : Item) (e : CodeFault) → slice_get s.items k ≡ Some x → ((j : ℕ) (y : Item) → j < k → slice_get s.items j ≡ Some y → reaches s.places j y ≡ true)
+pub far_first : (s : Sheet) (k : ℕ) (x : Item) (e : CodeFault) → slice_get s.items k ≡ Some x
+    → ((j : ℕ) (y : Item) → j < k → slice_get s.items j ≡ Some y → reaches s.places j y ≡ true)
     → IsFarAt s.places k x e → IsFar s e
 far_first s k x (FarBranch from to) there before h =
     let P : ℕ → Type 0 = λ n. IsFirstFar s n to in
     subst P (sym h.0) (record { item = x; there = there; leads = h.1; far = h.2; first = before })
 far_first s k x NoMemory there before h = tt
 
-pub placed_more : (ps : List (Option ℕ)) (xs : List Item) (x : Item) → AllPlaced ps xs → HasPlace ps x → AllPlaced ps (xs ++ x ∷ [])
+pub placed_more : (ps : List (Option ℕ)) (xs : List Item) (x : Item) → AllPlaced ps xs → HasPlace ps x
+    → AllPlaced ps (xs ++ x ∷ [])
 placed_more ps [] x h g = (g, tt)
 placed_more ps (y ∷ xs) x h g = (h.0, placed_more ps xs x h.1 g)

@@ -1,5 +1,5 @@
 -- Labelled code: the words that it will have (this project).
-use Rattle.std.specs.Prelude.{◌≡◌, ℕ, ◌+◌, ◌-◌, ◌*◌, ◌<◌, ◌≤◌, ◌&&◌, nat_le, List, [], ◌∷◌, ◌++◌, length, Option}
+use Rattle.std.specs.Prelude.{◌≡◌, ℕ, ◌+◌, ◌-◌, ◌*◌, ◌<◌, ◌≤◌, ◌&&◌, nat_le, List, [], ◌∷◌, ◌++◌, Option}
 use Rattle.std.specs.Prelude.{Some, None, slice_get, if◌then◌else◌, ℤ, pos, negsuc, int_le, Bool, true, false}
 use Rattle.tm_table.specs.declared.instr.Op.{Op}
 use Rattle.tm_table.specs.declared.instr.Op.TheVariants.{Jal, Beq, Bne, Blt, Bge, Bltu, Bgeu}

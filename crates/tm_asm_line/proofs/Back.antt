@@ -1,5 +1,7 @@
 -- What is printed is read back, piece by piece.
-use Rattle.std.proofs.Common.{◌≡◌, ◌≢◌, ◌≤◌, ◌<◌, ℕ, zero, suc, ◌+◌, ◌%◌, ◌^◌, Bool, true, false, not, ◌&&◌, eqb, nat_le, List, [], ◌∷◌, ◌++◌, length, ℤ, pos, negsuc, Option, Some, None, refl, ap, ◌∙◌, inl, inr, arith}
+use Rattle.std.proofs.Common.{◌≡◌, ◌≢◌, ◌≤◌, ◌<◌, ℕ, zero, suc, ◌+◌, ◌%◌, ◌^◌, Bool, true, false, not, ◌&&◌, eqb}
+use Rattle.std.proofs.Common.{nat_le, List, [], ◌∷◌, ◌++◌, length, ℤ, pos, negsuc, Option, Some, None, refl, ap, ◌∙◌}
+use Rattle.std.proofs.Common.{inl, inr, arith}
 use Rattle.std.specs.Prelude.{slice_index, option_map}
 use Rattle.std.specs.Fmt.{digits, decimal, signed_decimal}
 use Rattle.std.proofs.lemmas.Fmt.{decimal_by_steps}
@@ -10,7 +12,8 @@ use lib.Signed.{mag}
 use Rattle.tm_base.specs.Numbers.{number_of}
 use Rattle.tm_base.proofs.PrintLemmas.{decimal_reads_back}
 use Rattle.tm_asm_line.specs.Shapes.{set_text}
-use Rattle.tm_asm_line.specs.Reading.{is_blank, is_delimiter, register_of, signed_of, signed_by, value_of, negative, set_of}
+use Rattle.tm_asm_line.specs.Reading.{is_blank, is_delimiter, register_of, signed_of, signed_by, value_of, negative}
+use Rattle.tm_asm_line.specs.Reading.{set_of}
 use Rattle.tm_asm_line.proofs.Cut.{and_parts, none, none-append}
 
 -- ---- a test on all numbers below one
@@ -61,7 +64,8 @@ registers_tested = refl
 pub register_back : (n : ℕ) → n < 32 → (register_of (120 ∷ decimal n) ≡ Some n) × IsOne (120 ∷ decimal n)
 unfolding register_test
 register_back n h =
-    let p = and_parts (is_some_of n (register_of (120 ∷ decimal n))) (one_test (120 ∷ decimal n)) (below_all register_test 32 registers_tested n h) in
+    let p = and_parts (is_some_of n (register_of (120 ∷ decimal n))) (one_test (120 ∷ decimal n))
+    (below_all register_test 32 registers_tested n h) in
     (some_of n (register_of (120 ∷ decimal n)) p.0, one_from (120 ∷ decimal n) p.1)
 
 set_test : ℕ → Bool
@@ -74,7 +78,8 @@ sets_tested = refl
 pub set_back : (n : ℕ) → n < 16 → (set_of (set_text n) ≡ Some n) × IsOne (set_text n)
 unfolding set_test
 set_back n h =
-    let p = and_parts (is_some_of n (set_of (set_text n))) (one_test (set_text n)) (below_all set_test 16 sets_tested n h) in
+    let p = and_parts (is_some_of n (set_of (set_text n))) (one_test (set_text n))
+    (below_all set_test 16 sets_tested n h) in
     (some_of n (set_of (set_text n)) p.0, one_from (set_text n) p.1)
 
 lengths_tested : below (λ n. nat_le (length (set_text n)) 4) 16 ≡ true
@@ -104,7 +109,11 @@ decimal_plain : (n : ℕ) → n < 2 ^ 64 → IsPlain n (decimal n)
 decimal_plain n h =
     decimal_by_steps IsPlain
     (λ m low. (digit_none (48 + m) (omega arith) (omega arith), (omega arith, omega arith)))
-    (λ m ds some g. (none-append is_delimiter ds ((48 + m % 10) ∷ []) g.0 (digit_none (48 + m % 10) (omega arith) (omega arith)), first-append ds ((48 + m % 10) ∷ []) g.1))
+    (λ m ds some g. (
+      none-append is_delimiter ds ((48 + m % 10) ∷ []) g.0
+          (digit_none (48 + m % 10) (omega arith) (omega arith)),
+      first-append ds ((48 + m % 10) ∷ []) g.1,
+    ))
     n h
 
 first-some : (ds : List ℕ) → FirstDigit ds → length ds ≢ 0
@@ -125,8 +134,12 @@ negative_suc n = omega (arith, ints)
 pub signed_back : (z : ℤ) → mag z < 2 ^ 20 → (signed_of (signed_decimal z) ≡ Some z) × IsOne (signed_decimal z)
 unfolding signed_of is_delimiter is_blank
 signed_back (pos n) h =
-    let g = decimal_plain n (omega arith) in
-    (unsigned_by (decimal n) g.1 ∙ rw (decimal_reads_back n (omega arith)), record { free = g.0; some = first-some (decimal n) g.1 })
+    let g = decimal_plain n (omega arith) in (
+      unsigned_by (decimal n) g.1 ∙ rw (decimal_reads_back n (omega arith)),
+      record { free = g.0; some = first-some (decimal n) g.1 },
+    )
 signed_back (negsuc n) h =
-    let g = decimal_plain (suc n) (omega arith) in
-    (rw (decimal_reads_back (suc n) (omega arith)) (ap Some (negative_suc n)), record { free = g.0; some = λ e. omega arith })
+    let g = decimal_plain (suc n) (omega arith) in (
+      rw (decimal_reads_back (suc n) (omega arith)) (ap Some (negative_suc n)),
+      record { free = g.0; some = λ e. omega arith },
+    )

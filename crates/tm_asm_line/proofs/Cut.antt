@@ -1,5 +1,6 @@
 -- What is cut out of a text behind a place, where the bytes there are known.
-use Rattle.std.proofs.Common.{◌≡◌, ◌≢◌, ℕ, zero, suc, ◌+◌, Bool, true, false, not, ◌&&◌, ◌||◌, List, [], ◌∷◌, ◌++◌, length, drop, take, refl, sym, ap, ◌∙◌, arith}
+use Rattle.std.proofs.Common.{◌≡◌, ◌≢◌, ℕ, zero, suc, ◌+◌, Bool, true, false, not, ◌&&◌, ◌||◌, List, [], ◌∷◌, ◌++◌}
+use Rattle.std.proofs.Common.{length, drop, take, refl, sym, ap, ◌∙◌, arith}
 use Rattle.std.specs.List.{prefix_len, take_while}
 use Rattle.tm_asm_line.specs.Reading.{is_blank, is_delimiter, after_blanks, operand, name_at}
 
@@ -21,12 +22,15 @@ abbrev pub ends : (ℕ → Bool) → List ℕ → Bool
 ends stop [] = true
 ends stop (b ∷ bs) = stop b
 
-pub none-append : (stop : ℕ → Bool) (xs ys : List ℕ) → none stop xs ≡ true → none stop ys ≡ true → none stop (xs ++ ys) ≡ true
+pub none-append : (stop : ℕ → Bool) (xs ys : List ℕ) → none stop xs ≡ true → none stop ys ≡ true → none stop (xs ++ ys)
+    ≡ true
 none-append stop [] ys h k = k
-none-append stop (x ∷ xs) ys h k = let p = and_parts (not (stop x)) (none stop xs) h in rw (p.0, none-append stop xs ys p.1 k)
+none-append stop (x ∷ xs) ys h k = let p = and_parts (not (stop x)) (none stop xs) h in
+    rw (p.0, none-append stop xs ys p.1 k)
 
 -- how far it goes to what stops
-pub prefix-none : (stop : ℕ → Bool) (bs rest : List ℕ) → none stop bs ≡ true → ends stop rest ≡ true → prefix_len (λ b. not (stop b)) (bs ++ rest) ≡ length bs
+pub prefix-none : (stop : ℕ → Bool) (bs rest : List ℕ) → none stop bs ≡ true → ends stop rest ≡ true
+    → prefix_len (λ b. not (stop b)) (bs ++ rest) ≡ length bs
 prefix-none stop [] [] h k = refl
 prefix-none stop [] (b ∷ bs) h k = rw k
 prefix-none stop (b ∷ bs) rest h k =
@@ -41,7 +45,8 @@ drop_front : (xs ys : List ℕ) → drop (length xs) (xs ++ ys) ≡ ys
 drop_front [] ys = refl
 drop_front (x ∷ xs) ys = drop_front xs ys
 
-pub cut : (stop : ℕ → Bool) (bs rest : List ℕ) → none stop bs ≡ true → ends stop rest ≡ true → take_while (λ b. not (stop b)) (bs ++ rest) ≡ bs
+pub cut : (stop : ℕ → Bool) (bs rest : List ℕ) → none stop bs ≡ true → ends stop rest ≡ true
+    → take_while (λ b. not (stop b)) (bs ++ rest) ≡ bs
 cut stop bs rest h k = rw (prefix-none stop bs rest h k) (take_front bs rest)
 
 drop_nil : (n : ℕ) → drop {A = ℕ} n [] ≡ []
@@ -55,13 +60,16 @@ drop-drop (x ∷ xs) (suc m) n = let e : suc m + n ≡ suc (m + n) = omega arith
 
 -- what stands behind bytes that stand at a place
 pub drop_behind : (text bs rest : List ℕ) (at : ℕ) → drop at text ≡ bs ++ rest → drop (at + length bs) text ≡ rest
-drop_behind text bs rest at here = drop-drop text at (length bs) ∙ (ap (λ (l : List ℕ). drop (length bs) l) here ∙ drop_front bs rest)
+drop_behind text bs rest at here =
+    drop-drop text at (length bs) ∙ (ap (λ (l : List ℕ). drop (length bs) l) here ∙ drop_front bs rest)
 
-pub operand-here : (text bs rest : List ℕ) (at : ℕ) → drop at text ≡ bs ++ rest → none is_delimiter bs ≡ true → ends is_delimiter rest ≡ true → operand text at ≡ bs
+pub operand-here : (text bs rest : List ℕ) (at : ℕ) → drop at text ≡ bs ++ rest → none is_delimiter bs ≡ true
+    → ends is_delimiter rest ≡ true → operand text at ≡ bs
 unfolding operand
 operand-here text bs rest at here h k = rw here (cut is_delimiter bs rest h k)
 
-pub name-here : (text bs rest : List ℕ) (at : ℕ) → drop at text ≡ bs ++ rest → none is_blank bs ≡ true → ends is_blank rest ≡ true → name_at text at ≡ bs
+pub name-here : (text bs rest : List ℕ) (at : ℕ) → drop at text ≡ bs ++ rest → none is_blank bs ≡ true
+    → ends is_blank rest ≡ true → name_at text at ≡ bs
 unfolding name_at
 name-here text bs rest at here h k = rw here (cut is_blank bs rest h k)
 
@@ -77,7 +85,8 @@ blanks-none text [] at here h = rw here (omega arith)
 blanks-none text (b ∷ bs) at here h = let e = not_true (is_blank b) h in rw (here, e) (omega arith)
 
 -- one blank stands at the place
-pub blanks-one : (text rest : List ℕ) (at : ℕ) → drop at text ≡ 32 ∷ rest → no_blank rest ≡ true → after_blanks text at ≡ at + 1
+pub blanks-one : (text rest : List ℕ) (at : ℕ) → drop at text ≡ 32 ∷ rest → no_blank rest ≡ true → after_blanks text at
+    ≡ at + 1
 unfolding after_blanks is_blank
 blanks-one text [] at here h = rw here
 blanks-one text (b ∷ bs) at here h = let e = not_true (is_blank b) h in rw (here, e)

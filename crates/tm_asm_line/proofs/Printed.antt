@@ -1,10 +1,12 @@
 -- What is printed is read back, a whole line.
-use Rattle.std.proofs.Common.{◌≡◌, ◌≢◌, ◌≤◌, ◌<◌, ℕ, suc, ◌+◌, ◌-◌, ◌*◌, ◌%◌, ◌^◌, Bool, T, lit<, true, false, ◌&&◌, eqb, nat_le, nat_lt, if◌then◌else◌, ◌==◌, List, [], ◌∷◌, ◌++◌, length, drop, get_or, ℤ, pos, negsuc, Some, Ok, refl, sym, ap, ◌∙◌, subst, inl, inr, arith, length-append, length-drop}
-use Rattle.std.specs.Prelude.{slice_index, int_le}
+use Rattle.std.proofs.Common.{◌≡◌, ◌≢◌, ◌≤◌, ◌<◌, ℕ, suc, ◌+◌, ◌-◌, ◌*◌, ◌%◌, ◌^◌, Bool, T, lit<, true, false, ◌&&◌}
+use Rattle.std.proofs.Common.{eqb, nat_le, nat_lt, List, [], ◌∷◌, ◌++◌, length, drop, get_or, ℤ}
+use Rattle.std.proofs.Common.{pos, negsuc, Some, Ok, refl, sym, ap, subst, inl, inr, arith, length-append}
+use Rattle.std.specs.Prelude.{int_le}
 use Rattle.std.proofs.lemmas.Fmt.{length-decimal-le, length_signed_le}
 use Rattle.std.proofs.lemmas.Bool.Decides.{eqb_tells}
-use Rattle.std.proofs.lemmas.Bool.{eq-eqb, lt-ltb, le-leb, ltb-true, leb-true}
-use Rattle.std.proofs.lemmas.List.{get_or-drop, drop_more, drop_all}
+use Rattle.std.proofs.lemmas.Bool.{eq-eqb, le-leb, ltb-true, leb-true}
+use Rattle.std.proofs.lemmas.List.{drop_more, drop_all}
 use Rattle.std.proofs.lemmas.Int.{ints}
 use lib.Signed.{mag}
 use Rattle.tm_table.specs.declared.instr.Op.{Op}
@@ -14,149 +16,25 @@ use Rattle.tm_table.specs.declared.table.Layout.{Layout}
 use Rattle.tm_table.specs.declared.table.Layout.TheVariants.{R, I, S, B, U, J, Shift6, Shift5, Order, Whole}
 use Rattle.tm_table.specs.Table.{row_of}
 use Rattle.tm_table.specs.Words.{low, Fits, FitsAs, From}
-use Rattle.tm_asm_line.specs.declared.shape.Side.{Side}
-use Rattle.tm_asm_line.specs.declared.shape.Side.TheVariants.{Before, After}
 use Rattle.tm_asm_line.specs.declared.shape.Operand.{Operand}
 use Rattle.tm_asm_line.specs.declared.shape.Operand.TheVariants.{Register, Number, Set}
 use Rattle.tm_asm_line.specs.declared.shape.Piece.{Piece}
 use Rattle.tm_asm_line.specs.declared.shape.Piece.TheVariants.{Take, Mark}
 use Rattle.tm_asm_line.specs.declared.shape.Shape.{Shape}
-use Rattle.tm_asm_line.specs.declared.shape.Shape.TheVariants.{Upper, Jump, Memory, Branch, Store, Immediate, Shift64, Shift32, Registers, Fences, Bare}
+use Rattle.tm_asm_line.specs.declared.shape.Shape.TheVariants.{Upper, Jump, Memory, Branch, Store, Immediate, Shift64}
+use Rattle.tm_asm_line.specs.declared.shape.Shape.TheVariants.{Shift32, Registers, Fences, Bare}
 use Rattle.tm_asm_line.specs.Shapes.{name_of, shape_of, pieces_of}
-use Rattle.tm_asm_line.specs.Reading.{is_blank, is_delimiter, after_blanks, is_in, set_before, set_after, with_register, with_set, operand_reading, piece_reading, pieces_reading, bare, op_of, name_at, line_of}
-use Rattle.tm_asm_line.specs.Printing.{register_in, set_in, operand_text, mark_text, piece_text, pieces_text, gap, printed}
-use Rattle.tm_asm_line.proofs.Cutting.{taken-some}
-use Rattle.tm_asm_line.proofs.Cut.{and_parts, none, ends, no_blank, no_blank-none, blanks-none, blanks-one, drop_behind, operand-here, name-here}
-use Rattle.tm_asm_line.proofs.Back.{IsOne, register_back, set_back, set_short, signed_back}
-
--- ---- operands
-
--- what an operand asks of an instruction
-abbrev pub Holds : Operand → Instr → Type 0
-Holds (Register s) i = register_in s i < 32
-Holds (Number r) i = (is_in r i.imm ≡ true) × (mag i.imm < 2 ^ 20)
-Holds (Set s) i = Unit {0}
-
--- an instruction with an operand of another
-abbrev with_operand : Operand → Instr → Instr → Instr
-with_operand (Register s) i acc = with_register s (register_in s i) acc
-with_operand (Number r) i acc = record acc { imm = i.imm }
-with_operand (Set s) i acc = with_set s (set_in s i) acc
-
-set_low : (s : Side) (i : Instr) → set_in s i < 16
-set_low Before i = elim i.imm as (λ z. set_before z < 16) [ pos n ↦ omega arith | negsuc n ↦ omega arith ]
-set_low After i = elim i.imm as (λ z. set_after z < 16) [ pos n ↦ omega arith | negsuc n ↦ omega arith ]
-
-operand_back : (o : Operand) (at : ℕ) (i acc : Instr) → Holds o i → operand_reading o at (operand_text o i) acc ≡ Ok (with_operand o i acc)
-unfolding operand_reading operand_text
-operand_back (Register s) at i acc h = let e = (register_back (register_in s i) h).0 in rw e
-operand_back (Number r) at i acc h = let e = (signed_back i.imm h.1).0 in let t = h.0 in rw (e, t)
-operand_back (Set s) at i acc h = let e = (set_back (set_in s i) (set_low s i)).0 in rw e
-
-operand_one : (o : Operand) (i : Instr) → Holds o i → IsOne (operand_text o i)
-unfolding operand_text
-operand_one (Register s) i h = (register_back (register_in s i) h).1
-operand_one (Number r) i h = (signed_back i.imm h.1).1
-operand_one (Set s) i h = (set_back (set_in s i) (set_low s i)).1
-
--- ---- pieces
-
-abbrev follows : List Piece → Bool
-follows [] = true
-follows (Mark m ∷ ps) = true
-follows (Take o ∷ ps) = false
-
--- a mark or the end behind each operand, and what the operands ask
-abbrev pub Fine : List Piece → Instr → Type 0
-Fine [] i = Unit {0}
-Fine (Mark m ∷ ps) i = (is_delimiter m ≡ true) × ((is_blank m ≡ false) × Fine ps i)
-Fine (Take o ∷ ps) i = (follows ps ≡ true) × (Holds o i × Fine ps i)
-
--- an instruction with all operands of another
-abbrev pub filled : List Piece → Instr → Instr → Instr
-filled [] i acc = acc
-filled (Mark m ∷ ps) i acc = filled ps i acc
-filled (Take o ∷ ps) i acc = filled ps i (with_operand o i acc)
-
-text_ends : (ps : List Piece) (i : Instr) → Fine ps i → follows ps ≡ true → ends is_delimiter (pieces_text ps i) ≡ true
-unfolding pieces_text mark_text
-text_ends [] i h f = refl
-text_ends (Mark m ∷ ps) i h f = h.0
-text_ends (Take o ∷ ps) i h f = absurd (cc)
-
-text_no_blank : (ps : List Piece) (i : Instr) → Fine ps i → no_blank (pieces_text ps i) ≡ true
-unfolding pieces_text mark_text
-text_no_blank [] i h = refl
-text_no_blank (Mark m ∷ ps) i h = let e = h.1.0 in rw e
-text_no_blank (Take o ∷ ps) i h = let one = operand_one o i h.1.0 in no_blank-none (operand_text o i) (pieces_text ps i) one.some one.free
-
--- an operand where it stands
-take_here : (text rest : List ℕ) (o : Operand) (a : ℕ) (i acc : Instr) → Holds o i → ends is_delimiter rest ≡ true → drop a text ≡ operand_text o i ++ rest
-    → piece_reading text (Take o) a acc ≡ Ok (a + length (operand_text o i), with_operand o i acc)
-unfolding piece_reading
-take_here text rest o a i acc h behind here =
-    let one = operand_one o i h in
-    let found = operand-here text (operand_text o i) rest a here one.free behind in
-    let back = operand_back o a i acc h in
-    rw (found, taken-some o text a acc (operand_text o i) one.some, back)
-
--- a mark where it stands
-mark_here : (text rest : List ℕ) (m a : ℕ) (acc : Instr) → drop a text ≡ m ∷ rest → piece_reading text (Mark m) a acc ≡ Ok (a + 1, acc)
-unfolding piece_reading
-mark_here text rest m a acc here =
-    let size : length text - a ≡ suc (length rest) = sym (length-drop a text) ∙ ap length here in
-    let within : nat_lt a (length text) ≡ true = lt-ltb a (length text) (omega arith) in
-    let there : slice_index text a ≡ m = let zero_more : a + 0 ≡ a = omega arith in rw zero_more at (sym (get_or-drop a text 0 0) ∙ ap (λ (l : List ℕ). get_or l 0 0) here) in
-    let same : eqb m m ≡ true = eq-eqb m m refl in
-    rw (within, there, same)
-
-drop_one : (text rest : List ℕ) (m a : ℕ) → drop a text ≡ m ∷ rest → drop (a + 1) text ≡ rest
-drop_one text rest m a here = drop_behind text (m ∷ []) rest a here
-
-size_here : (text xs ys : List ℕ) (a : ℕ) → a ≤ length text → drop a text ≡ xs ++ ys → a + length xs ≤ length text
-size_here text xs ys a within here =
-    let size : length text - a ≡ length xs + length ys = sym (length-drop a text) ∙ (ap length here ∙ length-append xs ys) in
-    omega arith
-
--- behind a mark, and a blank where it is a comma
-mark_behind : (text rest : List ℕ) (m a : ℕ) → a ≤ length text → no_blank rest ≡ true → drop a text ≡ mark_text m ++ rest
-    → (after_blanks text (a + 1) ≤ length text) × (drop (after_blanks text (a + 1)) text ≡ rest)
-unfolding mark_text
-mark_behind text rest m a within bare here =
-    elim (eqb_tells m 44) [
-      | inl t ↦
-          let e = t.0 in
-          let more : drop a text ≡ m ∷ 32 ∷ rest = rw e at here in
-          let one : drop (a + 1) text ≡ 32 ∷ rest = drop_one text (32 ∷ rest) m a more in
-          let two : drop (a + 1 + 1) text ≡ rest = drop_one text rest 32 (a + 1) one in
-          rw (blanks-one text rest (a + 1) one bare) (let s = size_here text (m ∷ 32 ∷ []) rest a within more in omega arith, two)
-      | inr t ↦
-          let e = t.0 in
-          let more : drop a text ≡ m ∷ rest = rw e at here in
-          let one : drop (a + 1) text ≡ rest = drop_one text rest m a more in
-          rw (blanks-none text rest (a + 1) one bare) (let s = size_here text (m ∷ []) rest a within more in omega arith, one)
-    ]
-
-pub pieces_back : (text : List ℕ) (ps : List Piece) (i acc : Instr) (at : ℕ) → Fine ps i → after_blanks text at ≤ length text → drop (after_blanks text at) text ≡ pieces_text ps i
-    → pieces_reading text ps at acc ≡ Ok (filled ps i acc)
-unfolding pieces_reading pieces_text
-pieces_back text [] i acc at h within here =
-    let size : length text - after_blanks text at ≡ 0 = sym (length-drop (after_blanks text at) text) ∙ ap length here in
-    let test : eqb (after_blanks text at) (length text) ≡ true = eq-eqb _ _ (omega arith) in
-    rw test
-pieces_back text (Take o ∷ ps) i acc at h within here =
-    let a = after_blanks text at in
-    let rest = pieces_text ps i in
-    let read = take_here text rest o a i acc h.1.0 (text_ends ps i h.1.1 h.0) here in
-    let next : drop (a + length (operand_text o i)) text ≡ rest = drop_behind text (operand_text o i) rest a here in
-    let stays = blanks-none text rest (a + length (operand_text o i)) next (text_no_blank ps i h.1.1) in
-    let room = size_here text (operand_text o i) rest a within here in
-    rw read (pieces_back text ps i (with_operand o i acc) (a + length (operand_text o i)) h.1.1 (rw stays room) (rw stays next))
-pieces_back text (Mark m ∷ ps) i acc at h within here =
-    let a = after_blanks text at in
-    let behind = mark_behind text (pieces_text ps i) m a within (text_no_blank ps i h.1.1) here in
-    let read = mark_here text ((if m == 44 then 32 ∷ [] else []) ++ pieces_text ps i) m a acc (unfold mark_text in here) in
-    rw read (pieces_back text ps i acc (a + 1) h.1.1 behind.0 behind.1)
+use Rattle.tm_asm_line.specs.Reading.{is_blank, is_delimiter, after_blanks, is_in, set_before, set_after}
+use Rattle.tm_asm_line.specs.Reading.{bare}
+use Rattle.tm_asm_line.specs.Reading.{op_of, name_at, line_of}
+use Rattle.tm_asm_line.specs.Printing.{register_in, set_in, operand_text, mark_text, piece_text, pieces_text, gap}
+use Rattle.tm_asm_line.specs.Printing.{printed}
+use Rattle.tm_asm_line.proofs.Cut.{and_parts, none, ends, no_blank, blanks-none, blanks-one}
+use Rattle.tm_asm_line.proofs.Cut.{drop_behind, name-here}
+use Rattle.tm_asm_line.proofs.Back.{set_short}
+use Rattle.tm_asm_line.proofs.Pieces.{Holds, set_low, Fine, filled}
+use Rattle.tm_asm_line.proofs.Pieces.{text_no_blank, drop_one, size_here}
+use Rattle.tm_asm_line.proofs.Pieces.{pieces_back}
 
 -- ---- operands of a shape
 
@@ -168,7 +46,8 @@ in_all : (first last z : ℤ) → From first last z → is_in (record { first = 
 unfolding is_in
 in_all first last z h = let a = true_of (int_le first z) h.0.le in let b = true_of (int_le z last) h.1.le in rw (a, b)
 
-in_branch : (z : ℤ) → From (negsuc 4095) (pos 4095) z → low 13 z % 2 ≡ 0 → is_in (record { first = negsuc 4095; last = pos 4094; even = true }) z ≡ true
+in_branch : (z : ℤ) → From (negsuc 4095) (pos 4095) z → low 13 z % 2 ≡ 0
+    → is_in (record { first = negsuc 4095; last = pos 4094; even = true }) z ≡ true
 unfolding is_in
 in_branch (pos n) h even =
     let top : n ≤ 4095 = omega (arith, ints, h.1) in
@@ -181,7 +60,8 @@ in_branch (negsuc n) h even =
     let b : eqb (suc n % 2) 0 ≡ true = eq-eqb _ _ (omega arith) in
     rw (a, b)
 
-in_jump : (z : ℤ) → From (negsuc 1048575) (pos 1048575) z → low 21 z % 2 ≡ 0 → is_in (record { first = negsuc 1048575; last = pos 1048574; even = true }) z ≡ true
+in_jump : (z : ℤ) → From (negsuc 1048575) (pos 1048575) z → low 21 z % 2 ≡ 0
+    → is_in (record { first = negsuc 1048575; last = pos 1048574; even = true }) z ≡ true
 unfolding is_in
 in_jump (pos n) h even =
     let top : n ≤ 1048575 = omega (arith, ints, h.1) in
@@ -194,7 +74,8 @@ in_jump (negsuc n) h even =
     let b : eqb (suc n % 2) 0 ≡ true = eq-eqb _ _ (omega arith) in
     rw (a, b)
 
-small_mag : (first last : ℕ) (z : ℤ) → first < 2 ^ 20 → last < 2 ^ 20 → From (negsuc first) (pos last) z → mag z < 2 ^ 20
+small_mag : (first last : ℕ) (z : ℤ) → first < 2 ^ 20 → last < 2 ^ 20 → From (negsuc first) (pos last) z
+    → mag z < 2 ^ 20
 small_mag first last (pos n) a b h = let top : n ≤ last = omega (arith, ints, h.1) in omega arith
 small_mag first last (negsuc n) a b h = let top : n ≤ first = omega (arith, ints, h.0) in omega arith
 
@@ -221,10 +102,12 @@ unfolding shape_of
 same_layout Lui = refl
 same_layout _ = refl
 
-rebuilt : (i : Instr) (rd rs1 rs2 : ℕ) (imm : ℤ) → rd ≡ i.rd → rs1 ≡ i.rs1 → rs2 ≡ i.rs2 → imm ≡ i.imm → record { op = i.op; rd = rd; rs1 = rs1; rs2 = rs2; imm = imm } ≡ i
+rebuilt : (i : Instr) (rd rs1 rs2 : ℕ) (imm : ℤ) → rd ≡ i.rd → rs1 ≡ i.rs1 → rs2 ≡ i.rs2 → imm ≡ i.imm
+    → record { op = i.op; rd = rd; rs1 = rs1; rs2 = rs2; imm = imm } ≡ i
 rebuilt i rd rs1 rs2 imm a b c d = rw (a, b, c, d)
 
-sets_both : (z : ℤ) → From (pos 0) (pos 255) z → pos (16 * set_before (pos (16 * set_before z + 0 % 16)) + set_after z) ≡ z
+sets_both : (z : ℤ) → From (pos 0) (pos 255) z → pos (16 * set_before (pos (16 * set_before z + 0 % 16)) + set_after z)
+    ≡ z
 sets_both (pos n) h = let top : n ≤ 255 = omega (arith, ints, h.1) in ap pos (omega arith)
 sets_both (negsuc n) h = absurd (omega (arith, ints, h.0))
 
@@ -233,21 +116,154 @@ Fills s i = Fine (pieces_of s) i × (filled (pieces_of s) i (bare i.op) ≡ i)
 
 fills : (s : Shape) (i : Instr) → FitsAs (layout_of s) i → Fills s i
 unfolding pieces_of is_delimiter is_blank
-fills Upper i h = ((refl, (h.0, (refl, (refl, (refl, ((in_all _ _ i.imm h.3, positive_mag _ i.imm (lit< tt) h.3), tt)))))), rebuilt i _ _ _ _ refl (sym h.1) (sym h.2) refl)
-fills Jump i h = ((refl, (h.0, (refl, (refl, (refl, ((in_jump i.imm h.3 h.4, small_mag _ _ i.imm (lit< tt) (lit< tt) h.3), tt)))))), rebuilt i _ _ _ _ refl (sym h.1) (sym h.2) refl)
-fills Memory i h = ((refl, (h.0, (refl, (refl, (refl, ((in_all _ _ i.imm h.3, small_mag _ _ i.imm (lit< tt) (lit< tt) h.3), (refl, (refl, (refl, (h.1, (refl, (refl, tt)))))))))))), rebuilt i _ _ _ _ refl refl (sym h.2) refl)
-fills Branch i h = ((refl, (h.1, (refl, (refl, (refl, (h.2, (refl, (refl, (refl, ((in_branch i.imm h.3 h.4, small_mag _ _ i.imm (lit< tt) (lit< tt) h.3), tt)))))))))), rebuilt i _ _ _ _ (sym h.0) refl refl refl)
-fills Store i h = ((refl, (h.2, (refl, (refl, (refl, ((in_all _ _ i.imm h.3, small_mag _ _ i.imm (lit< tt) (lit< tt) h.3), (refl, (refl, (refl, (h.1, (refl, (refl, tt)))))))))))), rebuilt i _ _ _ _ (sym h.0) refl refl refl)
-fills Immediate i h = ((refl, (h.0, (refl, (refl, (refl, (h.1, (refl, (refl, (refl, ((in_all _ _ i.imm h.3, small_mag _ _ i.imm (lit< tt) (lit< tt) h.3), tt)))))))))), rebuilt i _ _ _ _ refl refl (sym h.2) refl)
-fills Shift64 i h = ((refl, (h.0, (refl, (refl, (refl, (h.1, (refl, (refl, (refl, ((in_all _ _ i.imm h.3, positive_mag _ i.imm (lit< tt) h.3), tt)))))))))), rebuilt i _ _ _ _ refl refl (sym h.2) refl)
-fills Shift32 i h = ((refl, (h.0, (refl, (refl, (refl, (h.1, (refl, (refl, (refl, ((in_all _ _ i.imm h.3, positive_mag _ i.imm (lit< tt) h.3), tt)))))))))), rebuilt i _ _ _ _ refl refl (sym h.2) refl)
-fills Registers i h = ((refl, (h.0, (refl, (refl, (refl, (h.1, (refl, (refl, (refl, (h.2, tt)))))))))), rebuilt i _ _ _ _ refl refl refl (sym h.3))
-fills Fences i h = ((refl, (tt, (refl, (refl, (refl, (tt, tt)))))), rebuilt i _ _ _ _ (sym h.0) (sym h.1) (sym h.2) (sets_both i.imm h.3))
+fills Upper i h = (
+  (refl, (h.0, (refl, (refl, (refl, ((in_all _ _ i.imm h.3, positive_mag _ i.imm (lit< tt) h.3), tt)))))),
+  rebuilt i _ _ _ _ refl (sym h.1) (sym h.2) refl,
+)
+fills Jump i h = (
+  (refl, (h.0, (refl, (refl, (refl, ((in_jump i.imm h.3 h.4, small_mag _ _ i.imm (lit< tt) (lit< tt) h.3), tt)))))),
+  rebuilt i _ _ _ _ refl (sym h.1) (sym h.2) refl,
+)
+fills Memory i h = (
+  (
+    refl,
+    (
+      h.0,
+      (
+        refl,
+        (
+          refl,
+          (
+            refl,
+            (
+              (in_all _ _ i.imm h.3, small_mag _ _ i.imm (lit< tt) (lit< tt) h.3),
+              (refl, (refl, (refl, (h.1, (refl, (refl, tt)))))),
+            ),
+          ),
+        ),
+      ),
+    ),
+  ),
+  rebuilt i _ _ _ _ refl refl (sym h.2) refl,
+)
+fills Branch i h = (
+  (
+    refl,
+    (
+      h.1,
+      (
+        refl,
+        (
+          refl,
+          (
+            refl,
+            (
+              h.2,
+              (
+                refl,
+                (refl, (refl, ((in_branch i.imm h.3 h.4, small_mag _ _ i.imm (lit< tt) (lit< tt) h.3), tt))),
+              ),
+            ),
+          ),
+        ),
+      ),
+    ),
+  ),
+  rebuilt i _ _ _ _ (sym h.0) refl refl refl,
+)
+fills Store i h = (
+  (
+    refl,
+    (
+      h.2,
+      (
+        refl,
+        (
+          refl,
+          (
+            refl,
+            (
+              (in_all _ _ i.imm h.3, small_mag _ _ i.imm (lit< tt) (lit< tt) h.3),
+              (refl, (refl, (refl, (h.1, (refl, (refl, tt)))))),
+            ),
+          ),
+        ),
+      ),
+    ),
+  ),
+  rebuilt i _ _ _ _ (sym h.0) refl refl refl,
+)
+fills Immediate i h = (
+  (
+    refl,
+    (
+      h.0,
+      (
+        refl,
+        (
+          refl,
+          (
+            refl,
+            (
+              h.1,
+              (
+                refl,
+                (refl, (refl, ((in_all _ _ i.imm h.3, small_mag _ _ i.imm (lit< tt) (lit< tt) h.3), tt))),
+              ),
+            ),
+          ),
+        ),
+      ),
+    ),
+  ),
+  rebuilt i _ _ _ _ refl refl (sym h.2) refl,
+)
+fills Shift64 i h = (
+  (
+    refl,
+    (
+      h.0,
+      (
+        refl,
+        (
+          refl,
+          (refl, (h.1, (refl, (refl, (refl, ((in_all _ _ i.imm h.3, positive_mag _ i.imm (lit< tt) h.3), tt)))))),
+        ),
+      ),
+    ),
+  ),
+  rebuilt i _ _ _ _ refl refl (sym h.2) refl,
+)
+fills Shift32 i h = (
+  (
+    refl,
+    (
+      h.0,
+      (
+        refl,
+        (
+          refl,
+          (refl, (h.1, (refl, (refl, (refl, ((in_all _ _ i.imm h.3, positive_mag _ i.imm (lit< tt) h.3), tt)))))),
+        ),
+      ),
+    ),
+  ),
+  rebuilt i _ _ _ _ refl refl (sym h.2) refl,
+)
+fills Registers i h = (
+  (refl, (h.0, (refl, (refl, (refl, (h.1, (refl, (refl, (refl, (h.2, tt)))))))))),
+  rebuilt i _ _ _ _ refl refl refl (sym h.3),
+)
+fills Fences i h = (
+  (refl, (tt, (refl, (refl, (refl, (tt, tt)))))),
+  rebuilt i _ _ _ _ (sym h.0) (sym h.1) (sym h.2) (sets_both i.imm h.3),
+)
 fills Bare i h = (tt, rebuilt i _ _ _ _ (sym h.0) (sym h.1) (sym h.2) (sym h.3))
 
 pub fits_fills : (i : Instr) → Fits i → Fills (shape_of i.op) i
 unfolding Fits
-fits_fills i h = fills (shape_of i.op) i (let P : Layout → Type 0 = λ l. FitsAs l i in subst P (sym (same_layout i.op)) h)
+fits_fills i h = fills (shape_of i.op) i (let P : Layout → Type 0 = λ l. FitsAs l i in
+    subst P (sym (same_layout i.op)) h)
 
 -- ---- a line
 
@@ -276,17 +292,28 @@ no_blank-append [] rest some h = absurd (some refl)
 no_blank-append (b ∷ bs) rest some h = h
 
 -- behind a name
-behind_name : (ps : List Piece) (text name : List ℕ) (i : Instr) → Fine ps i → text ≡ name ++ (gap ps ++ pieces_text ps i)
+behind_name : (ps : List Piece) (text name : List ℕ) (i : Instr) → Fine ps i
+    → text ≡ name ++ (gap ps ++ pieces_text ps i)
     → (after_blanks text (length name) ≤ length text) × (drop (after_blanks text (length name)) text ≡ pieces_text ps i)
 unfolding pieces_text
 behind_name [] text name i h is =
-    let here : drop (length name) text ≡ [] = let z : 0 + length name ≡ length name = omega arith in rw z at (drop_behind text name [] 0 is) in
-    rw (blanks-none text [] (length name) here refl) (let s = size_here text name [] 0 (omega arith) is in omega arith, here)
+    let here : drop (length name) text ≡ [] = let z : 0 + length name ≡ length name = omega arith in
+    rw z at (drop_behind text name [] 0 is) in
+    rw (blanks-none text [] (length name) here refl) (
+      let s = size_here text name [] 0 (omega arith) is in
+          omega arith,
+      here,
+    )
 behind_name (p ∷ ps) text name i h is =
-    let here : drop (length name) text ≡ 32 ∷ pieces_text (p ∷ ps) i = let z : 0 + length name ≡ length name = omega arith in rw z at (drop_behind text name (32 ∷ pieces_text (p ∷ ps) i) 0 is) in
+    let here : drop (length name) text ≡ 32 ∷ pieces_text (p ∷ ps) i = let z : 0 + length name ≡ length name =
+    omega arith in rw z at (drop_behind text name (32 ∷ pieces_text (p ∷ ps) i) 0 is) in
     let s = size_here text name (32 ∷ pieces_text (p ∷ ps) i) 0 (omega arith) is in
-    let room : length name + 1 ≤ length text = size_here text (32 ∷ []) (pieces_text (p ∷ ps) i) (length name) (omega arith) here in
-    rw (blanks-one text (pieces_text (p ∷ ps) i) (length name) here (text_no_blank (p ∷ ps) i h)) (room, drop_one text (pieces_text (p ∷ ps) i) 32 (length name) here)
+    let room : length name + 1 ≤ length text = size_here text (32 ∷ []) (pieces_text (p ∷ ps) i) (length name)
+    (omega arith) here in
+    rw (blanks-one text (pieces_text (p ∷ ps) i) (length name) here (text_no_blank (p ∷ ps) i h)) (
+      room,
+      drop_one text (pieces_text (p ∷ ps) i) 32 (length name) here,
+    )
 
 gap_ends : (ps : List Piece) (i : Instr) → ends is_blank (gap ps ++ pieces_text ps i) ≡ true
 unfolding pieces_text is_blank
@@ -300,9 +327,12 @@ line_back i h =
     let name = name_of i.op in
     let text = name ++ (gap ps ++ pieces_text ps i) in
     let fit = fits_fills i h in
-    let some : length name ≢ 0 = let l = and_parts (nat_le (length name) 6) (nat_lt 0 (length name)) (name_length i.op) in let m = ltb-true 0 (length name) l.1 in omega arith in
-    let start : after_blanks text 0 ≡ 0 = blanks-none text text 0 refl (no_blank-append name (gap ps ++ pieces_text ps i) some (name_some i.op)) in
-    let found : name_at text 0 ≡ name = name-here text name (gap ps ++ pieces_text ps i) 0 refl (name_none i.op) (gap_ends ps i) in
+    let some : length name ≢ 0 = let l = and_parts (nat_le (length name) 6) (nat_lt 0 (length name)) (name_length i.op)
+    in let m = ltb-true 0 (length name) l.1 in omega arith in
+    let start : after_blanks text 0 ≡ 0 =
+    blanks-none text text 0 refl (no_blank-append name (gap ps ++ pieces_text ps i) some (name_some i.op)) in
+    let found : name_at text 0 ≡ name = name-here text name (gap ps ++ pieces_text ps i) 0 refl (name_none i.op)
+    (gap_ends ps i) in
     let z : 0 + length name ≡ length name = omega arith in
     let b = behind_name ps text name i fit.0 refl in
     rw (start, found, op_back i.op, z, pieces_back text ps i (bare i.op) (length name) fit.0 b.0 b.1) (ap Ok fit.1)
@@ -311,14 +341,20 @@ line_back i h =
 
 operand_short : (o : Operand) (i : Instr) → Holds o i → length (operand_text o i) ≤ 8
 unfolding operand_text
-operand_short (Register s) i h = omega (arith, length-decimal-le 2 (register_in s i) (omega arith) (omega arith) (omega arith))
+operand_short (Register s) i h =
+    omega (arith, length-decimal-le 2 (register_in s i) (omega arith) (omega arith) (omega arith))
 operand_short (Number r) i h = length_signed_le 7 i.imm (omega (arith, h.1)) (omega (arith, h.1))
 operand_short (Set s) i h = omega (arith, set_short (set_in s i) (set_low s i))
 
 pieces_short : (ps : List Piece) (i : Instr) → Fine ps i → length (pieces_text ps i) ≤ 8 * length ps
 unfolding pieces_text mark_text
 pieces_short [] i h = omega arith
-pieces_short (Take o ∷ ps) i h = omega (arith, length-append (operand_text o i) (pieces_text ps i), operand_short o i h.1.0, pieces_short ps i h.1.1)
+pieces_short (Take o ∷ ps) i h = omega (
+  arith,
+  length-append (operand_text o i) (pieces_text ps i),
+  operand_short o i h.1.0,
+  pieces_short ps i h.1.1,
+)
 pieces_short (Mark m ∷ ps) i h =
     let more = pieces_short ps i h.1.1 in
     elim (eqb_tells m 44) [
@@ -345,11 +381,13 @@ printed_short i h =
     let few = leb-true (length ps) 6 (few_pieces (shape_of i.op)) in
     let text = pieces_short ps i fit.0 in
     let some = gap_short ps in
-    rw (length-append (name_of i.op) (gap ps ++ pieces_text ps i), length-append (gap ps) (pieces_text ps i)) (omega arith)
+    rw (length-append (name_of i.op) (gap ps ++ pieces_text ps i), length-append (gap ps) (pieces_text ps i))
+    (omega arith)
 
 -- ---- the loop over the pieces
 
-pub pieces_text-more : (ps : List Piece) (k : ℕ) (d : Piece) (i : Instr) → k < length ps → pieces_text (drop k ps) i ≡ piece_text (get_or ps k d) i ++ pieces_text (drop (k + 1) ps) i
+pub pieces_text-more : (ps : List Piece) (k : ℕ) (d : Piece) (i : Instr) → k < length ps → pieces_text (drop k ps) i
+    ≡ piece_text (get_or ps k d) i ++ pieces_text (drop (k + 1) ps) i
 unfolding pieces_text
 pieces_text-more ps k d i within = rw (drop_more ps k d within)
 

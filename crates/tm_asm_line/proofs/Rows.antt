@@ -5,9 +5,12 @@ use Rattle.tm_base.specs.Numbers.{number_of, digits_reading, reading_at, value_o
 use Rattle.tm_table.specs.declared.instr.Op.{Op}
 use Rattle.tm_table.specs.declared.instr.Op.TheVariants.{Jal, Beq, Ld, Sd, Addi, Fence, Ecall, Lui}
 use Rattle.tm_table.specs.declared.instr.Instr.{Instr}
-use Rattle.tm_asm_line.specs.declared.fault.AsmFault.TheVariants.{UnknownName, BadRegister, BadNumber, OutOfRange, BadShape}
+use Rattle.tm_asm_line.specs.declared.fault.AsmFault.TheVariants.{UnknownName, BadRegister, BadNumber, OutOfRange}
+use Rattle.tm_asm_line.specs.declared.fault.AsmFault.TheVariants.{BadShape}
 use Rattle.tm_asm_line.specs.Shapes.{name_of, shape_of, pieces_of, set_text}
-use Rattle.tm_asm_line.specs.Reading.{is_blank, is_delimiter, after_blanks, operand, wanted, register_of, signed_of, is_in, set_of, operand_reading, piece_reading, pieces_reading, op_of, name_at, line_of}
+use Rattle.tm_asm_line.specs.Reading.{is_blank, is_delimiter, after_blanks, operand, wanted, register_of, signed_of}
+use Rattle.tm_asm_line.specs.Reading.{is_in, set_of, operand_reading, piece_reading, pieces_reading, op_of, name_at}
+use Rattle.tm_asm_line.specs.Reading.{line_of}
 use Rattle.tm_asm_line.specs.Printing.{operand_text, mark_text, pieces_text, printed}
 
 abbrev instr : Op → ℕ → ℕ → ℕ → ℤ → Instr
@@ -26,7 +29,9 @@ Reads =
     × (line_of (codes " ecall ") ≡ Ok (instr Ecall 0 0 0 (pos 0)))
 
 reads : Reads
-unfolding line_of after_blanks is_blank name_at op_of name_of shape_of pieces_of pieces_reading piece_reading operand is_delimiter operand_reading register_of signed_of is_in set_of set_text wanted number_of digits_reading reading_at value_of place_value
+unfolding line_of after_blanks is_blank name_at op_of name_of shape_of pieces_of pieces_reading piece_reading operand
+    is_delimiter operand_reading register_of signed_of is_in set_of set_text wanted number_of digits_reading reading_at
+    value_of place_value
 reads = (refl, refl, refl, refl, refl, refl, refl, refl)
 
 -- lines that are refused
@@ -49,7 +54,9 @@ Refuses =
     × (line_of (codes "ld x7, (x28)") ≡ Err (BadShape 7))
 
 refuses : Refuses
-unfolding line_of after_blanks is_blank name_at op_of name_of shape_of pieces_of pieces_reading piece_reading operand is_delimiter operand_reading register_of signed_of is_in set_of set_text wanted number_of digits_reading reading_at value_of place_value
+unfolding line_of after_blanks is_blank name_at op_of name_of shape_of pieces_of pieces_reading piece_reading operand
+    is_delimiter operand_reading register_of signed_of is_in set_of set_text wanted number_of digits_reading reading_at
+    value_of place_value
 refuses = (refl, refl, refl, refl, refl, refl, refl, refl, refl, refl, refl, refl, refl, refl, refl)
 
 -- instructions and how they are printed

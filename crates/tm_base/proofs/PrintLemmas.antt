@@ -1,4 +1,6 @@
-use Rattle.std.proofs.Common.{◌≡◌, ◌≢◌, ◌≤◌, ◌<◌, ℕ, zero, suc, ◌+◌, ◌-◌, ◌*◌, ◌/◌, ◌%◌, ◌^◌, Bool, true, false, not, nat_eq, nat_lt, eqb, List, [], ◌∷◌, ◌++◌, length, take, drop, set, get_or, None, Ok, refl, sym, ◌∙◌, arith, codes, append_assoc, add-one}
+use Rattle.std.proofs.Common.{◌≡◌, ◌≢◌, ◌≤◌, ◌<◌, ℕ, zero, suc, ◌+◌, ◌-◌, ◌*◌, ◌/◌, ◌%◌, ◌^◌, Bool, true, false, not}
+use Rattle.std.proofs.Common.{nat_eq, nat_lt, eqb, List, [], ◌∷◌, ◌++◌, length, take, drop, set, get_or, None, Ok}
+use Rattle.std.proofs.Common.{refl, sym, ◌∙◌, arith, codes, append_assoc, add-one}
 use Rattle.std.specs.Prelude.{position}
 use Rattle.std.specs.Fmt.{decimal, digits, digits_onto, digit_glyph}
 use Rattle.std.specs.Char.{digit_value, is_digit, digit_char}
@@ -32,9 +34,11 @@ unfolding rest_digits digits
 rest_digits-start n = refl
 
 glyph : (n : ℕ) → digit_glyph false (n % 10) ≡ 48 + n % 10
-glyph n = let low : n % 10 < 10 = omega arith in let test : nat_lt (n % 10) 10 ≡ true = grind (arith, nat_tests) in rw test
+glyph n = let low : n % 10 < 10 = omega arith in let test : nat_lt (n % 10) 10 ≡ true = grind (arith, nat_tests) in
+    rw test
 
-pub rest_digits-more : (k n : ℕ) (acc : List ℕ) → n / 10 ≢ 0 → rest_digits (suc k) n acc ≡ rest_digits k (n / 10) ((48 + n % 10) ∷ acc)
+pub rest_digits-more : (k n : ℕ) (acc : List ℕ) → n / 10 ≢ 0 → rest_digits (suc k) n acc
+    ≡ rest_digits k (n / 10) ((48 + n % 10) ∷ acc)
 unfolding rest_digits
 rest_digits-more k n acc h = let test : eqb (n / 10) 0 ≡ false = grind (arith, nat_tests) in rw (test, glyph n)
 
@@ -43,22 +47,26 @@ unfolding rest_digits
 rest_digits-last k n acc h = rw (h, glyph n)
 
 -- one more digit before those of the buffer
-pub digit_put : (ds : List ℕ) (at k n : ℕ) (whole : List ℕ) → 1 ≤ at → at ≤ length ds → rest_digits (k + at) n (drop at ds) ≡ whole → n / 10 ≢ 0
+pub digit_put : (ds : List ℕ) (at k n : ℕ) (whole : List ℕ) → 1 ≤ at → at ≤ length ds
+    → rest_digits (k + at) n (drop at ds) ≡ whole → n / 10 ≢ 0
     → rest_digits (k + (at - 1)) (n / 10) (drop (at - 1) (set ds (at - 1) (48 + n % 10))) ≡ whole
 digit_put ds zero k n whole some within so_far more = absurd (omega arith)
 digit_put ds (suc at) k n whole some within so_far more =
     let before : suc at - 1 ≡ at = omega arith in
     let count : k + suc at ≡ suc (k + at) = omega arith in
-    let put : drop at (set ds at (48 + n % 10)) ≡ (48 + n % 10) ∷ drop (suc at) ds = drop-set ds at (48 + n % 10) (omega arith) ∙ rw add-one in
+    let put : drop at (set ds at (48 + n % 10)) ≡ (48 + n % 10) ∷ drop (suc at) ds =
+    drop-set ds at (48 + n % 10) (omega arith) ∙ rw add-one in
     rw (before, put) (sym (rest_digits-more (k + at) n (drop (suc at) ds) more) ∙ rw count at so_far)
 
-pub digit_last : (ds : List ℕ) (at k n : ℕ) (whole : List ℕ) → 1 ≤ at → at ≤ length ds → rest_digits (k + at) n (drop at ds) ≡ whole → n / 10 ≡ 0
+pub digit_last : (ds : List ℕ) (at k n : ℕ) (whole : List ℕ) → 1 ≤ at → at ≤ length ds
+    → rest_digits (k + at) n (drop at ds) ≡ whole → n / 10 ≡ 0
     → drop (at - 1) (set ds (at - 1) (48 + n % 10)) ≡ whole
 digit_last ds zero k n whole some within so_far more = absurd (omega arith)
 digit_last ds (suc at) k n whole some within so_far more =
     let before : suc at - 1 ≡ at = omega arith in
     let count : k + suc at ≡ suc (k + at) = omega arith in
-    let put : drop at (set ds at (48 + n % 10)) ≡ (48 + n % 10) ∷ drop (suc at) ds = drop-set ds at (48 + n % 10) (omega arith) ∙ rw add-one in
+    let put : drop at (set ds at (48 + n % 10)) ≡ (48 + n % 10) ∷ drop (suc at) ds =
+    drop-set ds at (48 + n % 10) (omega arith) ∙ rw add-one in
     rw (before, put) (sym (rest_digits-last (k + at) n (drop (suc at) ds) more) ∙ rw count at so_far)
 
 -- a digit less leaves a number of a digit less
@@ -75,8 +83,10 @@ digits_left m zero more h = absurd (omega arith)
 digits_left m (suc at) more h = omega arith
 
 -- one more hexadecimal digit
-pub hex_put : (text : List ℕ) (i digits value d : ℕ) → i < digits → i < length text → d ≡ digit_char (value / 16 ^ (digits - (i + 1)) % 16)
-    → take i text ++ hex_text (digits - i) value ≡ hex_text digits value → take (i + 1) (set text i d) ++ hex_text (digits - (i + 1)) value ≡ hex_text digits value
+pub hex_put : (text : List ℕ) (i digits value d : ℕ) → i < digits → i < length text
+    → d ≡ digit_char (value / 16 ^ (digits - (i + 1)) % 16)
+    → take i text ++ hex_text (digits - i) value ≡ hex_text digits value
+    → take (i + 1) (set text i d) ++ hex_text (digits - (i + 1)) value ≡ hex_text digits value
 unfolding hex_text
 hex_put text i digits value d h within digit so_far =
     let count : digits - i ≡ suc (digits - (i + 1)) = omega arith in
@@ -99,29 +109,40 @@ digit_is d h = grind (arith, nat_tests)
 value_step : (q r p v : ℕ) → q * (p * 10) + (r * p + v) ≡ (q * 10 + r) * p + v
 value_step q r p v = omega arith
 
-place_value-digit : (d : ℕ) (acc : List ℕ) → d < 10 → place_value 10 ((48 + d) ∷ acc) ≡ d * 10 ^ length acc + place_value 10 acc
+place_value-digit : (d : ℕ) (acc : List ℕ) → d < 10 → place_value 10 ((48 + d) ∷ acc)
+    ≡ d * 10 ^ length acc + place_value 10 acc
 unfolding place_value
 place_value-digit d acc h = rw (digit_is d h)
 
 -- what the printed digits stand for
-pub place_value-rest : (k n : ℕ) (acc : List ℕ) → n < 10 ^ k → place_value 10 (rest_digits k n acc) ≡ n * 10 ^ length acc + place_value 10 acc
+pub place_value-rest : (k n : ℕ) (acc : List ℕ) → n < 10 ^ k → place_value 10 (rest_digits k n acc)
+    ≡ n * 10 ^ length acc + place_value 10 acc
 unfolding rest_digits
 place_value-rest zero n acc h = let none : n ≡ 0 = omega arith in rw none (omega arith)
 place_value-rest (suc k) n acc h =
     let low : n % 10 < 10 = omega arith in
     elim (same_or_more (n / 10)) [
-      | inl none ↦ rw (rest_digits-last k n acc none, place_value-digit (n % 10) acc low) (let same : n % 10 ≡ n = omega arith in rw same)
+      | inl none ↦ rw (rest_digits-last k n acc none, place_value-digit (n % 10) acc low) (let same : n % 10
+          ≡ n = omega arith in rw same)
       | inr more ↦
           let room : n < 10 ^ k * 10 = rw (← pow-suc 10 k) h in
           let ten : zero < 10 = omega arith in
           let front : n / 10 < 10 ^ k = (div-lt_iff_lt-mul ten).1 room in
           let whole : n / 10 * 10 + n % 10 ≡ n = omega arith in
-          rw (rest_digits-more k n acc more, place_value-rest k (n / 10) ((48 + n % 10) ∷ acc) front, place_value-digit (n % 10) acc low, pow-suc 10 (length acc), value_step (n / 10) (n % 10) (10 ^ length acc) (place_value 10 acc), whole)
+          rw (
+            rest_digits-more k n acc more,
+            place_value-rest k (n / 10) ((48 + n % 10) ∷ acc) front,
+            place_value-digit (n % 10) acc low,
+            pow-suc 10 (length acc),
+            value_step (n / 10) (n % 10) (10 ^ length acc) (place_value 10 acc),
+            whole,
+          )
     ]
 
 pub value_of_decimal : (n : ℕ) → n < 2 ^ 64 → place_value 10 (decimal n) ≡ n
 unfolding place_value
-value_of_decimal n h = let room : n < 10 ^ 64 = omega arith in rw (← rest_digits-start n, place_value-rest 64 n [] room) (omega arith)
+value_of_decimal n h = let room : n < 10 ^ 64 = omega arith in
+    rw (← rest_digits-start n, place_value-rest 64 n [] room) (omega arith)
 
 abbrev AreDigits : List ℕ → Type 0
 AreDigits xs = (k : ℕ) → k < length xs → (48 ≤ get_or xs k 0) × (get_or xs k 0 ≤ 57)
@@ -140,7 +161,8 @@ AreDigits-rest (suc k) n acc h =
     let low : n % 10 < 10 = omega arith in
     elim (same_or_more (n / 10)) [
       | inl none ↦ rw (rest_digits-last k n acc none) (digits_first (n % 10) acc low h)
-      | inr more ↦ rw (rest_digits-more k n acc more) (AreDigits-rest k (n / 10) ((48 + n % 10) ∷ acc) (digits_first (n % 10) acc low h))
+      | inr more ↦ rw (rest_digits-more k n acc more)
+          (AreDigits-rest k (n / 10) ((48 + n % 10) ∷ acc) (digits_first (n % 10) acc low h))
     ]
 
 AreDigits-decimal : (n : ℕ) → AreDigits (decimal n)
@@ -150,7 +172,8 @@ AreDigits-decimal n = rw (← rest_digits-start n) (AreDigits-rest 64 n [] (λ k
 no_bad : (xs : List ℕ) → AreDigits xs → position (λ b. not (is_digit b 10)) xs ≡ None
 no_bad xs h =
     let good = λ (b : ℕ). not (not (is_digit b 10)) in
-    let whole : prefix_len good xs ≡ length xs = prefix_len_is good xs (length xs) 0 (omega arith) (λ k below. let d = h k below in decimal_digit _ d.0 d.1) (λ past. absurd (omega arith)) in
+    let whole : prefix_len good xs ≡ length xs = prefix_len_is good xs (length xs) 0 (omega arith)
+    (λ k below. let d = h k below in decimal_digit _ d.0 d.1) (λ past. absurd (omega arith)) in
     let test : nat_lt (length xs) (length xs) ≡ false = grind (arith, nat_tests) in
     rw (whole, test)
 
@@ -169,4 +192,8 @@ decimal_reads_back n h =
     let digits = AreDigits-decimal n in
     let some : length (decimal n) ≢ 0 = omega (arith, decimal_nonempty n h) in
     let fits : place_value 10 (decimal n) < 2 ^ 64 = rw (value_of_decimal n h) h in
-    rw (digits_no_prefix (decimal n) digits, reading_value 0 10 (decimal n) some (no_bad (decimal n) digits) fits, value_of_decimal n h)
+    rw (
+      digits_no_prefix (decimal n) digits,
+      reading_value 0 10 (decimal n) some (no_bad (decimal n) digits) fits,
+      value_of_decimal n h,
+    )

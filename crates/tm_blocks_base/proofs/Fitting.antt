@@ -2,7 +2,8 @@
 use Rattle.std.proofs.Common.{◌≡◌, ℕ, ◌%◌, ◌<◌, ◌≤◌, rules}
 use Rattle.std.proofs.lemmas.Int.{ints}
 use Rattle.tm_table.specs.Words.{Fits}
-use Rattle.tm_blocks_base.specs.Instrs.{addi, slli, add, xor, and, ld, sd, beq, bne, jump, jump_back, subi, bne_back, bltu_back, go_to, fence}
+use Rattle.tm_blocks_base.specs.Instrs.{addi, slli, add, xor, and, ld, sd, beq, bne, jump, jump_back, subi, bne_back}
+use Rattle.tm_blocks_base.specs.Instrs.{bltu_back, go_to, fence}
 
 pub addi_fits : (rd rs1 n : ℕ) → rd < 32 → rs1 < 32 → n < 2048 → Fits (addi rd rs1 n)
 unfolding Fits

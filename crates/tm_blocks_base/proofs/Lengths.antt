@@ -1,21 +1,26 @@
 -- How many instructions the blocks have.
-use Rattle.std.proofs.Common.{◌≡◌, ℕ, zero, suc, ◌+◌, ◌*◌, List, [], ◌∷◌, ◌++◌, length, flat_map, refl, ap, arith, length-append}
+use Rattle.std.proofs.Common.{◌≡◌, ℕ, zero, suc, ◌+◌, ◌*◌, List, [], ◌∷◌, ◌++◌, length, flat_map, refl, ap, arith}
+use Rattle.std.proofs.Common.{length-append}
 use Rattle.tm_table.specs.declared.instr.Instr.{Instr}
 use Rattle.tm_base.specs.Lists.{count_from}
 use Rattle.tm_blocks_base.specs.Instrs.{ld, words_of}
-use Rattle.tm_blocks_base.specs.Blocks.{constant, load_registers, load_registers_but_last, save_registers, copy_dword, copy_dwords}
+use Rattle.tm_blocks_base.specs.Blocks.{constant, load_registers, load_registers_but_last, save_registers, copy_dword}
+use Rattle.tm_blocks_base.specs.Blocks.{copy_dwords}
 
 pub length-words_of : (code : List Instr) → length (words_of code) ≡ length code
 length-words_of [] = refl
 length-words_of (i ∷ code) = ap suc (length-words_of code)
 
 -- blocks of k instructions each
-length-blocks : (block : ℕ → List Instr) (k : ℕ) → ((i : ℕ) → length (block i) ≡ k) → (a n : ℕ) → length (flat_map block (count_from a n)) ≡ n * k
+length-blocks : (block : ℕ → List Instr) (k : ℕ) → ((i : ℕ) → length (block i) ≡ k) → (a n : ℕ)
+    → length (flat_map block (count_from a n)) ≡ n * k
 length-blocks block k each a zero = omega arith
 length-blocks block k each a (suc n) =
     let more : length (flat_map block (count_from (suc a) n)) ≡ n * k = length-blocks block k each (suc a) n in
     let one : length (block a) ≡ k = each a in
-    let whole : length (block a ++ flat_map block (count_from (suc a) n)) ≡ length (block a) + length (flat_map block (count_from (suc a) n)) = length-append (block a) (flat_map block (count_from (suc a) n)) in
+    let whole : length (block a ++ flat_map block (count_from (suc a) n))
+    ≡ length (block a) + length (flat_map block (count_from (suc a) n)) =
+    length-append (block a) (flat_map block (count_from (suc a) n)) in
     let product : suc n * k ≡ n * k + k = grind arith in
     omega (arith, more, one, whole, product)
 
@@ -41,4 +46,5 @@ length-save_registers = refl
 
 pub length-copy_dwords : (from a to b n : ℕ) → length (copy_dwords from a to b n) ≡ 2 * n
 unfolding copy_dwords
-length-copy_dwords from a to b n = let e : length (flat_map (copy_dword from a to b) (count_from 0 n)) ≡ n * 2 = length-blocks (copy_dword from a to b) 2 (λ j. refl) 0 n in omega (arith, e)
+length-copy_dwords from a to b n = let e : length (flat_map (copy_dword from a to b) (count_from 0 n)) ≡ n * 2 =
+    length-blocks (copy_dword from a to b) 2 (λ j. refl) 0 n in omega (arith, e)

@@ -9,4 +9,5 @@ pub last_store_runs : (cell : ℕ) → LastStoreRuns cell
 last_store_runs cell w s usable free at place =
     let low = usable.low in
     let here : cell + 8 * 0 ≡ cell = omega arith in
-    step_sd cell refl at.0 (rw place (omega arith)) (may_at 0 _ usable (omega arith) (sym here)) (ap w.fixed (sym here) ∙ free 0 (omega arith)) refl (Now refl)
+    step_sd cell refl at.0 (rw place (omega arith)) (may_at 0 _ usable (omega arith) (sym here))
+    (ap w.fixed (sym here) ∙ free 0 (omega arith)) refl (Now refl)

@@ -1,10 +1,12 @@
 -- What a comparison takes stands in the hart's private area and in the tables.
-use Rattle.std.proofs.Common.{◌≡◌, ℕ, zero, suc, ◌+◌, ◌-◌, ◌*◌, ◌%◌, ◌<◌, ◌≤◌, List, [], ◌∷◌, length, map, Bool, true, false, ◌||◌, refl, ap, arith}
+use Rattle.std.proofs.Common.{◌≡◌, ℕ, zero, suc, ◌+◌, ◌-◌, ◌*◌, ◌%◌, ◌<◌, ◌≤◌, List, [], ◌∷◌, length, map, Bool, true}
+use Rattle.std.proofs.Common.{false, ◌||◌, refl, ap, arith}
 use Rattle.std.specs.Prelude.{slice_index}
 use Rattle.std.proofs.lemmas.Bool.Decides.{nat_tests}
 use Rattle.std.proofs.Math.Nat.{mul-le-mul_left}
 use Rattle.tm_plan_cases.specs.declared.program.Program.{Program}
-use Rattle.tm_plan_map.specs.Map.{guest_base, guest_end, text_base, tables_base, windows_base, private_at, private_size, save_at, table_at}
+use Rattle.tm_plan_map.specs.Map.{guest_base, guest_end, text_base, tables_base, windows_base, private_at}
+use Rattle.tm_plan_map.specs.Map.{private_size, save_at, table_at}
 use Rattle.tm_plan_cases.specs.Collected.{owned}
 use Rattle.tm_runs.specs.World.{world_of, holds, is_fixed_dword, is_private_dword}
 use Rattle.tm_runs.proofs.Places.{guest-true}
@@ -28,16 +30,19 @@ module _ (p : Program) (h : ℕ) (low : h < 16) where
     own = ap (λ (b : Bool). b || is_fixed_dword p a) (holds-at (private_at h) private_size a x y);
   }
 
-  kept-table : (a : ℕ) → length p.tables ≤ 4194304 → a % 8 ≡ 0 → tables_base ≤ a → a + 8 ≤ tables_base + length p.tables → IsKept (world_of p h) a
+  kept-table : (a : ℕ) → length p.tables ≤ 4194304 → a % 8 ≡ 0 → tables_base ≤ a → a + 8 ≤ tables_base + length p.tables
+      → IsKept (world_of p h) a
   unfolding is_fixed_dword tables_base guest_base guest_end
   kept-table a few al x y = record {
     may = (al, guest-true a (omega arith) (omega arith));
     low = omega arith;
-    own = or-right (is_private_dword h a) _ (or-right (holds text_base (4 * length p.text) a) _ (holds-at tables_base (length p.tables) a x y));
+    own = or-right (is_private_dword h a) _ (or-right (holds text_base (4 * length p.text) a) _
+        (holds-at tables_base (length p.tables) a x y));
   }
 
 -- the masks of dwords of the windows
-masks-at : (P : ℕ → Type 0) (bytes : ℕ) → ((a : ℕ) → IsDword a → P (bytes + (a - windows_base))) → (xs : List ℕ) → Dwords xs → (j : ℕ) → j < length xs → P (slice_index (map (λ a. bytes + (a - windows_base)) xs) j)
+masks-at : (P : ℕ → Type 0) (bytes : ℕ) → ((a : ℕ) → IsDword a → P (bytes + (a - windows_base))) → (xs : List ℕ)
+    → Dwords xs → (j : ℕ) → j < length xs → P (slice_index (map (λ a. bytes + (a - windows_base)) xs) j)
 masks-at P bytes f [] d j l = absurd (omega arith)
 masks-at P bytes f (a ∷ xs) d zero l = f a d.0
 masks-at P bytes f (a ∷ xs) d (suc j) l = masks-at P bytes f xs d.1 j (omega arith)
@@ -57,10 +62,13 @@ comparing_in p h c s shaped mine below tables =
     let passes = shaped.passes in
     let al : c * X % 8 ≡ 0 = aligned c N in
     record {
-      saved = λ k j kl jl. kept-private p h low (save_at h 0 + 8192 * k + 8 * j) (omega arith) (omega arith) (omega arith);
+      saved = λ k j kl jl. kept-private p h low (save_at h 0 + 8192 * k + 8 * j) (omega arith) (omega arith)
+          (omega arith);
       mask = kept-table p h low (tables_base + c * X + 256 * h + 248) many (omega arith) (omega arith) (omega arith);
       each = masks-at (IsKept (world_of p h)) (tables_base + c * X + 256 * N + 6144)
-          (λ a d. let lo = d.low in let up = d.high in let ev = d.aligned in kept-table p h low (tables_base + c * X + 256 * N + 6144 + (a - windows_base)) many (omega arith) (omega arith) (omega arith))
+          (λ a d. let lo = d.low in let up = d.high in let ev = d.aligned in
+          kept-table p h low (tables_base + c * X + 256 * N + 6144 + (a - windows_base)) many (omega arith)
+          (omega arith) (omega arith))
           (owned p.cases h) (owned-dwords p h);
       near = omega arith;
       far = omega arith;

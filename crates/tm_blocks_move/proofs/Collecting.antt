@@ -1,5 +1,6 @@
 -- What every run of the words does that collect shared memory.
-use Rattle.std.proofs.Common.{◌≡◌, ℕ, zero, suc, ◌+◌, ◌*◌, ◌/◌, ◌^◌, ◌<◌, ◌≤◌, List, [], ◌∷◌, ◌++◌, length, flat_map, refl, sym, ap, ap₂, ◌∙◌, subst, arith, length-append}
+use Rattle.std.proofs.Common.{◌≡◌, ℕ, zero, suc, ◌+◌, ◌*◌, ◌/◌, ◌^◌, ◌<◌, ◌≤◌, List, [], ◌∷◌, ◌++◌, length, flat_map}
+use Rattle.std.proofs.Common.{refl, sym, ap, ap₂, ◌∙◌, subst, arith, length-append}
 use Rattle.tm_table.specs.declared.instr.Instr.{Instr}
 use Rattle.tm_table.specs.declared.state.Access.{Access}
 use Rattle.tm_plan_cases.specs.declared.cases.Cases.{Cases}
@@ -71,7 +72,8 @@ module _ (cases : Cases) (h q : ℕ) (s : AreShaped cases) (mine : h < cases.har
     abbrev A : Access → Type 0
     A = UsesMoves all
 
-    collect-take : (v : ℕ) → v < 3 → EachMove (Ready w lo hi A tt) (part v) → One w lo hi A (collect_window cases h) part (λ v t. get t.regs 2 ≡ place v) steps v
+    collect-take : (v : ℕ) → v < 3 → EachMove (Ready w lo hi A tt) (part v)
+        → One w lo hi A (collect_window cases h) part (λ v t. get t.regs 2 ≡ place v) steps v
     unfolding windows_base
     collect-take v low ready t two x y at =
         let far = reach cases h v s low in
@@ -81,12 +83,18 @@ module _ (cases : Cases) (h q : ℕ) (s : AreShaped cases) (mine : h < cases.har
         let line = cases.line / 2 in
         let both : line + line ≡ cases.line = omega (arith, eight) in
         let stride = twice cases h 0 s mine in
-        let is = ap₂ (λ (x y : ℕ). lines_moves p (place v) n x y c) stride both ∙ collect-lines n a cases.line c p (place v) eight in
+        let is = ap₂ (λ (x y : ℕ). lines_moves p (place v) n x y c) stride both ∙ collect-lines n a cases.line c p
+        (place v) eight in
         let whole : (half + half) * c ≡ a * c = ap (λ (x : ℕ). x * c) stride in
         let each : (line + line) * c ≡ cases.line * c = ap (λ (x : ℕ). x * c) both in
-        takes_map (λ u k. k) (λ u k. record { pc = k.pc; moved = subst (λ (l : List Move). HasMoved w l t u) is k.moved; holds = k.two ∙ ap (λ (x : ℕ). place v + x) each })
+        takes_map (λ u k. k) (λ u k. record {
+          pc = k.pc;
+          moved = subst (λ (l : List Move). HasMoved w l t u) is k.moved;
+          holds = k.two ∙ ap (λ (x : ℕ). place v + x) each;
+        })
         (piece_take w lo hi A tt n half line p (place v) c t two (subst (EachMove (Ready w lo hi A tt)) (sym is) ready)
-        (omega (arith, far.place, far.all, whole)) (omega (arith, place-low v (omega arith), far.line, each)) far.count x y at)
+        (omega (arith, far.place, far.all, whole)) (omega (arith, place-low v (omega arith), far.line, each)) far.count
+        x y at)
 
 pub collect_all_runs : (cases : Cases) (h : ℕ) → CollectAllRuns cases h
 unfolding collect_all collect_windows copy_dwords
@@ -100,28 +108,37 @@ collect_all_runs cases h w s b save shaped mine base target near movable at =
     let flat = part-flat cases h q shaped mine in
     let every = all-ready w lo hi all all (λ m i. i) movable in
     let first = each-left (Ready w lo hi (UsesMoves all) tt) registers shared every in
-    let rest = subst (EachMove (Ready w lo hi (UsesMoves all) tt)) flat (each-right (Ready w lo hi (UsesMoves all) tt) registers shared every) in
+    let rest = subst (EachMove (Ready w lo hi (UsesMoves all) tt)) flat
+    (each-right (Ready w lo hi (UsesMoves all) tt) registers shared every) in
     let l1 = copy_dwords 31 0 9 0 30 in
     let l2 : List Instr = addi 2 9 240 ∷ [] in
     let l3 = flat_map (collect_window cases h) three in
     let two = at_front w.text s.pc (l1 ++ l2) l3 at in
     let n1 : length l1 ≡ 60 = length-copy_dwords 31 0 9 0 30 in
     let n2 : length (l1 ++ l2) ≡ 61 = length-append l1 l2 ∙ ap (λ (k : ℕ). k + 1) n1 in
-    let n3 : length (collect_all cases h) ≡ 61 + length l3 = length-append (l1 ++ l2) l3 ∙ ap (λ (k : ℕ). k + length l3) n2 in
+    let n3 : length (collect_all cases h) ≡ 61 + length l3 =
+    length-append (l1 ++ l2) l3 ∙ ap (λ (k : ℕ). k + length l3) n2 in
     let st = steps cases h q shaped mine in
-    takes_more {n = 60 + suc (st 0 + (st 1 + st 2))} (97 + 4 * length (owned cases h)) (omega (arith, few-steps cases h 0 shaped mine))
-    (takes_then {n = 60} {k = suc (st 0 + (st 1 + st 2))} (line_take w lo hi (UsesMoves all) tt 31 9 (omega arith) (omega arith) 30 0 b save s first base target (omega arith) (omega (arith, n3)) (at_front w.text s.pc l1 l2 two)) (λ t f.
+    takes_more {n = 60 + suc (st 0 + (st 1 + st 2))} (97 + 4 * length (owned cases h))
+    (omega (arith, few-steps cases h 0 shaped mine))
+    (takes_then {n = 60} {k = suc (st 0 + (st 1 + st 2))}
+    (line_take w lo hi (UsesMoves all) tt 31 9 (omega arith) (omega arith) 30 0 b save s first base target
+    (omega arith) (omega (arith, n3)) (at_front w.text s.pc l1 l2 two)) (λ t f.
     let pc : t.pc ≡ s.pc + 8 * 30 = f.pc in
     let here = at_next w.text s.pc t.pc l1 l2 60 n1 (omega arith) two in
     let u = computes (addi 2 9 240) t q in
     let nine : get t.regs 9 ≡ save = f.kept 9 (omega arith) ∙ target in
     let behind = at_next w.text s.pc u.pc (l1 ++ l2) l3 61 n2 (omega arith) at in
-    step_addi {n = st 0 + (st 1 + st 2)} q refl here.0 (rw nine (omega arith)) (on_quiet _ t _ tt (omega arith) (omega (arith, n3)))
+    step_addi {n = st 0 + (st 1 + st 2)} q refl here.0 (rw nine (omega arith))
+    (on_quiet _ t _ tt (omega arith) (omega (arith, n3)))
     (takes_map (λ v g. g) (λ v g. record {
       pc = omega (arith, g.pc, n3);
       moved = moved_then w registers shared s t v f.moved (subst (λ (l : List Move). HasMoved w l t v) (sym flat)
-          (moved_quiet w (flat_map (part cases h q shaped mine) three) t u v refl refl (λ r n1 n2 n3 n4. get_put_other t.regs 2 q r n2) (λ k. fit_put t.regs 2 q (omega arith) k) g.moved));
+          (moved_quiet w (flat_map (part cases h q shaped mine) three) t u v refl refl
+          (λ r n1 n2 n3 n4. get_put_other t.regs 2 q r n2) (λ k. fit_put t.regs 2 q (omega arith) k) g.moved));
     })
-    (three_take w lo hi (UsesMoves all) (collect_window cases h) (part cases h q shaped mine) (λ v t. get t.regs 2 ≡ place cases h q shaped mine v) st
-    (λ v low. collect-take cases h q shaped mine w lo hi all (omega arith) v low (part-ready (Ready w lo hi (UsesMoves all) tt) (part cases h q shaped mine) v low rest))
+    (three_take w lo hi (UsesMoves all) (collect_window cases h) (part cases h q shaped mine) (λ v t. get t.regs 2
+    ≡ place cases h q shaped mine v) st
+    (λ v low. collect-take cases h q shaped mine w lo hi all (omega arith) v low
+    (part-ready (Ready w lo hi (UsesMoves all) tt) (part cases h q shaped mine) v low rest))
     u refl (omega arith) (omega (arith, n3)) behind))))

@@ -1,5 +1,6 @@
 -- How many instructions the words have that move lines.
-use Rattle.std.proofs.Common.{◌≡◌, ℕ, ◌+◌, ◌*◌, ◌≤◌, List, [], ◌∷◌, ◌++◌, length, Bool, true, false, ◌==◌, refl, ap, ◌∙◌, arith, length-append}
+use Rattle.std.proofs.Common.{◌≡◌, ℕ, ◌+◌, ◌*◌, ◌≤◌, List, [], ◌∷◌, ◌++◌, length, Bool, true, false, ◌==◌, refl, ap}
+use Rattle.std.proofs.Common.{◌∙◌, arith, length-append}
 use Rattle.std.specs.Prelude.{if◌then◌else◌}
 use Rattle.tm_table.specs.declared.instr.Instr.{Instr}
 use Rattle.tm_blocks_base.specs.Instrs.{addi}
@@ -10,7 +11,8 @@ use Rattle.tm_blocks_move.specs.Words.{line_turn, lines_loop, move_lines}
 module _ (n a b : ℕ) where
   pub length-loop : length (lines_loop n a b) ≡ 2 * n + 6
   unfolding lines_loop
-  length-loop = length-append (copy_dwords 1 0 2 0 n) (line_turn n a b) ∙ ap (λ (k : ℕ). k + 6) (length-copy_dwords 1 0 2 0 n)
+  length-loop = length-append (copy_dwords 1 0 2 0 n) (line_turn n a b) ∙ ap (λ (k : ℕ). k + 6)
+      (length-copy_dwords 1 0 2 0 n)
 
   abbrev pub whole : (from lines : ℕ) → List Instr
   whole from lines = constant 1 from ++ (addi 4 0 lines ∷ []) ++ lines_loop n a b
@@ -21,7 +23,8 @@ module _ (n a b : ℕ) where
       ∙ omega (arith, length-loop, length-append (constant 1 from) (addi 4 0 lines ∷ []), length-constant 1 from)
 
   -- no line, or some
-  pub piece-is : (from lines : ℕ) (c : Bool) → (lines == 0) ≡ c → move_lines from lines n a b ≡ (if c then [] else whole from lines)
+  pub piece-is : (from lines : ℕ) (c : Bool) → (lines == 0) ≡ c → move_lines from lines n a b
+      ≡ (if c then [] else whole from lines)
   unfolding move_lines
   piece-is from lines c e = ap (λ (d : Bool). if d then [] else whole from lines) e
 

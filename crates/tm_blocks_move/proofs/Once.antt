@@ -1,7 +1,9 @@
 -- Each dword that a hart collects is read once, at each step of collecting.
 use Rattle.std.specs.Prelude.{filter, cond, map}
 use Rattle.std.proofs.lemmas.List.{append_cancel_right}
-use Rattle.std.proofs.Common.{◌==◌, ◌≡◌, ℕ, zero, suc, ◌+◌, ◌*◌, ◌%◌, ◌≤◌, List, [], ◌∷◌, ◌++◌, Bool, true, false, true≢false, ◌&&◌, ◌||◌, nat_lt, inl, inr, refl, sym, ap, ap₂, ◌∙◌, subst, arith, append_assoc}
+use Rattle.std.proofs.Common.{◌==◌, ◌≡◌, ℕ, zero, suc, ◌+◌, ◌*◌, ◌%◌, ◌≤◌, List, [], ◌∷◌, ◌++◌, Bool, true, false}
+use Rattle.std.proofs.Common.{true≢false, ◌&&◌, ◌||◌, nat_lt, inl, inr, refl, sym, ap, ap₂, ◌∙◌, subst, arith}
+use Rattle.std.proofs.Common.{append_assoc}
 use Rattle.std.proofs.lemmas.Bool.{and_parts, ltb-true, lt-ltb, le-ltb}
 use Rattle.tm_table.specs.declared.state.Access.{Access}
 use Rattle.tm_table.specs.declared.state.Access.TheVariants.{Quiet, Read, Write}
@@ -20,9 +22,13 @@ use Rattle.tm_blocks_move.specs.Runs.{all_collected}
 use Rattle.tm_blocks_move.proofs.Collecting.{collect_all_runs}
 use Rattle.tm_blocks_move.specs.Once.{FirstTime, PastOn, ReadOnce, CollectsOnce}
 
-past-append : (R : List Access → Access → Type 0) (base xs ys : List Access) → PastOn R (ys ++ base) xs → PastOn R base ys → PastOn R base (xs ++ ys)
+past-append : (R : List Access → Access → Type 0) (base xs ys : List Access) → PastOn R (ys ++ base) xs
+    → PastOn R base ys → PastOn R base (xs ++ ys)
 past-append R base [] ys f g = g
-past-append R base (x ∷ xs) ys f g = (subst (λ (l : List Access). R l x) (sym (append_assoc xs ys base)) f.0, past-append R base xs ys f.1 g)
+past-append R base (x ∷ xs) ys f g = (
+  subst (λ (l : List Access). R l x) (sym (append_assoc xs ys base)) f.0,
+  past-append R base xs ys f.1 g,
+)
 
 -- dwords of 8 bytes that overlap are the same
 overlap : (a b v : ℕ) → a % 8 ≡ 0 → b % 8 ≡ 0 → reads_in a 8 (Read b 8 v) ≡ true → b ≡ a
@@ -38,9 +44,12 @@ Aligned dwords = (a : ℕ) → Among a dwords → a % 8 ≡ 0
 -- moves of which each reads an aligned dword, and none one that another reads, or that the base has read
 abbrev Fresh : List ℕ → List Access → List Move → Type 0
 Fresh dwords base [] = Unit {0}
-Fresh dwords base (m ∷ ms) = (m.0 % 8 ≡ 0) × (Among m.0 dwords → any (reads_in m.0 8) base ≡ false) × ((v : ℕ) → Fresh dwords (Write m.1 8 v ∷ Read m.0 8 v ∷ base) ms)
+Fresh dwords base (m ∷ ms) = (m.0 % 8 ≡ 0) × (Among m.0 dwords → any (reads_in m.0 8) base ≡ false)
+    × ((v : ℕ) → Fresh dwords (Write m.1 8 v ∷ Read m.0 8 v ∷ base) ms)
 
-pub moves-once : (w : World) (dwords : List ℕ) → Aligned dwords → (ms : List Move) (vs : List ℕ) (mem : Table) (base : List Access) → Moves w mem ms vs → Fresh dwords base ms → PastOn (FirstTime dwords) base (moved_accesses ms vs)
+pub moves-once : (w : World) (dwords : List ℕ) → Aligned dwords
+    → (ms : List Move) (vs : List ℕ) (mem : Table) (base : List Access) → Moves w mem ms vs → Fresh dwords base ms
+    → PastOn (FirstTime dwords) base (moved_accesses ms vs)
 moves-once w dwords al [] [] mem base h f = tt
 moves-once w dwords al [] (v ∷ vs) mem base h f = absurd h
 moves-once w dwords al (m ∷ ms) [] mem base h f = absurd h
@@ -50,8 +59,11 @@ moves-once w dwords al (m ∷ ms) (v ∷ vs) mem base h f =
       (λ a i r. absurd (true≢false (sym r))),
       (
         (λ a i r.
-            let same : m.0 ≡ a = overlap a m.0 v (al a i) f.0 r in
-            ((v, ap (λ (x : ℕ). Read x 8 v) same), subst (λ (x : ℕ). any (reads_in x 8) base ≡ false) same (f.1 (subst (λ (x : ℕ). Among x dwords) (sym same) i)))),
+            let same : m.0 ≡ a = overlap a m.0 v (al a i) f.0 r in (
+              (v, ap (λ (x : ℕ). Read x 8 v) same),
+              subst (λ (x : ℕ). any (reads_in x 8) base
+                  ≡ false) same (f.1 (subst (λ (x : ℕ). Among x dwords) (sym same) i)),
+            )),
         tt,
       ),
     )
@@ -81,17 +93,26 @@ rising-row (suc n) p j x al l = (omega arith, l, rising-row n p (suc j) (p + 8 *
 
 pub owned-rises : (cases : Cases) (h : ℕ) → Rising windows_base (owned cases h)
 unfolding owned window_dwords windows_base
-owned-rises cases h = rising-filter (λ a. is_declared cases a && (collector cases a == h)) 2162688000 (map (λ q. 2162688000 + 8 * q) (count_from 0 768)) (rising-row 768 2162688000 0 2162688000 refl (omega arith))
+owned-rises cases h = rising-filter (λ a. is_declared cases a && (collector cases a == h)) 2162688000
+    (map (λ q. 2162688000 + 8 * q) (count_from 0 768)) (rising-row 768 2162688000 0 2162688000 refl (omega arith))
 
 abbrev sources : List Move → List ℕ
 sources ms = map (λ m. m.0) ms
 
-unread : (y a b v u : ℕ) (base : List Access) → a + 8 ≤ y → any (reads_in y 8) base ≡ false → any (reads_in y 8) (Write b 8 u ∷ Read a 8 v ∷ base) ≡ false
-unread y a b v u base l h = ap₂ (λ (x z : Bool). x || z) (ap₂ (λ (x z : Bool). x && z) (lt-ltb a (y + 8) (omega arith)) (le-ltb y (a + 8) l)) h
+unread : (y a b v u : ℕ) (base : List Access) → a + 8 ≤ y → any (reads_in y 8) base ≡ false
+    → any (reads_in y 8) (Write b 8 u ∷ Read a 8 v ∷ base) ≡ false
+unread y a b v u base l h =
+    ap₂ (λ (x z : Bool). x || z) (ap₂ (λ (x z : Bool). x && z) (lt-ltb a (y + 8) (omega arith)) (le-ltb y (a + 8) l)) h
 
-fresh-rising : (dwords : List ℕ) (x : ℕ) (ms : List Move) (base : List Access) → Rising x (sources ms) → ((y : ℕ) → x ≤ y → any (reads_in y 8) base ≡ false) → Fresh dwords base ms
+fresh-rising : (dwords : List ℕ) (x : ℕ) (ms : List Move) (base : List Access) → Rising x (sources ms)
+    → ((y : ℕ) → x ≤ y → any (reads_in y 8) base ≡ false) → Fresh dwords base ms
 fresh-rising dwords x [] base h f = tt
-fresh-rising dwords x (m ∷ ms) base h f = (h.0, (λ _. f m.0 h.1), (λ v. fresh-rising dwords (m.0 + 8) ms (Write m.1 8 v ∷ Read m.0 8 v ∷ base) h.2 (λ y l. unread y m.0 m.1 v v base l (f y (omega (arith, h.1))))))
+fresh-rising dwords x (m ∷ ms) base h f = (
+  h.0,
+  (λ _. f m.0 h.1),
+  (λ v. fresh-rising dwords (m.0 + 8) ms (Write m.1 8 v ∷ Read m.0 8 v ∷ base) h.2
+      (λ y l. unread y m.0 m.1 v v base l (f y (omega (arith, h.1))))),
+)
 
 -- ---- collecting
 
@@ -99,23 +120,29 @@ sources-collect : (xs : List ℕ) (q : ℕ) → sources (collect_moves xs q) ≡
 sources-collect [] q = refl
 sources-collect (x ∷ xs) q = ap (λ (l : List ℕ). x ∷ l) (sources-collect xs (q + 8))
 
-rising-both : (n j b save q x z : ℕ) (xs : List ℕ) → b % 8 ≡ 0 → x ≤ b + 8 * j → b + 8 * (j + n) ≤ z → Rising z xs → Rising x (sources (map (λ i. (b + 8 * i, save + 8 * i)) (count_from j n) ++ collect_moves xs q))
-rising-both zero j b save q x z xs al l m h = subst (Rising x) (sym (sources-collect xs q)) (rising-low x z xs (omega arith) h)
-rising-both (suc n) j b save q x z xs al l m h = (omega arith, l, rising-both n (suc j) b save q (b + 8 * j + 8) z xs al (omega arith) (omega arith) h)
+rising-both : (n j b save q x z : ℕ) (xs : List ℕ) → b % 8 ≡ 0 → x ≤ b + 8 * j → b + 8 * (j + n) ≤ z → Rising z xs
+    → Rising x (sources (map (λ i. (b + 8 * i, save + 8 * i)) (count_from j n) ++ collect_moves xs q))
+rising-both zero j b save q x z xs al l m h =
+    subst (Rising x) (sym (sources-collect xs q)) (rising-low x z xs (omega arith) h)
+rising-both (suc n) j b save q x z xs al l m h =
+    (omega arith, l, rising-both n (suc j) b save q (b + 8 * j + 8) z xs al (omega arith) (omega arith) h)
 
 accesses-append : (xs ys : List Entry) → accesses (xs ++ ys) ≡ accesses xs ++ accesses ys
 accesses-append [] ys = refl
 accesses-append (x ∷ xs) ys = by x.access (accesses-append xs ys)
   where
-    by : (a : Access) → accesses (xs ++ ys) ≡ accesses xs ++ accesses ys → with_access a (accesses (xs ++ ys)) ≡ with_access a (accesses xs) ++ accesses ys
+    by : (a : Access) → accesses (xs ++ ys) ≡ accesses xs ++ accesses ys → with_access a (accesses (xs ++ ys))
+        ≡ with_access a (accesses xs) ++ accesses ys
     by Quiet e = e
     by (Read a n v) e = ap (λ (l : List Access). Read a n v ∷ l) e
     by (Write a n v) e = ap (λ (l : List Access). Write a n v ∷ l) e
 
-once-tail : (cases : Cases) (h : ℕ) (s : State) (e : Entry) (log : List Entry) → ReadOnce cases h s (e ∷ log) → ReadOnce cases h s log
+once-tail : (cases : Cases) (h : ℕ) (s : State) (e : Entry) (log : List Entry) → ReadOnce cases h s (e ∷ log)
+    → ReadOnce cases h s log
 once-tail cases h s e log f es is = by e.access (f (e ∷ es) (ap (λ (l : List Entry). e ∷ l) is))
   where
-    by : (a : Access) → PastOn (FirstTime (owned cases h)) [] (with_access a (accesses es)) → PastOn (FirstTime (owned cases h)) [] (accesses es)
+    by : (a : Access) → PastOn (FirstTime (owned cases h)) [] (with_access a (accesses es))
+        → PastOn (FirstTime (owned cases h)) [] (accesses es)
     by Quiet g = g
     by (Read a n v) g = g.1
     by (Write a n v) g = g.1
@@ -129,13 +156,17 @@ pub collected_once : (cases : Cases) (h : ℕ) → CollectsOnce cases h
 collected_once cases h w s b save near regs mem shaped mine base target few al below movable at =
     let dwords = owned cases h in
     let ms = all_collected cases h b save in
-    let rises = rising-both 30 0 b save (save + 240) b windows_base dwords al (omega arith) below (owned-rises cases h) in
+    let rises = rising-both 30 0 b save (save + 240) b windows_base dwords al (omega arith) below (owned-rises cases h)
+    in
     takes_map (λ t g. g) (λ t q. q.0)
     (takes_told w near (ReadOnce cases h s) (once-tail cases h s)
     (λ u d es is.
-    let both : accesses es ++ accesses s.log ≡ moved_accesses ms d.moved.values ++ accesses s.log = sym (accesses-append es s.log) ∙ (ap accesses (sym is) ∙ d.moved.accesses) in
-    let same : accesses es ≡ moved_accesses ms d.moved.values = append_cancel_right (accesses es) (moved_accesses ms d.moved.values) (accesses s.log) both in
+    let both : accesses es ++ accesses s.log ≡ moved_accesses ms d.moved.values ++ accesses s.log =
+    sym (accesses-append es s.log) ∙ (ap accesses (sym is) ∙ d.moved.accesses) in
+    let same : accesses es ≡ moved_accesses ms d.moved.values =
+    append_cancel_right (accesses es) (moved_accesses ms d.moved.values) (accesses s.log) both in
     subst (PastOn (FirstTime dwords) []) (sym same)
-    (moves-once w dwords (aligned windows_base dwords (owned-rises cases h)) ms d.moved.values s.mem [] d.moved.moves (fresh-rising dwords b ms [] rises (λ y l. refl))))
+    (moves-once w dwords (aligned windows_base dwords (owned-rises cases h)) ms d.moved.values s.mem [] d.moved.moves
+    (fresh-rising dwords b ms [] rises (λ y l. refl))))
     (record { regs = regs; mem = mem })
     (collect_all_runs cases h w s b save shaped mine base target few movable at))

@@ -1,5 +1,6 @@
 -- The moves may be made in the world of each hart.
-use Rattle.std.proofs.Common.{◌≡◌, ℕ, zero, suc, ◌+◌, ◌-◌, ◌*◌, ◌%◌, ◌&&◌, ◌==◌, ◌≤◌, List, [], ◌∷◌, ◌++◌, length, map, Bool, true, false, refl, arith}
+use Rattle.std.proofs.Common.{◌≡◌, ℕ, zero, suc, ◌+◌, ◌-◌, ◌*◌, ◌%◌, ◌&&◌, ◌==◌, ◌≤◌, List, [], ◌∷◌, ◌++◌, length}
+use Rattle.std.proofs.Common.{map, Bool, true, false, refl, arith}
 use Rattle.std.specs.Prelude.{filter, cond}
 use Rattle.tm_plan_cases.specs.declared.program.Program.{Program}
 use Rattle.tm_plan_map.specs.Map.{guest_base, guest_end, windows_base, windows_size, private_at, save_at}
@@ -32,11 +33,15 @@ dwords-filter test (x ∷ xs) h = by (test x) (dwords-filter test xs h.1)
 dwords-from : (n a : ℕ) → a + n ≤ 768 → Dwords (map (λ q. windows_base + 8 * q) (count_from a n))
 unfolding windows_base
 dwords-from zero a l = tt
-dwords-from (suc n) a l = (record { low = omega arith; high = omega arith; aligned = omega arith }, dwords-from n (suc a) (omega arith))
+dwords-from (suc n) a l = (
+  record { low = omega arith; high = omega arith; aligned = omega arith },
+  dwords-from n (suc a) (omega arith),
+)
 
 pub owned-dwords : (p : Program) (h : ℕ) → Dwords (owned p.cases h)
 unfolding owned window_dwords
-owned-dwords p h = dwords-filter (λ a. is_declared p.cases a && (collector p.cases a == h)) (map (λ q. windows_base + 8 * q) (count_from 0 768)) (dwords-from 768 0 (omega arith))
+owned-dwords p h = dwords-filter (λ a. is_declared p.cases a && (collector p.cases a == h))
+    (map (λ q. windows_base + 8 * q) (count_from 0 768)) (dwords-from 768 0 (omega arith))
 
 free-at : (p : Program) (a : ℕ) → Sizes p → 2160066560 ≤ a → is_fixed_dword p a ≡ false
 free-at p a s l = by (is_fixed_dword p a) refl
@@ -46,7 +51,8 @@ free-at p a s l = by (is_fixed_dword p a) refl
     by false q = q
 
 module _ (p : Program) (h : ℕ) (s : Sizes p) where
-  movable : (a b : ℕ) → a % 8 ≡ 0 → b % 8 ≡ 0 → guest_base ≤ a → a + 8 ≤ guest_end → 2160066560 ≤ b → b + 8 ≤ guest_end → Movable (world_of p h) (a, b)
+  movable : (a b : ℕ) → a % 8 ≡ 0 → b % 8 ≡ 0 → guest_base ≤ a → a + 8 ≤ guest_end → 2160066560 ≤ b → b + 8 ≤ guest_end
+      → Movable (world_of p h) (a, b)
   unfolding guest_base guest_end
   movable a b al bl x y z q = record {
     read = (al, guest-true a x y);
@@ -56,20 +62,34 @@ module _ (p : Program) (h : ℕ) (s : Sizes p) where
     free = free-at p b s z;
   }
 
-  sets : (from : ℕ) → from % 8 ≡ 0 → guest_base ≤ from → from + windows_size ≤ guest_end → (xs : List ℕ) → Dwords xs → EachMove (Movable (world_of p h)) (set_moves from xs)
+  sets : (from : ℕ) → from % 8 ≡ 0 → guest_base ≤ from → from + windows_size ≤ guest_end → (xs : List ℕ) → Dwords xs
+      → EachMove (Movable (world_of p h)) (set_moves from xs)
   unfolding guest_base guest_end windows_size windows_base
   sets from al x y [] d = tt
-  sets from al x y (a ∷ xs) d = let lo = d.0.low in let up = d.0.high in let ev = d.0.aligned in (movable (from + (a - 2162688000)) a (omega arith) ev (omega arith) (omega arith) (omega arith) (omega arith), sets from al x y xs d.1)
+  sets from al x y (a ∷ xs) d = let lo = d.0.low in let up = d.0.high in let ev = d.0.aligned in (
+    movable (from + (a - 2162688000)) a (omega arith) ev (omega arith) (omega arith) (omega arith) (omega arith),
+    sets from al x y xs d.1,
+  )
 
-  collects : (xs : List ℕ) (q : ℕ) → Dwords xs → q % 8 ≡ 0 → 2160066560 ≤ q → q + 8 * length xs ≤ guest_end → EachMove (Movable (world_of p h)) (collect_moves xs q)
+  collects : (xs : List ℕ) (q : ℕ) → Dwords xs → q % 8 ≡ 0 → 2160066560 ≤ q → q + 8 * length xs ≤ guest_end
+      → EachMove (Movable (world_of p h)) (collect_moves xs q)
   unfolding guest_base guest_end
   collects [] q d al x y = tt
-  collects (a ∷ xs) q d al x y = let lo = d.0.low in let up = d.0.high in let ev = d.0.aligned in (movable a q ev al (omega arith) (omega arith) x (omega arith), collects xs (q + 8) d.1 (omega arith) (omega arith) (omega arith))
+  collects (a ∷ xs) q d al x y = let lo = d.0.low in let up = d.0.high in let ev = d.0.aligned in (
+    movable a q ev al (omega arith) (omega arith) x (omega arith),
+    collects xs (q + 8) d.1 (omega arith) (omega arith) (omega arith),
+  )
 
-  lines : (n j a b : ℕ) → a % 8 ≡ 0 → b % 8 ≡ 0 → guest_base ≤ a → a + 8 * (j + n) ≤ guest_end → 2160066560 ≤ b → b + 8 * (j + n) ≤ guest_end → EachMove (Movable (world_of p h)) (map (λ i. (a + 8 * i, b + 8 * i)) (count_from j n))
+  lines : (n j a b : ℕ) → a % 8 ≡ 0 → b % 8 ≡ 0 → guest_base ≤ a → a + 8 * (j + n) ≤ guest_end → 2160066560 ≤ b
+      → b + 8 * (j + n) ≤ guest_end
+      → EachMove (Movable (world_of p h)) (map (λ i. (a + 8 * i, b + 8 * i)) (count_from j n))
   unfolding guest_base guest_end
   lines zero j a b al bl x y z q = tt
-  lines (suc n) j a b al bl x y z q = (movable (a + 8 * j) (b + 8 * j) (omega arith) (omega arith) (omega arith) (omega arith) (omega arith) (omega arith), lines n (suc j) a b al bl x (omega arith) z (omega arith))
+  lines (suc n) j a b al bl x y z q = (
+    movable (a + 8 * j) (b + 8 * j) (omega arith) (omega arith) (omega arith) (omega arith) (omega arith)
+        (omega arith),
+    lines n (suc j) a b al bl x (omega arith) z (omega arith),
+  )
 
 both : (P' : Move → Type 0) (xs ys : List Move) → EachMove P' xs → EachMove P' ys → EachMove P' (xs ++ ys)
 both P' [] ys a b = b
@@ -79,7 +99,8 @@ filter-short : (test : ℕ → Bool) (xs : List ℕ) → length (filter test xs)
 filter-short test [] = omega arith
 filter-short test (x ∷ xs) = by (test x) (filter-short test xs)
   where
-    by : (b : Bool) → length (filter test xs) ≤ length xs → length (cond b (x ∷ filter test xs) (filter test xs)) ≤ suc (length xs)
+    by : (b : Bool) → length (filter test xs) ≤ length xs → length (cond b (x ∷ filter test xs) (filter test xs))
+        ≤ suc (length xs)
     by true l = omega arith
     by false l = omega arith
 
@@ -89,14 +110,23 @@ length-from f (suc n) a = let l = length-from f n (suc a) in omega arith
 
 pub owned-short : (p : Program) (h : ℕ) → length (owned p.cases h) ≤ 768
 unfolding owned window_dwords
-owned-short p h = omega (arith, filter-short (λ a. is_declared p.cases a && (collector p.cases a == h)) (map (λ q. windows_base + 8 * q) (count_from 0 768)), length-from (λ q. windows_base + 8 * q) 768 0)
+owned-short p h =
+    omega (
+      arith,
+      filter-short (λ a. is_declared p.cases a && (collector p.cases a == h))
+          (map (λ q. windows_base + 8 * q) (count_from 0 768)),
+      length-from (λ q. windows_base + 8 * q) 768 0,
+    )
 
 pub fits_in : (p : Program) (h : ℕ) → FitsIn p h
 unfolding private_at save_at guest_base guest_end
 fits_in p h s shaped mine = record {
   first = λ from al x y. sets p h s from al x y (owned p.cases h) (owned-dwords p h);
   collect = λ k l. let n = owned-short p h in let few = s.harts in
-      both (Movable (world_of p h)) (line_moves (private_at h) (save_at h k) 30) (collect_moves (owned p.cases h) (save_at h k + 240))
-      (lines p h s 30 0 (private_at h) (save_at h k) (omega arith) (omega arith) (omega arith) (omega arith) (omega arith) (omega arith))
-      (collects p h s (owned p.cases h) (save_at h k + 240) (owned-dwords p h) (omega arith) (omega arith) (omega arith));
+      both (Movable (world_of p h)) (line_moves (private_at h) (save_at h k) 30)
+      (collect_moves (owned p.cases h) (save_at h k + 240))
+      (lines p h s 30 0 (private_at h) (save_at h k) (omega arith) (omega arith) (omega arith) (omega arith)
+      (omega arith) (omega arith))
+      (collects p h s (owned p.cases h) (save_at h k + 240) (owned-dwords p h) (omega arith) (omega arith)
+      (omega arith));
 }

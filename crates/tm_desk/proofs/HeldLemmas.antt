@@ -1,5 +1,7 @@
 -- What a list of files holds after a file was put in its place.
-use Rattle.std.proofs.Common.{◌≡◌, ◌+◌, ◌<◌, ◌≤◌, ℕ, suc, List, [], ◌∷◌, ◌++◌, Bool, not, true, false, Option, Some, None, cond, unwrap_or, length, take, drop, get_or, set, refl, sym, ◌∙◌, ap, arith, rules}
+use Rattle.std.proofs.Common.{◌≡◌, ◌+◌, ◌<◌, ◌≤◌, ℕ, suc, List, [], ◌∷◌, ◌++◌, Bool, not, true, false, Option, Some}
+use Rattle.std.proofs.Common.{None, cond, unwrap_or, length, take, drop, get_or, set, refl, sym, ◌∙◌, ap, arith}
+use Rattle.std.proofs.Common.{rules}
 use Rattle.std.proofs.Math.Seq.{take-length, drop-cons}
 use Rattle.std.proofs.lemmas.List.{take_more, set_split, take-append-drop}
 use Rattle.std.proofs.lemmas.Slice.Eq.{bytes_eq-Decides}
@@ -18,17 +20,21 @@ file_of-same f fs name same =
     ap (λ b. cond b (Some f.bytes) (file_of fs name)) ((bytes_eq-Decides f.name name).1 same)
 
 -- a file of another name at the head
-pub file_of-other : (f : File) (fs : List File) (name : List ℕ) → ¬ (f.name ≡ name) → file_of (f ∷ fs) name ≡ file_of fs name
+pub file_of-other : (f : File) (fs : List File) (name : List ℕ) → ¬ (f.name ≡ name) → file_of (f ∷ fs) name
+    ≡ file_of fs name
 file_of-other f fs name other =
-    let unequal = false_if_not_true (bytes_eq f.name name) (λ is_true. other ((bytes_eq-Decides f.name name).0 is_true)) in
+    let unequal = false_if_not_true (bytes_eq f.name name) (λ is_true. other ((bytes_eq-Decides f.name name).0 is_true))
+    in
     ap (λ b. cond b (Some f.bytes) (file_of fs name)) unequal
 
-none_then : (b : Bool) (x : List ℕ) (o p q : Option (List ℕ)) → cond b (Some x) o ≡ None → (o ≡ None → p ≡ q) → cond b (Some x) p ≡ q
+none_then : (b : Bool) (x : List ℕ) (o p q : Option (List ℕ)) → cond b (Some x) o ≡ None → (o ≡ None → p ≡ q)
+    → cond b (Some x) p ≡ q
 none_then true x o p q none next = search rules
 none_then false x o p q none next = next none
 
 -- after files of other names
-pub file_of-append : (xs ys : List File) (name : List ℕ) → file_of xs name ≡ None → file_of (xs ++ ys) name ≡ file_of ys name
+pub file_of-append : (xs ys : List File) (name : List ℕ) → file_of xs name ≡ None → file_of (xs ++ ys) name
+    ≡ file_of ys name
 file_of-append [] ys name none = refl
 file_of-append (f ∷ xs) ys name none =
     none_then (bytes_eq f.name name) f.bytes (file_of xs name) (file_of (xs ++ ys) name) (file_of ys name) none
@@ -66,7 +72,8 @@ file_of-at_place fs name i d place inside =
     ∙ file_of-same (get_or fs i d) (drop (suc i) fs) name (place.same_name d inside)
 
 -- no file has a name whose place is the length
-pub file_of-no_place : (fs : List File) (name : List ℕ) (i : ℕ) → IsPlace fs name i → length fs ≤ i → file_of fs name ≡ None
+pub file_of-no_place : (fs : List File) (name : List ℕ) (i : ℕ) → IsPlace fs name i → length fs ≤ i
+    → file_of fs name ≡ None
 file_of-no_place fs name i place past =
     let whole : i ≡ length fs = omega (arith, past, place.within) in
     ap (λ all. file_of all name) (sym (take-length fs))
@@ -74,7 +81,8 @@ file_of-no_place fs name i place past =
     ∙ place.earlier
 
 -- the name of a file that was put in its place
-pub file_of-set : (fs : List File) (name : List ℕ) (i : ℕ) (f : File) (bytes : List ℕ) → IsPlace fs name i → i < length fs →
+pub file_of-set : (fs : List File) (name : List ℕ) (i : ℕ) (f : File) (bytes : List ℕ) → IsPlace fs name i
+    → i < length fs →
     f.name ≡ name → f.bytes ≡ bytes → file_of (set fs i f) name ≡ Some bytes
 file_of-set fs name i f bytes place inside same holds =
     ap (λ all. file_of all name) (set_split fs i f inside)
@@ -83,7 +91,8 @@ file_of-set fs name i f bytes place inside same holds =
     ∙ ap (λ b. Some b) holds
 
 -- the other names after a file was put in its place
-pub others-set : (fs : List File) (name : List ℕ) (i : ℕ) (f : File) → IsPlace fs name i → i < length fs → f.name ≡ name →
+pub others-set : (fs : List File) (name : List ℕ) (i : ℕ) (f : File) → IsPlace fs name i → i < length fs → f.name ≡ name
+    →
     OthersStay (file_of fs) (file_of (set fs i f)) name
 others-set fs name i f place inside same other differs =
     let before = take i fs in
@@ -95,7 +104,8 @@ others-set fs name i f place inside same other differs =
     ∙ sym (ap (λ all. file_of all other) (parts fs i f inside))
 
 -- the name of a file that was added at the end
-pub file_of-push : (fs : List File) (name : List ℕ) (f : File) (bytes : List ℕ) → file_of fs name ≡ None → f.name ≡ name →
+pub file_of-push : (fs : List File) (name : List ℕ) (f : File) (bytes : List ℕ) → file_of fs name ≡ None → f.name ≡ name
+    →
     f.bytes ≡ bytes → file_of (fs ++ f ∷ []) name ≡ Some bytes
 file_of-push fs name f bytes none same holds =
     file_of-append fs (f ∷ []) name none ∙ file_of-same f [] name same ∙ ap (λ b. Some b) holds

@@ -1,5 +1,7 @@
 -- Symbols, read back.
-use Rattle.std.proofs.Common.{◌≡◌, ℕ, zero, suc, ◌+◌, ◌*◌, ◌^◌, ◌<◌, ◌≤◌, ◌==◌, ◌&&◌, true, false, not, nat_lt, nat_le, Option, Some, Result, Ok, List, [], ◌∷◌, ◌++◌, All, length, take, drop, refl, ap, ◌∙◌, sym, arith, length-append}
+use Rattle.std.proofs.Common.{◌≡◌, ℕ, zero, suc, ◌+◌, ◌*◌, ◌^◌, ◌<◌, ◌≤◌, ◌==◌, ◌&&◌, true, false, not, nat_lt}
+use Rattle.std.proofs.Common.{nat_le, Option, Some, Result, Ok, List, [], ◌∷◌, ◌++◌, All, length, take, drop, refl}
+use Rattle.std.proofs.Common.{ap, ◌∙◌, sym, arith, length-append}
 use Rattle.std.specs.Int.{from_le_bytes, to_le_bytes, w32, w64}
 use Rattle.std.specs.List.{flat_map, list_all, prefix_len}
 use Rattle.std.proofs.lemmas.Bool.Decides.{nat_tests}
@@ -38,23 +40,28 @@ name_is name is =
     rw (a, b) is.ascii
 
 front_is : (name rest : List ℕ) → length name ≤ 32 → take (length name) (take 33 (name ++ 0 ∷ rest)) ≡ name
-front_is name rest short = take-take (length name) 33 (name ++ 0 ∷ rest) (omega (arith, short)) ∙ take_at name (0 ∷ rest) (length name) refl
+front_is name rest short = take-take (length name) 33 (name ++ 0 ∷ rest) (omega (arith, short)) ∙ take_at name (0
+    ∷ rest) (length name) refl
 
 name_back : (name rest : List ℕ) → IsName name → name_len (take 33 (name ++ 0 ∷ rest)) ≡ Some (length name)
 unfolding name_len
 name_back name rest is =
     let short = is.short in
-    let n : prefix_len (λ b. not (b == 0)) (take 33 (name ++ 0 ∷ rest)) ≡ length name = front_of_name name rest 33 (omega (arith, short)) is.ascii in
-    let l : length name < length (take 33 (name ++ 0 ∷ rest)) = omega (arith, length-take 33 (name ++ 0 ∷ rest), length-append name (0 ∷ rest)) in
+    let n : prefix_len (λ b. not (b == 0)) (take 33 (name ++ 0 ∷ rest)) ≡ length name =
+    front_of_name name rest 33 (omega (arith, short)) is.ascii in
+    let l : length name < length (take 33 (name ++ 0 ∷ rest)) =
+    omega (arith, length-take 33 (name ++ 0 ∷ rest), length-append name (0 ∷ rest)) in
     let within : nat_lt (length name) (length (take 33 (name ++ 0 ∷ rest))) ≡ true = grind (arith, nat_tests) in
-    let front : is_name (take (length name) (take 33 (name ++ 0 ∷ rest))) ≡ true = ap is_name (front_is name rest short) ∙ name_is name is in
+    let front : is_name (take (length name) (take 33 (name ++ 0 ∷ rest))) ≡ true =
+    ap is_name (front_is name rest short) ∙ name_is name is in
     rw (n, within, front) refl
 
 entry_word : (name addr : ℕ) (rest : List ℕ) → take 4 (bytes_of (entry name addr) ++ rest) ≡ to_le_bytes w32 name
 unfolding entry field_bytes
 entry_word name addr rest = refl
 
-entry_addr : (name addr : ℕ) (rest : List ℕ) → take 8 (drop 8 (bytes_of (entry name addr) ++ rest)) ≡ to_le_bytes w64 addr
+entry_addr : (name addr : ℕ) (rest : List ℕ) → take 8 (drop 8 (bytes_of (entry name addr) ++ rest))
+    ≡ to_le_bytes w64 addr
 unfolding entry field_bytes
 entry_addr name addr rest = refl
 
@@ -65,36 +72,51 @@ entry_end name addr rest = refl
 abbrev name_bytes : List Symbol → List ℕ
 name_bytes ss = flat_map (λ (s : Symbol). s.name ++ 0 ∷ []) ss
 
-symbol_back : (table strings rest more : List ℕ) (index name : ℕ) (s : Symbol) → IsName s.name → s.addr < 2 ^ 64 → name < 2 ^ 32
-    → drop (24 * index) table ≡ bytes_of (entry name s.addr) ++ rest → drop name strings ≡ s.name ++ 0 ∷ more → symbol_at table strings index ≡ Some s
+symbol_back : (table strings rest more : List ℕ) (index name : ℕ) (s : Symbol) → IsName s.name → s.addr < 2 ^ 64
+    → name < 2 ^ 32
+    → drop (24 * index) table ≡ bytes_of (entry name s.addr) ++ rest → drop name strings ≡ s.name ++ 0 ∷ more
+    → symbol_at table strings index ≡ Some s
 unfolding symbol_at word_at long_at
 symbol_back table strings rest more index name s is addr fits e f =
-    let w : from_le_bytes w32 (take 4 (drop (24 * index) table)) ≡ name = ap (λ b. from_le_bytes w32 (take 4 b)) e ∙ ap (from_le_bytes w32) (entry_word name s.addr rest) ∙ from_le_bytes-to_le_bytes_4 name fits in
+    let w : from_le_bytes w32 (take 4 (drop (24 * index) table)) ≡ name =
+    ap (λ b. from_le_bytes w32 (take 4 b)) e ∙ ap (from_le_bytes w32) (entry_word name s.addr rest) ∙
+    from_le_bytes-to_le_bytes_4 name fits in
     let a : from_le_bytes w64 (take 8 (drop (24 * index + 8) table)) ≡ s.addr =
-    ap (λ b. from_le_bytes w64 (take 8 b)) (sym (drop-drop 8 (24 * index) table) ∙ ap (drop 8) e) ∙ ap (from_le_bytes w64) (entry_addr name s.addr rest) ∙ from_le_bytes-to_le_bytes_8 s.addr addr in
+    ap (λ b. from_le_bytes w64 (take 8 b)) (sym (drop-drop 8 (24 * index) table) ∙ ap (drop 8) e) ∙ ap
+    (from_le_bytes w64) (entry_addr name s.addr rest) ∙ from_le_bytes-to_le_bytes_8 s.addr addr in
     rw (w, f, name_back s.name more is) (rw (a, front_is s.name more is.short) refl)
 
-then_back : (index : ℕ) (o : Option Symbol) (r : Result (List Symbol) ElfFault) (s : Symbol) (ss : List Symbol) → o ≡ Some s → r ≡ Ok ss → then_symbols index o r ≡ Ok (s ∷ ss)
+then_back : (index : ℕ) (o : Option Symbol) (r : Result (List Symbol) ElfFault) (s : Symbol) (ss : List Symbol)
+    → o ≡ Some s → r ≡ Ok ss → then_symbols index o r ≡ Ok (s ∷ ss)
 then_back index o r s ss e f = rw (e, f) refl
 
-entries_back : (ss : List Symbol) (table strings : List ℕ) (index name : ℕ) → All (λ s. IsName s.name) ss → All (λ s. s.addr < 2 ^ 64) ss → name + 33 * length ss < 2 ^ 32
-    → drop (24 * index) table ≡ entries name ss → drop name strings ≡ name_bytes ss → symbols_from table strings (length ss) index ≡ Ok ss
+entries_back : (ss : List Symbol) (table strings : List ℕ) (index name : ℕ) → All (λ s. IsName s.name) ss
+    → All (λ s. s.addr < 2 ^ 64) ss → name + 33 * length ss < 2 ^ 32
+    → drop (24 * index) table ≡ entries name ss → drop name strings ≡ name_bytes ss
+    → symbols_from table strings (length ss) index ≡ Ok ss
 unfolding entries symbols_from
 entries_back [] table strings index name names addrs fits e f = refl
 entries_back (s ∷ ss) table strings index name names addrs fits e f =
     let is = All-head (λ (s : Symbol). IsName s.name) s ss names in
     let short = is.short in
     let named : drop name strings ≡ s.name ++ 0 ∷ name_bytes ss = f ∙ append_assoc s.name (0 ∷ []) (name_bytes ss) in
-    let here = symbol_back table strings (entries (name + length s.name + 1) ss) (name_bytes ss) index name s is (All-head (λ (s : Symbol). s.addr < 2 ^ 64) s ss addrs) (omega (arith, fits)) e named in
+    let here = symbol_back table strings (entries (name + length s.name + 1) ss) (name_bytes ss) index name s is
+    (All-head (λ (s : Symbol). s.addr < 2 ^ 64) s ss addrs) (omega (arith, fits)) e named in
     let step : 24 * (index + 1) ≡ 24 * index + 24 = omega arith in
     let next : drop (24 * (index + 1)) table ≡ entries (name + length s.name + 1) ss =
-    ap (λ n. drop n table) step ∙ sym (drop-drop 24 (24 * index) table) ∙ ap (drop 24) e ∙ entry_end name s.addr (entries (name + length s.name + 1) ss) in
+    ap (λ n. drop n table) step ∙ sym (drop-drop 24 (24 * index) table) ∙ ap (drop 24) e ∙ entry_end name s.addr
+    (entries (name + length s.name + 1) ss) in
     let behind : drop (name + length s.name + 1) strings ≡ name_bytes ss =
-    sym (drop-drop 1 (name + length s.name) strings) ∙ ap (drop 1) (sym (drop-drop (length s.name) name strings) ∙ ap (drop (length s.name)) named ∙ drop_at s.name (0 ∷ name_bytes ss) (length s.name) refl) in
-    let rest = entries_back ss table strings (index + 1) (name + length s.name + 1) (All-tail (λ (s : Symbol). IsName s.name) s ss names) (All-tail (λ (s : Symbol). s.addr < 2 ^ 64) s ss addrs) (omega (arith, fits, short)) next behind in
+    sym (drop-drop 1 (name + length s.name) strings) ∙ ap (drop 1)
+    (sym (drop-drop (length s.name) name strings) ∙ ap (drop (length s.name)) named ∙ drop_at s.name (0
+    ∷ name_bytes ss) (length s.name) refl) in
+    let rest = entries_back ss table strings (index + 1) (name + length s.name + 1)
+    (All-tail (λ (s : Symbol). IsName s.name) s ss names) (All-tail (λ (s : Symbol). s.addr < 2 ^ 64) s ss addrs)
+    (omega (arith, fits, short)) next behind in
     then_back index _ _ s ss here rest
 
-pub symbols_back : (ss : List Symbol) → length ss ≤ 65535 → All (λ s. IsName s.name) ss → All (λ s. s.addr < 2 ^ 64) ss → symbols_from (symbol_bytes ss) (string_bytes ss) (length ss) 1 ≡ Ok ss
+pub symbols_back : (ss : List Symbol) → length ss ≤ 65535 → All (λ s. IsName s.name) ss → All (λ s. s.addr < 2 ^ 64) ss
+    → symbols_from (symbol_bytes ss) (string_bytes ss) (length ss) 1 ≡ Ok ss
 unfolding symbol_bytes string_bytes
 symbols_back ss few names addrs = entries_back ss _ _ 1 1 names addrs (omega (arith, few)) refl refl
 
@@ -103,4 +125,10 @@ unfolding string_bytes
 strings_short [] names = omega arith
 strings_short (s ∷ ss) names =
     let short = (All-head (λ (s : Symbol). IsName s.name) s ss names).short in
-    omega (arith, short, strings_short ss (All-tail (λ (s : Symbol). IsName s.name) s ss names), length-append (s.name ++ 0 ∷ []) (name_bytes ss), length-append s.name (0 ∷ []))
+    omega (
+      arith,
+      short,
+      strings_short ss (All-tail (λ (s : Symbol). IsName s.name) s ss names),
+      length-append (s.name ++ 0 ∷ []) (name_bytes ss),
+      length-append s.name (0 ∷ []),
+    )

@@ -1,5 +1,6 @@
 -- Symbols read one by one.
-use Rattle.std.proofs.Common.{◌≡◌, ℕ, suc, ◌+◌, ◌-◌, ◌<◌, ◌≤◌, List, [], ◌∷◌, ◌++◌, Some, None, Result, Ok, Err, refl, ap, ◌∙◌, sym, arith}
+use Rattle.std.proofs.Common.{◌≡◌, ℕ, suc, ◌+◌, ◌-◌, ◌<◌, ◌≤◌, List, [], ◌∷◌, ◌++◌, Some, None, Result, Ok, Err, refl}
+use Rattle.std.proofs.Common.{ap, ◌∙◌, sym, arith}
 use Rattle.std.proofs.lemmas.List.{append-nil, append_assoc}
 use Rattle.tm_elf_write.specs.declared.parts.Symbol.{Symbol}
 use Rattle.tm_elf_head.specs.declared.fault.ElfFault.{ElfFault}
@@ -15,12 +16,15 @@ pub prepend_start : (r : Result (List Symbol) ElfFault) → prepend [] r ≡ r
 prepend_start (Ok ss) = refl
 prepend_start (Err e) = refl
 
-one_more : (index : ℕ) (out : List Symbol) (s : Symbol) (rest : Result (List Symbol) ElfFault) → prepend (out ++ s ∷ []) rest ≡ prepend out (then_symbols index (Some s) rest)
+one_more : (index : ℕ) (out : List Symbol) (s : Symbol) (rest : Result (List Symbol) ElfFault)
+    → prepend (out ++ s ∷ []) rest ≡ prepend out (then_symbols index (Some s) rest)
 one_more index out s (Ok ss) = ap Ok (append_assoc out (s ∷ []) ss)
 one_more index out s (Err e) = refl
 
-pub prepend_more : (table strings : List ℕ) (count index : ℕ) (out : List Symbol) (s : Symbol) (r : Result (List Symbol) ElfFault)
-    → index < count → symbol_at table strings index ≡ Some s → prepend out (symbols_from table strings (count - index) index) ≡ r
+pub prepend_more : (table strings : List ℕ) (count index : ℕ) (out : List Symbol) (s : Symbol)
+    (r : Result (List Symbol) ElfFault)
+    → index < count → symbol_at table strings index ≡ Some s
+    → prepend out (symbols_from table strings (count - index) index) ≡ r
     → prepend (out ++ s ∷ []) (symbols_from table strings (count - (index + 1)) (index + 1)) ≡ r
 unfolding symbols_from
 prepend_more table strings count index out s r less found h =
@@ -28,7 +32,8 @@ prepend_more table strings count index out s r less found h =
     one_more index out s (symbols_from table strings (count - (index + 1)) (index + 1)) ∙ (rw (e, found) at h)
 
 pub prepend_stop : (table strings : List ℕ) (count index : ℕ) (out : List Symbol) (r : Result (List Symbol) ElfFault)
-    → index < count → symbol_at table strings index ≡ None → prepend out (symbols_from table strings (count - index) index) ≡ r → r ≡ Err (BadSymbol index)
+    → index < count → symbol_at table strings index ≡ None
+    → prepend out (symbols_from table strings (count - index) index) ≡ r → r ≡ Err (BadSymbol index)
 unfolding symbols_from
 prepend_stop table strings count index out r less none h =
     let e : count - index ≡ suc (count - (index + 1)) = omega arith in

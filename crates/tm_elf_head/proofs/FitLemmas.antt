@@ -1,5 +1,6 @@
 -- What the tests say of the ranges that are read.
-use Rattle.std.proofs.Common.{◌≡◌, ℕ, ◌+◌, ◌-◌, ◌%◌, ◌<◌, ◌≤◌, ◌==◌, ◌&&◌, Bool, true, false, cond, nat_lt, nat_le, Option, Some, None, List, length, drop, refl, arith, length-drop}
+use Rattle.std.proofs.Common.{◌≡◌, ℕ, ◌+◌, ◌-◌, ◌%◌, ◌<◌, ◌≤◌, ◌==◌, ◌&&◌, Bool, true, false, cond, nat_lt, nat_le}
+use Rattle.std.proofs.Common.{Option, Some, None, List, length, drop, refl, arith, length-drop}
 use Rattle.std.proofs.lemmas.List.{length-take}
 use Rattle.std.proofs.lemmas.Bool.Decides.{nat_tests}
 use Rattle.tm_elf_head.specs.declared.spans.Span.{Span}
@@ -25,7 +26,8 @@ unfolding ends_by
 ends limit span h = at_most (span.at + span.len) limit h
 
 -- a range within a file has its length
-pub length_in : (span : Span) (bytes : List ℕ) → span.at + span.len ≤ length bytes → length (bytes_in span bytes) ≡ span.len
+pub length_in : (span : Span) (bytes : List ℕ) → span.at + span.len ≤ length bytes → length (bytes_in span bytes)
+    ≡ span.len
 length_in span bytes h = omega (arith, length-take span.len (drop span.at bytes), length-drop span.at bytes)
 
 pub record TextFits (bytes : List ℕ) : Type 0 where
@@ -47,7 +49,8 @@ text_holds bytes t u =
     let b = both _ _ a.1 in
     let c = both _ _ b.1 in
     let e = both (ends_by (headers_at bytes) (segment bytes 1)) (nat_le (segment bytes 1).len 4194304) u in
-    let end : (segment bytes 0).at + (segment bytes 0).len ≤ length bytes - 512 = ends (headers_at bytes) (segment bytes 0) a.0 in
+    let end : (segment bytes 0).at + (segment bytes 0).len ≤ length bytes - 512 =
+    ends (headers_at bytes) (segment bytes 0) a.0 in
     record {
       some = below _ _ c.0;
       most = at_most _ _ b.0;
@@ -77,7 +80,8 @@ symbols_fit bytes h =
     let b = both _ _ a.1 in
     let c = both _ _ b.1 in
     let d = both _ _ c.1 in
-    let end : (section bytes 5).at + (section bytes 5).len ≤ length bytes - 512 = ends (headers_at bytes) (section bytes 5) a.0 in
+    let end : (section bytes 5).at + (section bytes 5).len ≤ length bytes - 512 =
+    ends (headers_at bytes) (section bytes 5) a.0 in
     record {
       some = below _ _ c.0;
       few = at_most _ _ d.0;

@@ -1,5 +1,6 @@
 -- The file header, read back.
-use Rattle.std.proofs.Common.{◌≡◌, ℕ, ◌+◌, ◌-◌, ◌^◌, ◌<◌, ◌≤◌, ◌==◌, true, false, nat_lt, None, is_some, List, ◌++◌, length, take, drop, refl, ap, ◌∙◌, arith}
+use Rattle.std.proofs.Common.{◌≡◌, ℕ, ◌+◌, ◌-◌, ◌^◌, ◌<◌, ◌≤◌, ◌==◌, true, false, nat_lt, None, is_some, List, ◌++◌}
+use Rattle.std.proofs.Common.{length, take, drop, refl, ap, ◌∙◌, arith}
 use Rattle.std.proofs.lemmas.Bool.Decides.{nat_tests}
 use Rattle.std.proofs.lemmas.Nat.{from_le_bytes-to_le_bytes_8}
 use Rattle.tm_elf_write.specs.Fields.{field_bytes, bytes_of, zeros}
@@ -51,21 +52,39 @@ sections_read : (n : ℕ) (rest : List ℕ) → n < 2 ^ 64 → long_at (bytes_of
 unfolding header field_bytes long_at
 sections_read n rest fits = from_le_bytes-to_le_bytes_8 n fits
 
-fields_fine : (bytes : List ℕ) → HeaderReads bytes → 744 ≤ length bytes → long_at bytes 40 ≡ length bytes - 512 → bad_field bytes ≡ None
+fields_fine : (bytes : List ℕ) → HeaderReads bytes → 744 ≤ length bytes → long_at bytes 40 ≡ length bytes - 512
+    → bad_field bytes ≡ None
 unfolding bad_field
 fields_fine bytes h long sections =
     let pads : differ (take 9 (drop 7 bytes)) (zeros 9) ≡ false = alike _ _ h.pads in
     let size : nat_lt (length bytes) 744 ≡ false = grind (arith, nat_tests) in
     let place : (long_at bytes 40 == length bytes - 512) ≡ true = grind (arith, nat_tests) in
-    rw (pads, h.version, h.entry, h.phoff, size, place, h.flags, h.ehsize, h.phentsize, h.phnum, h.shentsize, h.shnum, h.shstrndx) refl
+    rw (
+      pads,
+      h.version,
+      h.entry,
+      h.phoff,
+      size,
+      place,
+      h.flags,
+      h.ehsize,
+      h.phentsize,
+      h.phnum,
+      h.shentsize,
+      h.shnum,
+      h.shstrndx,
+    ) refl
 
-header_fine : (bytes : List ℕ) → HeaderReads bytes → 744 ≤ length bytes → long_at bytes 40 ≡ length bytes - 512 → header_fault bytes ≡ None
+header_fine : (bytes : List ℕ) → HeaderReads bytes → 744 ≤ length bytes → long_at bytes 40 ≡ length bytes - 512
+    → header_fault bytes ≡ None
 unfolding header_fault
 header_fine bytes h long sections =
     let begins : differ (take 7 bytes) magic ≡ false = alike _ _ h.begins in
     let size : nat_lt (length bytes) 64 ≡ false = grind (arith, nat_tests) in
     rw (size, begins, h.machine, h.kind, fields_fine bytes h long sections) refl
 
-pub header_back : (n : ℕ) (bytes rest : List ℕ) → n < 2 ^ 64 → 744 ≤ length bytes → length bytes ≡ n + 512 → bytes ≡ bytes_of (header n) ++ rest → header_fault bytes ≡ None
+pub header_back : (n : ℕ) (bytes rest : List ℕ) → n < 2 ^ 64 → 744 ≤ length bytes → length bytes ≡ n + 512
+    → bytes ≡ bytes_of (header n) ++ rest → header_fault bytes ≡ None
 header_back n bytes rest fits long whole e =
-    rw e (header_fine (bytes_of (header n) ++ rest) (header_reads n rest) (omega (arith, ap length e)) (sections_read n rest fits ∙ omega (arith, ap length e)))
+    rw e (header_fine (bytes_of (header n) ++ rest) (header_reads n rest) (omega (arith, ap length e))
+    (sections_read n rest fits ∙ omega (arith, ap length e)))

@@ -23,7 +23,12 @@ length_entry name addr = refl
 pub length_entries : (name : ℕ) (ss : List Symbol) → length (entries name ss) ≡ 24 * length ss
 unfolding entries
 length_entries name [] = refl
-length_entries name (s ∷ ss) = omega (arith, length_entries (name + length s.name + 1) ss, length-append (bytes_of (entry name s.addr)) (entries (name + length s.name + 1) ss), length_entry name s.addr)
+length_entries name (s ∷ ss) = omega (
+  arith,
+  length_entries (name + length s.name + 1) ss,
+  length-append (bytes_of (entry name s.addr)) (entries (name + length s.name + 1) ss),
+  length_entry name s.addr,
+)
 
 pub length_symbols : (ss : List Symbol) → length (symbol_bytes ss) ≡ 24 * length ss + 24
 unfolding symbol_bytes

@@ -1,5 +1,6 @@
 -- What stands where in the file.
-use Rattle.std.proofs.Common.{◌≡◌, ◌∙◌, ◌≤◌, ◌+◌, ◌-◌, ◌*◌, ◌/◌, ℕ, List, [], ◌∷◌, ◌++◌, length, take, drop, ap, subst, sym, refl, arith, length-append}
+use Rattle.std.proofs.Common.{◌≡◌, ◌∙◌, ◌≤◌, ◌+◌, ◌-◌, ◌*◌, ◌/◌, ℕ, List, [], ◌∷◌, ◌++◌, length, take, drop, ap}
+use Rattle.std.proofs.Common.{subst, sym, refl, arith, length-append}
 use Rattle.std.specs.Int.{to_le_bytes, w64}
 use Rattle.std.proofs.lemmas.List.{append_assoc, length-replicate}
 use Rattle.std.proofs.Math.Seq.{take-append_seam, drop-append_seam}
@@ -34,20 +35,27 @@ then_part : {n : ℕ} {bytes : List ℕ} (part : List ℕ) → Fills n bytes →
 then_part {bytes = bytes} part f = record { is = length-append bytes part ∙ ap (λ k. k + length part) f.is }
 
 up_to : {n : ℕ} {bytes : List ℕ} (m : ℕ) → n ≤ m → Fills n bytes → Fills m (bytes ++ zeros (m - n))
-up_to {n = n} {bytes = bytes} m le f = record { is = omega (arith, length-append bytes (zeros (m - n)), length-replicate {A = ℕ} (m - n) 0, f.is, le) }
+up_to {n = n} {bytes = bytes} m le f =
+    record { is = omega (arith, length-append bytes (zeros (m - n)), length-replicate {A = ℕ} (m - n) 0, f.is, le) }
 
 exactly : {n m : ℕ} {bytes : List ℕ} → n ≡ m → Fills n bytes → Fills m bytes
 exactly e f = record { is = f.is ∙ e }
 
 last : {n : ℕ} {bytes : List ℕ} (part : List ℕ) → Fills n bytes → Within n part (bytes ++ part)
-last {bytes = bytes} part f = record { front = bytes; rest = []; before = f.is; whole = ap (λ ys. bytes ++ ys) (append_nothing part) }
+last {bytes = bytes} part f = record {
+  front = bytes;
+  rest = [];
+  before = f.is;
+  whole = ap (λ ys. bytes ++ ys) (append_nothing part);
+}
 
 more : {place : ℕ} {part bytes : List ℕ} (tail : List ℕ) → Within place part bytes → Within place part (bytes ++ tail)
 more {part = part} tail w = record {
   front = w.front;
   rest = w.rest ++ tail;
   before = w.before;
-  whole = ap (λ b. b ++ tail) w.whole ∙ append_assoc w.front (part ++ w.rest) tail ∙ ap (λ b. w.front ++ b) (append_assoc part w.rest tail);
+  whole = ap (λ b. b ++ tail) w.whole ∙ append_assoc w.front (part ++ w.rest) tail ∙ ap (λ b. w.front ++ b)
+      (append_assoc part w.rest tail);
 }
 
 stands : {place : ℕ} {part bytes : List ℕ} → Within place part bytes → StandsAt place part bytes
@@ -76,7 +84,8 @@ record InOrder (text tables plan symbols strings : ℕ) (p : Places) : Type 0 wh
   names_at : p.strings + strings ≡ p.names
   sections_at : p.names + 55 ≤ p.sections
 
-in_order : (text tables plan symbols strings : ℕ) → InOrder text tables plan symbols strings (places text tables plan symbols strings)
+in_order : (text tables plan symbols strings : ℕ)
+    → InOrder text tables plan symbols strings (places text tables plan symbols strings)
 unfolding places
 in_order text tables plan symbols strings = record {
   tables_at = next_page _;
@@ -96,7 +105,8 @@ segments_length : (text tables : ℕ) (p : Places) → length (segments_bytes (s
 unfolding segments segment_fields field_bytes
 segments_length text tables p = refl
 
-sections_length : (text tables plan symbols strings : ℕ) (p : Places) → length (sections_bytes (sections text tables plan symbols strings p)) ≡ 512
+sections_length : (text tables plan symbols strings : ℕ) (p : Places)
+    → length (sections_bytes (sections text tables plan symbols strings p)) ≡ 512
 unfolding sections section_fields field_bytes
 sections_length text tables plan symbols strings p = refl
 
@@ -104,8 +114,11 @@ names_length : length section_names ≡ 55
 unfolding section_names
 names_length = refl
 
-headers_fill : (text tables n : ℕ) (p : Places) → Fills 4096 (bytes_of (header n) ++ segments_bytes (segments text tables p) ++ zeros (4096 - (64 + 3 * 56)))
-headers_fill text tables n p = up_to {n = 64 + 3 * 56} 4096 (omega arith) (exactly (omega (arith, segments_length text tables p)) (then_part (segments_bytes (segments text tables p)) (header_fills n)))
+headers_fill : (text tables n : ℕ) (p : Places)
+    → Fills 4096 (bytes_of (header n) ++ segments_bytes (segments text tables p) ++ zeros (4096 - (64 + 3 * 56)))
+headers_fill text tables n p =
+    up_to {n = 64 + 3 * 56} 4096 (omega arith) (exactly (omega (arith, segments_length text tables p))
+    (then_part (segments_bytes (segments text tables p)) (header_fills n)))
 
 -- the file's parts, from the bytes alone
 record FileStands (text tables plan symbols strings : List ℕ) (p : Places) (bytes : List ℕ) : Type 0 where
@@ -117,11 +130,13 @@ record FileStands (text tables plan symbols strings : List ℕ) (p : Places) (by
   symbols_at : Within p.symbols symbols bytes
   strings_at : Within p.strings strings bytes
   names_at : Within p.names section_names bytes
-  sections_at : Within p.sections (sections_bytes (sections (length text) (length tables) (length plan) (length symbols) (length strings) p)) bytes
+  sections_at : Within p.sections (sections_bytes (sections (length text) (length tables) (length plan) (length symbols)
+      (length strings) p)) bytes
   whole : Fills (p.sections + 512) bytes
 
 file_stands : (text tables plan symbols strings : List ℕ)
-    → FileStands text tables plan symbols strings (places (length text) (length tables) (length plan) (length symbols) (length strings)) (file text tables plan symbols strings)
+    → FileStands text tables plan symbols strings (places (length text) (length tables) (length plan) (length symbols)
+    (length strings)) (file text tables plan symbols strings)
 unfolding file
 file_stands text tables plan symbols strings =
     let p = places (length text) (length tables) (length plan) (length symbols) (length strings) in
@@ -133,21 +148,32 @@ file_stands text tables plan symbols strings =
     let to_symbols = up_to p.symbols order.symbols_at (then_part plan to_plan) in
     let to_strings = exactly order.strings_at (then_part symbols to_symbols) in
     let to_names = exactly order.names_at (then_part strings to_strings) in
-    let to_sections = up_to p.sections order.sections_at (exactly (ap (λ n. p.names + n) names_length) (then_part section_names to_names)) in
+    let to_sections =
+    up_to p.sections order.sections_at (exactly (ap (λ n. p.names + n) names_length)
+    (then_part section_names to_names)) in
     let rows_of_segments = segments_bytes (segments (length text) (length tables) p) in
-    let rows = sections_bytes (sections (length text) (length tables) (length plan) (length symbols) (length strings) p) in
+    let rows = sections_bytes (sections (length text) (length tables) (length plan) (length symbols) (length strings) p)
+    in
     let front : Within 0 head head = record { front = []; rest = []; before = refl; whole = append_nothing head } in
     record {
-      header_at = more _ (more _ (more _ (more _ (more _ (more _ (more _ (more _ (more _ (more _ (more _ (more _ (more _ front))))))))))));
-      segments_at = more _ (more _ (more _ (more _ (more _ (more _ (more _ (more _ (more _ (more _ (more _ (more _ (last rows_of_segments (header_fills p.sections)))))))))))));
-      text_at = more _ (more _ (more _ (more _ (more _ (more _ (more _ (more _ (more _ (more _ (last text to_text))))))))));
+      header_at = more _
+          (more _ (more _
+          (more _ (more _ (more _ (more _ (more _ (more _ (more _ (more _ (more _ (more _ front))))))))))));
+      segments_at =
+          more _ (more _
+          (more _ (more _
+          (more _ (more _
+          (more _ (more _ (more _ (more _ (more _ (more _ (last rows_of_segments (header_fills p.sections)))))))))))));
+      text_at = more _
+          (more _ (more _ (more _ (more _ (more _ (more _ (more _ (more _ (more _ (last text to_text))))))))));
       tables_at = more _ (more _ (more _ (more _ (more _ (more _ (more _ (more _ (last tables to_tables))))))));
       plan_at = more _ (more _ (more _ (more _ (more _ (more _ (last plan to_plan))))));
       symbols_at = more _ (more _ (more _ (more _ (last symbols to_symbols))));
       strings_at = more _ (more _ (more _ (last strings to_strings)));
       names_at = more _ (more _ (last section_names to_names));
       sections_at = last rows to_sections;
-      whole = exactly (ap (λ n. p.sections + n) (sections_length (length text) (length tables) (length plan) (length symbols) (length strings) p)) (then_part rows to_sections);
+      whole = exactly (ap (λ n. p.sections + n) (sections_length (length text) (length tables) (length plan)
+          (length symbols) (length strings) p)) (then_part rows to_sections);
     }
 
 -- the header's bytes
@@ -160,9 +186,11 @@ unfolding header field_bytes
 sections_in_header n rest = refl
 
 -- the file of parts
-stand_in : (p : Parts) → FileStands (text_bytes p.text) p.tables (plan_bytes p.plan) (symbol_bytes p.symbols) (string_bytes p.symbols) (places_in p) (elf_file p)
+stand_in : (p : Parts) → FileStands (text_bytes p.text) p.tables (plan_bytes p.plan) (symbol_bytes p.symbols)
+    (string_bytes p.symbols) (places_in p) (elf_file p)
 unfolding places_in
-stand_in p = file_stands (text_bytes p.text) p.tables (plan_bytes p.plan) (symbol_bytes p.symbols) (string_bytes p.symbols)
+stand_in p = file_stands (text_bytes p.text) p.tables (plan_bytes p.plan) (symbol_bytes p.symbols)
+    (string_bytes p.symbols)
 
 at_begin : {part bytes : List ℕ} (w : Within 0 part bytes) → bytes ≡ part ++ w.rest
 at_begin {part = part} w = w.whole ∙ ap (λ front. front ++ (part ++ w.rest)) (nothing w.front w.before)
@@ -177,7 +205,8 @@ shoff p =
     let f = stand_in p in
     let w = f.header_at in
     let whole = f.whole.is in
-    ap (λ b. take 8 (drop 40 b)) (at_begin w) ∙ sections_in_header _ w.rest ∙ ap (λ n. to_le_bytes w64 n) (omega (arith, whole))
+    ap (λ b. take 8 (drop 40 b)) (at_begin w) ∙ sections_in_header _ w.rest ∙ ap (λ n. to_le_bytes w64 n)
+    (omega (arith, whole))
 
 -- what a reader finds in the file
 pub reads_as : (p : Parts) (bytes : List ℕ) → bytes ≡ elf_file p → ReadsAs p bytes

@@ -1,5 +1,6 @@
 -- Runs in round order, one turn more and one round more.
-use Rattle.std.proofs.Common.{◌≡◌, ℕ, suc, ◌+◌, ◌<◌, ◌≤◌, [], ◌∷◌, ◌⊎◌, inl, inr, refl, sym, subst, length, ◌∙◌, arith, length-append, below_more}
+use Rattle.std.proofs.Common.{◌≡◌, ℕ, suc, ◌+◌, ◌<◌, ◌≤◌, [], ◌∷◌, ◌⊎◌, inl, inr, refl, sym, subst, length, ◌∙◌}
+use Rattle.std.proofs.Common.{arith, length-append, below_more}
 use Rattle.tm_plan_cases.specs.declared.program.Program.{Program}
 use Rattle.tm_plan_cases.specs.declared.journal.Event.{Event}
 use Rattle.tm_world.specs.Place.{harts}

@@ -8,18 +8,22 @@ use Rattle.tm_image_inputs.specs.Inputs.{inputs, IsFaultOf}
 use Rattle.tm_image_program.specs.Program.{program_for}
 use Rattle.tm_image_build.specs.Built.{image_file, built, program_from, IsOfTexts}
 
-pub built_ok : (topo template : List ℕ) (seed : ℕ) (a : Admitted) (p : Program) (file : List ℕ) → inputs topo template ≡ Ok a
+pub built_ok : (topo template : List ℕ) (seed : ℕ) (a : Admitted) (p : Program) (file : List ℕ) → inputs topo template
+    ≡ Ok a
     → p ≡ program_for a seed → file ≡ image_file p topo template seed → built topo template seed ≡ Ok file
 unfolding built
 built_ok topo template seed a p file read is written = rw (read, written, is) refl
 
-pub program_ok : (topo template : List ℕ) (seed : ℕ) (a : Admitted) (p : Program) → inputs topo template ≡ Ok a → p ≡ program_for a seed
+pub program_ok : (topo template : List ℕ) (seed : ℕ) (a : Admitted) (p : Program) → inputs topo template ≡ Ok a
+    → p ≡ program_for a seed
     → program_from seed (inputs topo template) ≡ Ok p
 program_ok topo template seed a p read is = rw (read, is) refl
 
 -- so the program and its file are those of the two texts
-pub of_texts : (topo template : List ℕ) (seed : ℕ) (a : Admitted) (p : Program) (file : List ℕ) → length topo ≤ 65536 → length template ≤ 1048576
-    → inputs topo template ≡ Ok a → p ≡ program_for a seed → file ≡ image_file p topo template seed → IsOfTexts p seed file
+pub of_texts : (topo template : List ℕ) (seed : ℕ) (a : Admitted) (p : Program) (file : List ℕ) → length topo ≤ 65536
+    → length template ≤ 1048576
+    → inputs topo template ≡ Ok a → p ≡ program_for a seed → file ≡ image_file p topo template seed
+    → IsOfTexts p seed file
 of_texts topo template seed a p file topo_short template_short read is written = record {
   topo = topo;
   template = template;
@@ -29,7 +33,8 @@ of_texts topo template seed a p file topo_short template_short read is written =
   its_file = built_ok topo template seed a p file read is written;
 }
 
-pub built_err : (f : BuildFault) (topo template : List ℕ) (seed : ℕ) → IsFaultOf f (inputs topo template) → IsFaultOf f (built topo template seed)
+pub built_err : (f : BuildFault) (topo template : List ℕ) (seed : ℕ) → IsFaultOf f (inputs topo template)
+    → IsFaultOf f (built topo template seed)
 unfolding built
 built_err (fault.Input refused) topo template seed h = (h.0, rw h.1 refl)
 built_err fault.NoMemory topo template seed h = tt

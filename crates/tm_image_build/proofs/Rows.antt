@@ -11,11 +11,15 @@ pub row-none : (f : ℕ → List Symbol) (start : List Symbol) → start ≡ sta
 row-none f start = sym (append-nil start)
 
 -- the next part was put
-pub row-more : (f : ℕ → List Symbol) (k : ℕ) (start old new : List Symbol) → old ≡ start ++ flat_map f (count_from 0 k) → new ≡ old ++ f k
+pub row-more : (f : ℕ → List Symbol) (k : ℕ) (start old new : List Symbol) → old ≡ start ++ flat_map f (count_from 0 k)
+    → new ≡ old ++ f k
     → new ≡ start ++ flat_map f (count_from 0 (k + 1))
 row-more f k start old new e more =
-    let last : flat_map f (count_from 0 k ++ k ∷ []) ≡ flat_map f (count_from 0 k) ++ (f k ++ []) = flat_map-append f (count_from 0 k) (k ∷ []) in
+    let last : flat_map f (count_from 0 k ++ k ∷ []) ≡ flat_map f (count_from 0 k) ++ (f k ++ []) =
+    flat_map-append f (count_from 0 k) (k ∷ []) in
     let part : f k ++ [] ≡ f k = append-nil (f k) in
-    let upto : count_from 0 (k + 1) ≡ count_from 0 k ++ k ∷ [] = (let next : k + 1 ≡ suc k = omega arith in ap (count_from 0) next) ∙ counted 0 k k (omega arith) in
+    let upto : count_from 0 (k + 1) ≡ count_from 0 k ++ k ∷ [] =
+    (let next : k + 1 ≡ suc k = omega arith in ap (count_from 0) next) ∙ counted 0 k k (omega arith) in
     more ∙ ap (λ (l : List Symbol). l ++ f k) e ∙ append_assoc start (flat_map f (count_from 0 k)) (f k)
-    ∙ ap (λ (l : List Symbol). start ++ l) (ap (λ (l : List Symbol). flat_map f (count_from 0 k) ++ l) (sym part) ∙ sym last ∙ ap (flat_map f) (sym upto))
+    ∙ ap (λ (l : List Symbol). start ++ l) (ap (λ (l : List Symbol). flat_map f (count_from 0 k) ++ l) (sym part) ∙ sym
+    last ∙ ap (flat_map f) (sym upto))

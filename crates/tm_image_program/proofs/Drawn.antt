@@ -1,5 +1,6 @@
 -- The numbers of drawn cases have the bits that their types give.
-use Rattle.std.proofs.Common.{◌≡◌, ◌+◌, ◌-◌, ◌*◌, ◌%◌, ◌^◌, ◌==◌, ◌<◌, ℕ, zero, suc, Bool, true, false, List, [], ◌∷◌, length, map, Some, slice_get, slice_index, refl, sym, ap, ◌∙◌, subst, arith, lit<}
+use Rattle.std.proofs.Common.{◌≡◌, ◌+◌, ◌-◌, ◌*◌, ◌%◌, ◌^◌, ◌==◌, ◌<◌, ℕ, zero, suc, Bool, true, false, List, [], ◌∷◌}
+use Rattle.std.proofs.Common.{length, map, Some, slice_get, slice_index, refl, sym, ap, ◌∙◌, subst, arith, lit<}
 use Rattle.std.specs.Prelude.{nat_le, if◌then◌else◌}
 use Rattle.std.proofs.lemmas.Bool.{leb-true}
 use Rattle.tm_base.specs.Lists.{count_from}
@@ -15,12 +16,14 @@ use Rattle.tm_place.specs.Draws.{draw, slot_draws, pick}
 use Rattle.tm_place.specs.Ruled.{IsRuled, IsRuledCase, AreRuledSlots, sharing_in}
 use Rattle.tm_place.proofs.DrawLemmas.{draw-lt}
 use Rattle.tm_gen.specs.Seats.{AreWords}
-use Rattle.tm_gen.specs.Gen.{drawn_value, first_value, first_values, first_dword, first_dwords, stream_words, stream_of, case_of, gen_of}
+use Rattle.tm_gen.specs.Gen.{drawn_value, first_value, first_values, first_dword, first_dwords, stream_words}
+use Rattle.tm_gen.specs.Gen.{stream_of, case_of, gen_of}
 use Rattle.tm_gen.proofs.SlotLemmas.{are-words}
 use Rattle.tm_gen.proofs.ShapedLemmas.{map_at-get, get-within, all-get, stream-conforms, stream-slot}
 
 -- a number that is found at each place where there is one is small where all that are found are
-all-small : (m : ℕ) (xs : List ℕ) → 0 < m → ((n x : ℕ) → slice_get xs n ≡ Some x → x < m) → (k : ℕ) → slice_index xs k < m
+all-small : (m : ℕ) (xs : List ℕ) → 0 < m → ((n x : ℕ) → slice_get xs n ≡ Some x → x < m) → (k : ℕ)
+    → slice_index xs k < m
 all-small m [] some each k = some
 all-small m (x ∷ xs) some each zero = each 0 x refl
 all-small m (x ∷ xs) some each (suc k) = all-small m xs some (λ n y at. each (suc n) y at) k
@@ -64,7 +67,8 @@ register-small seed c h r few =
 
 pub registers-small : (seed c h : ℕ) → h < 16 → (r : ℕ) → slice_index (first_values seed c h) r < 2 ^ 64
 unfolding first_values
-registers-small seed c h few = images-small (first_value seed c h) (2 ^ 64) (count_from 0 32) (lit< tt) (λ r. register-small seed c h r few)
+registers-small seed c h few = images-small (first_value seed c h) (2 ^ 64) (count_from 0 32) (lit< tt)
+    (λ r. register-small seed c h r few)
 
 pub registers-count : (seed c h : ℕ) → length (first_values seed c h) ≡ 32
 unfolding first_values
@@ -72,7 +76,8 @@ registers-count seed c h = refl
 
 dword-small : (seed c q : ℕ) → first_dword seed c q < 2 ^ 64
 unfolding first_dword
-dword-small seed c q = pair-small (draw seed c 63 q 0) (draw seed c 63 q 1) (draw-lt seed c 63 q 0) (draw-lt seed c 63 q 1)
+dword-small seed c q = pair-small (draw seed c 63 q 0) (draw seed c 63 q 1) (draw-lt seed c 63 q 0)
+    (draw-lt seed c 63 q 1)
 
 pub dwords-small : (seed c k : ℕ) → slice_index (first_dwords seed c) k < 2 ^ 64
 unfolding first_dwords
@@ -120,11 +125,13 @@ pub gen-drawn : (a : Admitted) (seed : ℕ) → IsRuled a → (c h : ℕ) (case 
 gen-drawn a seed ruled c h case s at_case at_stream =
     let there = case-of a seed c case at_case in
     let is = all-get (IsRuledCase (sharing_in a) a.windows) a.cases c there.0 ruled.each there.1 in
-    let made : slice_get (case_of a seed c there.0).streams h ≡ Some s = subst (λ (k : Case). slice_get k.streams h ≡ Some s) (sym there.2) at_stream in
+    let made : slice_get (case_of a seed c there.0).streams h ≡ Some s =
+    subst (λ (k : Case). slice_get k.streams h ≡ Some s) (sym there.2) at_stream in
     let its = map_at-get (stream_of a seed c) 0 h there.0.bodies s made in
     let zeroth : 0 + h ≡ h = omega arith in
     let below : h < a.harts = omega (arith, get-within there.0.bodies h its.0 its.1, is.harts) in
-    subst IsDrawn (ap (λ k. stream_of a seed c k its.0) (sym zeroth) ∙ its.2) (stream-drawn a seed c h its.0 ruled below (is.each h its.0 its.1))
+    subst IsDrawn (ap (λ k. stream_of a seed c k its.0) (sym zeroth) ∙ its.2)
+    (stream-drawn a seed c h its.0 ruled below (is.each h its.0 its.1))
 
 pub gen-first : (a : Admitted) (seed c : ℕ) (case : Case) → slice_get (gen_of a seed).cases c ≡ Some case
     → (k : ℕ) → slice_index case.first k < 2 ^ 64

@@ -1,5 +1,7 @@
 -- The masks of shaped cases fit them, and have words of 32 bits.
-use Rattle.std.proofs.Common.{◌≡◌, ◌+◌, ◌*◌, ◌^◌, ◌<◌, ◌⊎◌, inl, inr, ℕ, zero, suc, Bool, true, false, List, [], ◌∷◌, length, map, All, Option, Some, None, slice_get, slice_index, refl, sym, ap, ◌∙◌, subst, arith, lit<}
+use Rattle.std.proofs.Common.{◌≡◌, ◌+◌, ◌*◌, ◌^◌, ◌<◌, ◌⊎◌, inl, inr, ℕ, zero, suc, Bool, true, false, List, [], ◌∷◌}
+use Rattle.std.proofs.Common.{length, map, Some, slice_get, slice_index, refl, ◌∙◌, subst}
+use Rattle.std.proofs.Common.{arith, lit<}
 use Rattle.std.specs.Prelude.{if◌then◌else◌, nat_lt, ◌&&◌, not}
 use Rattle.std.specs.List.{range_with_len}
 use Rattle.std.proofs.lemmas.List.Elements.{All-map}
@@ -34,18 +36,22 @@ images-small f m (x ∷ xs) some each zero = each x
 images-small f m (x ∷ xs) some each (suc k) = images-small f m xs some each k
 
 -- what holds of the mask of each case holds of each mask
-of-each : (P : CaseMask → Type 0) (f : ℕ → CaseMask) (xs : List ℕ) → ((c : ℕ) → P (f c)) → (c : ℕ) (m : CaseMask) → slice_get (map f xs) c ≡ Some m → P m
+of-each : (P : CaseMask → Type 0) (f : ℕ → CaseMask) (xs : List ℕ) → ((c : ℕ) → P (f c)) → (c : ℕ) (m : CaseMask)
+    → slice_get (map f xs) c ≡ Some m → P m
 of-each P f [] each c m at = absurd (cc)
 of-each P f (x ∷ xs) each zero m at = let same : f x ≡ m = cc in subst P same (each x)
 of-each P f (x ∷ xs) each (suc c) m at = of-each P f xs each c m at
 
 words-small : (cases : Cases) (c h : ℕ) → slice_index (mask_of cases c).regs h < 2 ^ 32
 unfolding mask_of
-words-small cases c h = images-small (checked_word cases c) (2 ^ 32) (range_with_len 0 cases.harts) (lit< tt) (word-small cases c) h
+words-small cases c h = images-small (checked_word cases c) (2 ^ 32) (range_with_len 0 cases.harts) (lit< tt)
+    (word-small cases c) h
 
-pub mask-words : (cases : Cases) (c : ℕ) (m : CaseMask) → slice_get (masks_of cases).cases c ≡ Some m → (h : ℕ) → slice_index m.regs h < 2 ^ 32
+pub mask-words : (cases : Cases) (c : ℕ) (m : CaseMask) → slice_get (masks_of cases).cases c ≡ Some m → (h : ℕ)
+    → slice_index m.regs h < 2 ^ 32
 unfolding masks_of
-mask-words cases = of-each (λ m. (h : ℕ) → slice_index m.regs h < 2 ^ 32) (mask_of cases) (range_with_len 0 (length cases.cases)) (words-small cases)
+mask-words cases = of-each (λ m. (h : ℕ) → slice_index m.regs h < 2 ^ 32) (mask_of cases)
+    (range_with_len 0 (length cases.cases)) (words-small cases)
 
 -- ---- shapes
 
@@ -77,5 +83,6 @@ pub masks-fit : (cases : Cases) → MasksFit cases (masks_of cases)
 unfolding masks_of
 masks-fit cases = record {
   count = length-map-range_with_len (mask_of cases) 0 (length cases.cases);
-  each = All-map (IsShapedMask cases) (mask_of cases) (range_with_len 0 (length cases.cases)) (λ k c l. mask-shaped cases _);
+  each = All-map (IsShapedMask cases) (mask_of cases) (range_with_len 0 (length cases.cases))
+      (λ k c l. mask-shaped cases _);
 }

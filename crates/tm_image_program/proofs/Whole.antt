@@ -36,18 +36,22 @@ gen-registers a seed ruled c h case s at_case at_stream = (gen-drawn a seed rule
 pub for-built : (a : Admitted) (seed : ℕ) → IsRuled a → IsProgram (program_for a seed) × IsBuilt (program_for a seed)
 unfolding program_for
 for-built a seed ruled =
-    cases-built (gen_of a seed) (masks_of (gen_of a seed)) (gen-shaped a seed ruled) (masks-fit (gen_of a seed)) (gen-registers a seed ruled)
+    cases-built (gen_of a seed) (masks_of (gen_of a seed)) (gen-shaped a seed ruled) (masks-fit (gen_of a seed))
+    (gen-registers a seed ruled)
 
 pub for-program : (a : Admitted) (seed : ℕ) → IsRuled a → IsProgram (program_for a seed)
 for-program a seed ruled = (for-built a seed ruled).0
 
 -- the parts that are made are those of the program
-pub program-is : (a : Admitted) (seed : ℕ) (cases : Cases) (masks : Masks) (marks : Marks) (text tables : List ℕ) → cases ≡ gen_of a seed
-    → masks ≡ masks_of cases → tables ≡ table_bytes cases masks → text ≡ text_words (blocks_of cases) cases 0 cases.harts text_base
+pub program-is : (a : Admitted) (seed : ℕ) (cases : Cases) (masks : Masks) (marks : Marks) (text tables : List ℕ)
+    → cases ≡ gen_of a seed
+    → masks ≡ masks_of cases → tables ≡ table_bytes cases masks
+    → text ≡ text_words (blocks_of cases) cases 0 cases.harts text_base
     → marks ≡ marks_in cases
     → record { cases = cases; masks = masks; marks = marks; text = text; tables = tables } ≡ program_for a seed
 unfolding program_for built
-program-is a seed cases masks marks text tables drawn checked tabled worded marked = rw (marked, worded, tabled, checked, drawn) refl
+program-is a seed cases masks marks text tables drawn checked tabled worded marked =
+    rw (marked, worded, tabled, checked, drawn) refl
 
 for-cases : (a : Admitted) (seed : ℕ) → (program_for a seed).cases ≡ gen_of a seed
 unfolding program_for built
@@ -57,32 +61,42 @@ for-masks : (a : Admitted) (seed : ℕ) → (program_for a seed).masks ≡ masks
 unfolding program_for built
 for-masks a seed = refl
 
-for-tables : (a : Admitted) (seed : ℕ) → (program_for a seed).tables ≡ table_bytes (gen_of a seed) (masks_of (gen_of a seed))
+for-tables : (a : Admitted) (seed : ℕ) → (program_for a seed).tables
+    ≡ table_bytes (gen_of a seed) (masks_of (gen_of a seed))
 unfolding program_for built
 for-tables a seed = refl
 
-tables-are : (a : Admitted) (seed : ℕ) → (program_for a seed).tables ≡ table_bytes (program_for a seed).cases (program_for a seed).masks
+tables-are : (a : Admitted) (seed : ℕ) → (program_for a seed).tables
+    ≡ table_bytes (program_for a seed).cases (program_for a seed).masks
 unfolding program_for built
 tables-are a seed = refl
 
-checked-are : (a : Admitted) (seed : ℕ) → AreChecked (gen_of a seed) (masks_of (gen_of a seed)) → AreChecked (program_for a seed).cases (program_for a seed).masks
+checked-are : (a : Admitted) (seed : ℕ) → AreChecked (gen_of a seed) (masks_of (gen_of a seed))
+    → AreChecked (program_for a seed).cases (program_for a seed).masks
 unfolding program_for built
 checked-are a seed h = h
 
-typed-of : (a : Admitted) (seed : ℕ) → IsRuled a → (p : Program) → p.cases ≡ gen_of a seed → p.masks ≡ masks_of (gen_of a seed)
-    → p.tables ≡ table_bytes (gen_of a seed) (masks_of (gen_of a seed)) → ((k : ℕ) → slice_index p.text k < 2 ^ 32) → IsTyped p
+typed-of : (a : Admitted) (seed : ℕ) → IsRuled a → (p : Program) → p.cases ≡ gen_of a seed
+    → p.masks ≡ masks_of (gen_of a seed)
+    → p.tables ≡ table_bytes (gen_of a seed) (masks_of (gen_of a seed)) → ((k : ℕ) → slice_index p.text k < 2 ^ 32)
+    → IsTyped p
 typed-of a seed ruled p cases masks tables text = record {
   text = text;
-  tables = λ k. subst (λ (bytes : List ℕ). slice_index bytes k < 256) (sym tables) (tables-bytes (gen_of a seed) (masks_of (gen_of a seed)) (masks-fit (gen_of a seed)) k);
+  tables = λ k. subst (λ (bytes : List ℕ). slice_index bytes k < 256) (sym tables)
+      (tables-bytes (gen_of a seed) (masks_of (gen_of a seed)) (masks-fit (gen_of a seed)) k);
   words = λ c h case s at_case at_stream. (drawn c h case s at_case at_stream).words;
   count = λ c h case s at_case at_stream. (drawn c h case s at_case at_stream).count;
   regs = λ c h case s at_case at_stream. (drawn c h case s at_case at_stream).regs;
-  first = λ c case at_case. gen-first a seed c case (subst (λ (x : Cases). slice_get x.cases c ≡ Some case) cases at_case);
+  first = λ c case at_case. gen-first a seed c case
+      (subst (λ (x : Cases). slice_get x.cases c ≡ Some case) cases at_case);
   masks = λ c m at. mask-words (gen_of a seed) c m (subst (λ (x : Masks). slice_get x.cases c ≡ Some m) masks at);
 }
   where
-    drawn : (c h : ℕ) (case : Case) (s : Stream) → slice_get p.cases.cases c ≡ Some case → slice_get case.streams h ≡ Some s → IsDrawn s
-    drawn c h case s at_case at_stream = gen-drawn a seed ruled c h case s (subst (λ (x : Cases). slice_get x.cases c ≡ Some case) cases at_case) at_stream
+    drawn : (c h : ℕ) (case : Case) (s : Stream) → slice_get p.cases.cases c ≡ Some case → slice_get case.streams h
+        ≡ Some s → IsDrawn s
+    drawn c h case s at_case at_stream =
+        gen-drawn a seed ruled c h case s (subst (λ (x : Cases). slice_get x.cases c ≡ Some case) cases at_case)
+        at_stream
 
 gen-words : (a : Admitted) (seed : ℕ) → IsRuled a → HaveWords (gen_of a seed)
 gen-words a seed ruled c h case s at_case at_stream = (gen-drawn a seed ruled c h case s at_case at_stream).words
@@ -90,14 +104,17 @@ gen-words a seed ruled c h case s at_case at_stream = (gen-drawn a seed ruled c 
 -- its words and its marks have their bits
 pub for-range : (a : Admitted) (seed : ℕ) → IsRuled a → IsInRange (program_for a seed)
 unfolding program_for
-for-range a seed ruled = built-in_range (gen_of a seed) (masks_of (gen_of a seed)) (gen-shaped a seed ruled) (gen-words a seed ruled)
+for-range a seed ruled = built-in_range (gen_of a seed) (masks_of (gen_of a seed)) (gen-shaped a seed ruled)
+    (gen-words a seed ruled)
 
 -- so what the types give holds of it
 pub for-typed : (a : Admitted) (seed : ℕ) → IsRuled a → IsTyped (program_for a seed)
-for-typed a seed ruled = typed-of a seed ruled (program_for a seed) (for-cases a seed) (for-masks a seed) (for-tables a seed) (for-range a seed ruled).text
+for-typed a seed ruled = typed-of a seed ruled (program_for a seed) (for-cases a seed) (for-masks a seed)
+    (for-tables a seed) (for-range a seed ruled).text
 
 -- and where its masks are the checked sets, it is sound
-pub for-sound : (a : Admitted) (seed : ℕ) → IsRuled a → AreChecked (gen_of a seed) (masks_of (gen_of a seed)) → Sound (program_for a seed)
+pub for-sound : (a : Admitted) (seed : ℕ) → IsRuled a → AreChecked (gen_of a seed) (masks_of (gen_of a seed))
+    → Sound (program_for a seed)
 for-sound a seed ruled checked =
     built-sound (program_for a seed) (for-program a seed ruled) (for-typed a seed ruled) (for-built a seed ruled).1
     (tables-are a seed) (checked-are a seed checked)

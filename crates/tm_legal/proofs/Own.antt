@@ -1,5 +1,6 @@
 -- Hart by hart: a hart's own steps, as a run of their own.
-use Rattle.std.proofs.Common.{◌≡◌, ◌≢◌, ℕ, ◌+◌, ◌<◌, List, [], ◌∷◌, Bool, Option, ◌⊎◌, inl, inr, refl, sym, ap, ◌∙◌, subst, eq-eqb, ne_eqb}
+use Rattle.std.proofs.Common.{◌≡◌, ◌≢◌, ℕ, ◌+◌, ◌<◌, List, [], ◌∷◌, Bool, Option, ◌⊎◌, inl, inr, refl, sym, ap, ◌∙◌}
+use Rattle.std.proofs.Common.{subst, eq-eqb, ne_eqb}
 use Rattle.std.specs.Prelude.{if◌then◌else◌, IfSome}
 use Rattle.std.proofs.lemmas.Bool.{cases_eq}
 use Rattle.tm_table.specs.declared.state.Access.{Access}
@@ -42,21 +43,29 @@ below : (h n : ℕ) (steps : List Step) → Owns h steps → h < n → Always (�
 below h n [] a l = tt
 below h n (s ∷ past) a l = (subst (λ (g : ℕ). g < n) (sym a.0) l, below h n past a.1 l)
 
-module _ (p : Program) (h : ℕ) (number : h < harts p) (o : ℕ → List ℕ) (opens : (g : ℕ) → g < harts p → IsOpening g (o g)) where
+module _ (p : Program) (h : ℕ) (number : h < harts p) (o : ℕ → List ℕ) (opens : (g : ℕ) → g < harts p
+    → IsOpening g (o g)) where
   -- A hart's own steps of a half run are, with those of no other hart, a half run.
   solo : (steps : List Step) → Owns h steps → HalfPath p h (first_state (o h)) steps → Half p (earlier o steps)
-  solo steps a path = record { opening = opens; only = below h (harts p) steps a number; each = λ g _. by g (cases_eq g h) }
+  solo steps a path = record {
+    opening = opens;
+    only = below h (harts p) steps a number;
+    each = λ g _. by g (cases_eq g h);
+  }
     where
       by : (g : ℕ) → (g ≡ h) ⊎ (g ≡ h → ⊥) → HalfPath p g (first_state (o g)) (own g steps)
-      by g (inl e) = subst (λ (k : ℕ). HalfPath p k (first_state (o k)) (own k steps)) (sym e) (subst (HalfPath p h (first_state (o h))) (sym (own-all h steps a)) path)
+      by g (inl e) = subst (λ (k : ℕ). HalfPath p k (first_state (o k)) (own k steps)) (sym e)
+          (subst (HalfPath p h (first_state (o h))) (sym (own-all h steps a)) path)
       by g (inr n) = subst (HalfPath p g (first_state (o g))) (sym (own-none h g steps a n)) tt
 
   -- So what holds on half runs holds of such steps.
-  pub of-half : (P : Hart → List Step → Type 0) → OnHalf p h P → (steps : List Step) → Owns h steps → HalfPath p h (first_state (o h)) steps → P (first_state (o h)) steps
+  pub of-half : (P : Hart → List Step → Type 0) → OnHalf p h P → (steps : List Step) → Owns h steps
+      → HalfPath p h (first_state (o h)) steps → P (first_state (o h)) steps
   of-half P k steps a path = subst (P (first_state (o h))) (own-all h steps a) (k (earlier o steps) (solo steps a path))
 
 -- reads are judged by what is owed
 pub reads-same : (f g : ℕ → Option ℕ) (a : Access) → ((b : ℕ) → f b ≡ g b) → Reads f a → Reads g a
 reads-same f g Quiet e r = tt
 reads-same f g (Write addr width value) e r = tt
-reads-same f g (Read addr width value) e r = λ i l. subst (λ (o : Option ℕ). IfSome o (λ b. byte_of value i ≡ b)) (e (addr + i)) (r i l)
+reads-same f g (Read addr width value) e r = λ i l. subst (λ (o : Option ℕ). IfSome o (λ b. byte_of value i ≡ b))
+    (e (addr + i)) (r i l)

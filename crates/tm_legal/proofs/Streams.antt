@@ -1,5 +1,7 @@
 -- The streams of a formed program: where a slot stands, and what a legal step of it does.
-use Rattle.std.proofs.Common.{◌≡◌, ℕ, ◌+◌, ◌-◌, ◌*◌, ◌/◌, ◌%◌, ◌^◌, ◌<◌, ◌≤◌, List, [], ◌∷◌, zero, suc, length, Bool, true, false, ◌&&◌, ◌==◌, Option, None, Some, ◌⊎◌, inl, inr, refl, sym, ap, ◌∙◌, subst, arith, eqb-true, get_or}
+use Rattle.std.proofs.Common.{◌≡◌, ℕ, ◌+◌, ◌-◌, ◌*◌, ◌/◌, ◌%◌, ◌^◌, ◌<◌, ◌≤◌, List, [], ◌∷◌, zero, suc, length, Bool}
+use Rattle.std.proofs.Common.{true, false, ◌&&◌, ◌==◌, Option, None, Some, ◌⊎◌, inl, inr, refl, sym, ap, ◌∙◌, subst}
+use Rattle.std.proofs.Common.{arith, eqb-true, get_or}
 use Rattle.std.specs.Prelude.{All, Contains, slice_index, slice_get, if◌then◌else◌}
 use Rattle.std.proofs.lemmas.Bool.{and_parts, or_left, or_right, leb-true, ltb-true}
 use Rattle.std.proofs.lemmas.Option.{slice_get_cases, slice_get_within, get_or_from_slice_get, slice_get-get_or}
@@ -31,32 +33,40 @@ all-at P xs k x a e = subst P (get_or_from_slice_get xs k x x e) (a k x (slice_g
 pub none-past : {A : Type 0} (xs : List A) (k : ℕ) → k < length xs → slice_get xs k ≡ None → ⊥
 none-past {A = A} xs k l e = by (slice_get_cases xs k)
   where
-    by : (slice_get xs k ≡ slice_get xs k) × (((x : A) × (k < length xs) × (slice_get xs k ≡ Some x) × (get_or xs k x ≡ x)) ⊎ ((length xs ≤ k) × (slice_get xs k ≡ None))) → ⊥
+    by : (slice_get xs k ≡ slice_get xs k)
+        × (((x : A) × (k < length xs) × (slice_get xs k ≡ Some x) × (get_or xs k x ≡ x))
+        ⊎ ((length xs ≤ k) × (slice_get xs k ≡ None))) → ⊥
     by (q, inl r) = let f = r.2 in cc
     by (q, inr r) = omega (arith, r.0)
 
 -- ---- streams
 
-pub stream-case : (cases : Cases) (c h : ℕ) (case : Case) → slice_get cases.cases c ≡ Some case → stream_in cases c h ≡ slice_get case.streams h
+pub stream-case : (cases : Cases) (c h : ℕ) (case : Case) → slice_get cases.cases c ≡ Some case
+    → stream_in cases c h ≡ slice_get case.streams h
 stream-case cases c h case e = rw e
 
-pub case-of : (cases : Cases) (c h : ℕ) (stream : Stream) → stream_in cases c h ≡ Some stream → (case : Case) × (slice_get cases.cases c ≡ Some case) × (slice_get case.streams h ≡ Some stream)
+pub case-of : (cases : Cases) (c h : ℕ) (stream : Stream) → stream_in cases c h ≡ Some stream → (case : Case)
+    × (slice_get cases.cases c ≡ Some case) × (slice_get case.streams h ≡ Some stream)
 case-of cases c h stream e = by (slice_get cases.cases c) refl
   where
-    by : (o : Option Case) → slice_get cases.cases c ≡ o → (case : Case) × (slice_get cases.cases c ≡ Some case) × (slice_get case.streams h ≡ Some stream)
+    by : (o : Option Case) → slice_get cases.cases c ≡ o → (case : Case) × (slice_get cases.cases c ≡ Some case)
+        × (slice_get case.streams h ≡ Some stream)
     by (Some case) q = (case, q, sym (stream-case cases c h case q) ∙ e)
     by None q = let f = rw q at e in cc
 
-pub shaped-stream : (cases : Cases) (c h : ℕ) (stream : Stream) → AreShaped cases → stream_in cases c h ≡ Some stream → IsShapedStream cases h stream
+pub shaped-stream : (cases : Cases) (c h : ℕ) (stream : Stream) → AreShaped cases → stream_in cases c h ≡ Some stream
+    → IsShapedStream cases h stream
 shaped-stream cases c h stream a e =
     let (case, f, g) = case-of cases c h stream e in
     (all-at (IsShapedCase cases) cases.cases c case a.each f).each h stream g
 
 -- each hart has a stream in each case
-pub stream-of : (cases : Cases) (c h : ℕ) → AreShaped cases → c < length cases.cases → h < cases.harts → (stream : Stream) × (stream_in cases c h ≡ Some stream)
+pub stream-of : (cases : Cases) (c h : ℕ) → AreShaped cases → c < length cases.cases → h < cases.harts
+    → (stream : Stream) × (stream_in cases c h ≡ Some stream)
 stream-of cases c h a l m = by (slice_get cases.cases c) refl
   where
-    of : (case : Case) → slice_get cases.cases c ≡ Some case → (o : Option Stream) → slice_get case.streams h ≡ o → (stream : Stream) × (stream_in cases c h ≡ Some stream)
+    of : (case : Case) → slice_get cases.cases c ≡ Some case → (o : Option Stream) → slice_get case.streams h ≡ o
+        → (stream : Stream) × (stream_in cases c h ≡ Some stream)
     of case q (Some stream) r = (stream, stream-case cases c h case q ∙ r)
     of case q None r =
         let n = (all-at (IsShapedCase cases) cases.cases c case a.each q).streams in
@@ -71,7 +81,8 @@ stream-of cases c h a l m = by (slice_get cases.cases c) refl
 pub word-aligned : (p : Program) (pc w : ℕ) → word_at p pc ≡ Some w → pc % 4 ≡ 0
 word-aligned p pc w e = by ((pc % 4 == 0) && is_text p pc) refl e
   where
-    by : (b : Bool) → ((pc % 4 == 0) && is_text p pc) ≡ b → (if b then slice_get p.text ((pc - text_base) / 4) else None) ≡ Some w → pc % 4 ≡ 0
+    by : (b : Bool) → ((pc % 4 == 0) && is_text p pc) ≡ b
+        → (if b then slice_get p.text ((pc - text_base) / 4) else None) ≡ Some w → pc % 4 ≡ 0
     by true q r = eqb-true _ _ (and_parts (pc % 4 == 0) (is_text p pc) q).0
     by false q r = cc
 
@@ -91,12 +102,14 @@ pub record Slot (p : Program) (h c : ℕ) (stream : Stream) (pc w : ℕ) : Type 
 pub inside-parts : (p : Program) (h c pc : ℕ) → inside p h c pc ≡ true → (start_of p h c ≤ pc) × (pc < end_of p h c)
 inside-parts p h c pc e = let q = and_parts _ _ e in (leb-true _ _ q.0, ltb-true _ _ q.1)
 
-pub slot-at : (p : Program) → Formed p → (h c : ℕ) (stream : Stream) → h < harts p → stream_in p.cases c h ≡ Some stream → (pc w : ℕ) → inside p h c pc ≡ true → word_at p pc ≡ Some w → Slot p h c stream pc w
+pub slot-at : (p : Program) → Formed p → (h c : ℕ) (stream : Stream) → h < harts p → stream_in p.cases c h ≡ Some stream
+    → (pc w : ℕ) → inside p h c pc ≡ true → word_at p pc ≡ Some w → Slot p h c stream pc w
 slot-at p formed h c stream l e pc w i at =
     let shaped = shaped-stream p.cases c h stream formed.program.cases e in
     let bounds = inside-parts p h c pc i in
     let long = formed.laid.long h c stream l e in
-    let stands : (k : ℕ) → k < length stream.words → (word_at p (start_of p h c + 4 * k) ≡ slice_get stream.words k) × (slice_get stream.words k ≡ Some (get_or stream.words k 0)) =
+    let stands : (k : ℕ) → k < length stream.words → (word_at p (start_of p h c + 4 * k) ≡ slice_get stream.words k)
+    × (slice_get stream.words k ≡ Some (get_or stream.words k 0)) =
     λ k m. (formed.laid.words h c k stream l e m, slice_get-get_or stream.words k 0 m) in
     let first = stands 0 shaped.some in
     let even : (start_of p h c + 4 * 0) % 4 ≡ 0 = word-aligned p _ _ (first.0 ∙ first.1) in
@@ -109,7 +122,18 @@ slot-at p formed h c stream l e pc w i at =
     let slot = shaped.slots n w is in
     let reach = word-place p _ _ (formed-sizes formed) (first.0 ∙ first.1) in
     let short = shaped.few in
-    record { number = n; instr = slot.0; few = few; at = place; word = is; is = slot.1; shaped = slot.2; long = long; aligned = aligned; near = omega arith }
+    record {
+      number = n;
+      instr = slot.0;
+      few = few;
+      at = place;
+      word = is;
+      is = slot.1;
+      shaped = slot.2;
+      long = long;
+      aligned = aligned;
+      near = omega arith;
+    }
 
 -- ---- what a slot does
 
@@ -124,10 +148,17 @@ pub record Onward (pc start end to : ℕ) : Type 0 where
   pub most : to ≤ end
   pub aligned : to % 4 ≡ 0
 
-pub next : (start len k pc : ℕ) → pc ≡ start + 4 * k → start % 4 ≡ 0 → start + 4 * len < 2 ^ 63 → k < len → Onward pc start (start + 4 * len) (word64 (pc + 4))
-next start len k pc e a near l = record { least = omega arith; from = omega arith; most = omega arith; aligned = omega arith }
+pub next : (start len k pc : ℕ) → pc ≡ start + 4 * k → start % 4 ≡ 0 → start + 4 * len < 2 ^ 63 → k < len
+    → Onward pc start (start + 4 * len) (word64 (pc + 4))
+next start len k pc e a near l = record {
+  least = omega arith;
+  from = omega arith;
+  most = omega arith;
+  aligned = omega arith;
+}
 
-pub goes-on : (start len k pc n : ℕ) → pc ≡ start + 4 * k → start % 4 ≡ 0 → start + 4 * len < 2 ^ 63 → n % 4 ≡ 0 → k < k + n / 4 → k + n / 4 ≤ len → Onward pc start (start + 4 * len) (word64 (pc + n))
+pub goes-on : (start len k pc n : ℕ) → pc ≡ start + 4 * k → start % 4 ≡ 0 → start + 4 * len < 2 ^ 63 → n % 4 ≡ 0
+    → k < k + n / 4 → k + n / 4 ≤ len → Onward pc start (start + 4 * len) (word64 (pc + n))
 goes-on start len k pc n e a near d l m =
     let q = n / 4 in
     let f : n ≡ 4 * q = omega arith in
@@ -140,12 +171,14 @@ declared-window line b w s e =
     let q = within-parts (window_at w.number) (w.lines * line) b e in
     within-true windows_base windows_size b (omega (arith, s.number, s.few, q)) (omega (arith, s.number, s.few, q))
 
-pub any-one : (test : Window → Bool) (ws : List Window) (w : Window) (k : ℕ) → k < length ws → get_or ws k w ≡ w → test w ≡ true → any test ws ≡ true
+pub any-one : (test : Window → Bool) (ws : List Window) (w : Window) (k : ℕ) → k < length ws → get_or ws k w ≡ w
+    → test w ≡ true → any test ws ≡ true
 any-one test [] w k l e t = absurd (omega arith)
 any-one test (v ∷ ws) w zero l e t = or_left (test v) (any test ws) (ap test e ∙ t)
 any-one test (v ∷ ws) w (suc k) l e t = or_right (test v) (any test ws) (any-one test ws w k (omega arith) e t)
 
 -- and shared bytes
-pub window-declared : (cases : Cases) (b : ℕ) (w : Window) → Contains cases.windows w → declares cases.line b w ≡ true → is_declared cases b ≡ true
+pub window-declared : (cases : Cases) (b : ℕ) (w : Window) → Contains cases.windows w → declares cases.line b w ≡ true
+    → is_declared cases b ≡ true
 unfolding is_declared
 window-declared cases b w c e = any-one (declares cases.line b) cases.windows w c.0 c.1 c.2 e

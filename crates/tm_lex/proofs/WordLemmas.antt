@@ -1,4 +1,5 @@
-use Rattle.std.proofs.Common.{◌≡◌, ◌≢◌, ◌≤◌, ◌<◌, ℕ, zero, suc, ◌+◌, ◌-◌, true, false, not, eqb, List, [], ◌∷◌, length, take, drop, refl, sym, ◌∙◌, arith, inl, inr, ◌⊎◌}
+use Rattle.std.proofs.Common.{◌≡◌, ◌≢◌, ◌≤◌, ◌<◌, ℕ, zero, suc, ◌+◌, ◌-◌, true, false, not, eqb, List, [], ◌∷◌}
+use Rattle.std.proofs.Common.{length, take, drop, refl, sym, ◌∙◌, arith, inl, inr, ◌⊎◌}
 use Rattle.std.specs.List.{prefix_len, slice_split}
 use Rattle.std.proofs.lemmas.Bool.{cases_Bool}
 use Rattle.std.proofs.lemmas.Bool.Decides.{nat_tests}
@@ -10,7 +11,8 @@ pub drop_more_than : (xs : List ℕ) (i n : ℕ) → drop (i + n) xs ≡ drop n 
 drop_more_than xs i n = grind (arith, common_steps)
 
 -- bytes that are no word's are passed over
-pub words-gap : (i g : ℕ) (bs : List ℕ) → g ≤ prefix_len (λ b. not (is_word b)) bs → words i bs ≡ words (i + g) (drop g bs)
+pub words-gap : (i g : ℕ) (bs : List ℕ) → g ≤ prefix_len (λ b. not (is_word b)) bs
+    → words i bs ≡ words (i + g) (drop g bs)
 unfolding words
 words-gap i zero bs h = let same : i + 0 ≡ i = omega arith in rw same
 words-gap i (suc g) [] h = absurd (omega arith)
@@ -54,7 +56,8 @@ apart i j (b ∷ bs) h =
     ]
 
 -- a word byte alone
-alone : (i : ℕ) (bs : List ℕ) → prefix_len is_word bs ≡ 0 → word_byte i (words (i + 1) bs) ≡ (i, i + 1) ∷ words (i + 1) bs
+alone : (i : ℕ) (bs : List ℕ) → prefix_len is_word bs ≡ 0 → word_byte i (words (i + 1) bs)
+    ≡ (i, i + 1) ∷ words (i + 1) bs
 unfolding words
 alone i [] h = refl
 alone i (b ∷ bs) h =
@@ -89,15 +92,18 @@ words-run i (b ∷ bs) h =
     ]
 
 -- the first line of what is left of a text, and the lines after it
-pub split-last : (bs : List ℕ) → prefix_len (λ b. not (eqb b 10)) bs ≡ length bs → slice_split (λ b. eqb b 10) bs ≡ bs ∷ []
+pub split-last : (bs : List ℕ) → prefix_len (λ b. not (eqb b 10)) bs ≡ length bs → slice_split (λ b. eqb b 10) bs
+    ≡ bs ∷ []
 split-last [] h = refl
 split-last (b ∷ bs) h =
     elim (cases_Bool (eqb b 10)) [
       | inl here ↦ let none : 0 ≡ length (b ∷ bs) = rw here at h in absurd (omega arith)
-      | inr other ↦ let more : 1 + prefix_len (λ b. not (eqb b 10)) bs ≡ length (b ∷ bs) = rw other at h in rw (other, split-last bs (omega arith))
+      | inr other ↦ let more : 1 + prefix_len (λ b. not (eqb b 10)) bs ≡ length (b ∷ bs) = rw other at h in
+          rw (other, split-last bs (omega arith))
     ]
 
-pub split-more : (bs : List ℕ) (n : ℕ) → prefix_len (λ b. not (eqb b 10)) bs ≡ n → n < length bs → slice_split (λ b. eqb b 10) bs ≡ take n bs ∷ slice_split (λ b. eqb b 10) (drop (n + 1) bs)
+pub split-more : (bs : List ℕ) (n : ℕ) → prefix_len (λ b. not (eqb b 10)) bs ≡ n → n < length bs
+    → slice_split (λ b. eqb b 10) bs ≡ take n bs ∷ slice_split (λ b. eqb b 10) (drop (n + 1) bs)
 split-more [] n h below = absurd (omega arith)
 split-more (b ∷ bs) zero h below =
     elim (cases_Bool (eqb b 10)) [
@@ -114,7 +120,8 @@ split-more (b ∷ bs) (suc n) h below =
     ]
 
 -- where nothing follows the gap, there is no word
-none_after : (i : ℕ) (bs : List ℕ) → prefix_len is_word (drop (prefix_len (λ b. not (is_word b)) bs) bs) ≡ 0 → words i bs ≡ []
+none_after : (i : ℕ) (bs : List ℕ) → prefix_len is_word (drop (prefix_len (λ b. not (is_word b)) bs) bs) ≡ 0
+    → words i bs ≡ []
 unfolding words
 none_after i [] h = refl
 none_after i (b ∷ bs) h =
@@ -122,7 +129,8 @@ none_after i (b ∷ bs) h =
       | inl here ↦
           let some : 1 + prefix_len is_word bs ≡ 0 = rw (here, here) at h in absurd (omega arith)
       | inr other ↦
-          let one : 1 + prefix_len (λ b. not (is_word b)) bs ≡ suc (prefix_len (λ b. not (is_word b)) bs) = omega arith in
+          let one : 1 + prefix_len (λ b. not (is_word b)) bs ≡ suc (prefix_len (λ b. not (is_word b)) bs) =
+          omega arith in
           let more = rw one at (rw other at h) in
           rw other (none_after (i + 1) bs more)
     ]
@@ -148,4 +156,5 @@ next-some bs at g n gap run some =
     let run' : n ≡ prefix_len is_word (drop (at + g) bs) = rw rest at run in
     let after : drop (at + g + n) bs ≡ drop n (drop (at + g) bs) = drop_more_than bs (at + g) n in
     let here : 0 < prefix_len is_word (drop (at + g) bs) = omega (arith, run', some) in
-    words-gap at g (drop at bs) (omega (arith, gap')) ∙ rw (← split) (words-run (at + g) (drop (at + g) bs) here ∙ rw (← run', after))
+    words-gap at g (drop at bs) (omega (arith, gap')) ∙ rw (← split)
+    (words-run (at + g) (drop (at + g) bs) here ∙ rw (← run', after))

@@ -1,5 +1,6 @@
 -- Who sets the dwords that it collects sets their bytes.
-use Rattle.std.proofs.Common.{◌≡◌, ℕ, ◌+◌, ◌-◌, ◌*◌, ◌/◌, ◌%◌, ◌<◌, List, [], ◌∷◌, Some, ◌⊎◌, inl, inr, sym, ap, ◌∙◌, subst, arith}
+use Rattle.std.proofs.Common.{◌≡◌, ℕ, ◌+◌, ◌-◌, ◌*◌, ◌/◌, ◌%◌, ◌<◌, List, [], ◌∷◌, Some, ◌⊎◌, inl, inr, sym, ap, ◌∙◌}
+use Rattle.std.proofs.Common.{subst, arith}
 use Rattle.std.specs.Prelude.{IsTrue, All, slice_index}
 use Rattle.tm_table.specs.State.{Hart}
 use Rattle.tm_plan_cases.specs.declared.program.Program.{Program}
@@ -33,21 +34,30 @@ dword-collector cases b a =
 
 -- the bytes of dword a are set
 abbrev IsSet : Case → List Step → ℕ → Type 0
-IsSet case steps a = (i : ℕ) → i < 8 → last_write (a + i) steps ≡ Some (byte_of (slice_index case.first ((a - windows_base) / 8)) i)
+IsSet case steps a = (i : ℕ) → i < 8 → last_write (a + i) steps
+    ≡ Some (byte_of (slice_index case.first ((a - windows_base) / 8)) i)
 
-byte-set : (cases : Cases) (h b : ℕ) (case : Case) (steps : List Step) → AreShaped cases → IsTrue (is_declared cases b) → collector cases b ≡ h → All (IsSet case steps) (owned cases h) → last_write b steps ≡ Some (first_byte case.first b)
+byte-set : (cases : Cases) (h b : ℕ) (case : Case) (steps : List Step) → AreShaped cases → IsTrue (is_declared cases b)
+    → collector cases b ≡ h → All (IsSet case steps) (owned cases h)
+    → last_write b steps ≡ Some (first_byte case.first b)
 byte-set cases h b case steps a shared mine all =
     let (from, to, few, declared) = dword-place cases b (lies cases b a shared) in
-    let set : IsSet case steps (dword_of b) = of-owned (IsSet case steps) cases h b few declared (dword-collector cases b a ∙ mine) all in
+    let set : IsSet case steps (dword_of b) =
+    of-owned (IsSet case steps) cases h b few declared (dword-collector cases b a ∙ mine) all in
     let i = (b - windows_base) % 8 in
     let place : dword_of b + i ≡ b = omega arith in
     let number : (dword_of b - windows_base) / 8 ≡ (b - windows_base) / 8 = omega arith in
-    ap (λ (n : ℕ). last_write n steps) (sym place) ∙ (set i (omega arith) ∙ ap (λ (n : ℕ). Some (byte_of (slice_index case.first n) i)) number)
+    ap (λ (n : ℕ). last_write n steps) (sym place) ∙
+    (set i (omega arith) ∙ ap (λ (n : ℕ). Some (byte_of (slice_index case.first n) i)) number)
 
-steps-set : (p : Program) → Formed p → (h : ℕ) (first : Hart) (own : List Step) → SetsDwords p h first own → SetsBeforeSignal p h first own
+steps-set : (p : Program) → Formed p → (h : ℕ) (first : Hart) (own : List Step) → SetsDwords p h first own
+    → SetsBeforeSignal p h first own
 steps-set p formed h first [] d = tt
-steps-set p formed h first (s ∷ past) d =
-    (λ t c b case run is shared mine. byte-set p.cases h b case (this_phase p h past) formed.program.cases shared mine (d.0 t c case run is), steps-set p formed h first past d.1)
+steps-set p formed h first (s ∷ past) d = (
+  λ t c b case run is shared mine. byte-set p.cases h b case (this_phase p h past) formed.program.cases shared mine
+      (d.0 t c case run is),
+  steps-set p formed h first past d.1,
+)
 
 pub dwords-set : (p : Program) → DwordsSet p
 dwords-set p formed h d r half = steps-set p formed h (first_of_hart r h) (own h r.steps) (d r half)

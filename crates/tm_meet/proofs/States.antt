@@ -13,7 +13,8 @@ use Rattle.tm_meet.proofs.Owed.{all-up_to, ordered}
 use Rattle.tm_meet.proofs.PlainLegal.{plain-legal}
 
 pub flags-count : (p : Program) → FlagsCount p
-flags-count p m r memory g l = let t = told p m r memory in (λ i k. flag-holds p m.formed g i l k r.steps t, counted p g (own g r.steps) (t.keep g l))
+flags-count p m r memory g l = let t = told p m r memory in
+    (λ i k. flag-holds p m.formed g i l k r.steps t, counted p g (own g r.steps) (t.keep g l))
 
 at-most : (b : Bool) → one b ≤ 1
 at-most true = omega arith

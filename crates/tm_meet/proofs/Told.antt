@@ -33,7 +33,8 @@ legal-keeps p m r legal h l = on-legal p m.formed h l (tame p m h l) (KeepsBarri
 abbrev pub Told-reads : Program → List Step → Step → Type 0
 Told-reads p past s = Reads (plain_owed p past) (access_of s) ⊎ ReadsOf (λ b. IsTrue (is_window b)) (access_of s)
 
--- Steps that read what was written last, or bytes of the windows, and write what they may, or such bytes, of harts that keep the barrier.
+-- Steps that read what was written last, or bytes of the windows, and write what they may, or such bytes, of harts
+-- that keep the barrier.
 pub record Told (p : Program) (steps : List Step) : Type 0 where
   pub only : Always (λ past s. hart_of s < harts p) steps
   pub shaped : Always (λ past s. HasShape (access_of s)) steps
@@ -42,29 +43,49 @@ pub record Told (p : Program) (steps : List Step) : Type 0 where
   pub keep : AllKeep p steps
 
 pub told-before : (p : Program) (s : Step) (past : List Step) → Told p (s ∷ past) → Told p past
-told-before p s past t = record { only = t.only.1; shaped = t.shaped.1; reads = t.reads.1; kept = t.kept.1; keep = keep-before p s past t.keep }
+told-before p s past t = record {
+  only = t.only.1;
+  shaped = t.shaped.1;
+  reads = t.reads.1;
+  kept = t.kept.1;
+  keep = keep-before p s past t.keep;
+}
 
 -- ---- one step
 
-step-shaped : (p : Program) (h : ℕ) (o : Option ℕ) (before : Hart) (past : List Step) (s : Step) → MemoryStep p h o before past s → HasShape (access_of s)
+step-shaped : (p : Program) (h : ℕ) (o : Option ℕ) (before : Hart) (past : List Step) (s : Step)
+    → MemoryStep p h o before past s → HasShape (access_of s)
 step-shaped p h None before past s f = f.0.shape
 step-shaped p h (Some c) before past s f = f.0.shape
 
-step-reads : (p : Program) (h : ℕ) (o : Option ℕ) (before : Hart) (past : List Step) (s : Step) → MemoryStep p h o before past s → Told-reads p past s
+step-reads : (p : Program) (h : ℕ) (o : Option ℕ) (before : Hart) (past : List Step) (s : Step)
+    → MemoryStep p h o before past s → Told-reads p past s
 step-reads p h None before past s f = inl f.1
 step-reads p h (Some c) before past s f = inr f.1
 
 -- P of each step of a run of one memory
 abbrev pub StepsBy : Program → (ℕ → Hart) → List Step → Type 0
-StepsBy p first = Always (λ past s. MemoryStep p (hart_of s) (stream_at p (hart_of s) (now (first (hart_of s)) (own (hart_of s) past)).pc) (now (first (hart_of s)) (own (hart_of s) past)) past s)
+StepsBy p first =
+    Always (λ past s.
+    MemoryStep p (hart_of s) (stream_at p (hart_of s) (now (first (hart_of s)) (own (hart_of s) past)).pc)
+    (now (first (hart_of s)) (own (hart_of s) past)) past s)
 
-all-shaped : (p : Program) (first : ℕ → Hart) (steps : List Step) → StepsBy p first steps → Always (λ past s. HasShape (access_of s)) steps
+all-shaped : (p : Program) (first : ℕ → Hart) (steps : List Step) → StepsBy p first steps
+    → Always (λ past s. HasShape (access_of s)) steps
 all-shaped p first [] f = tt
-all-shaped p first (s ∷ past) f = (step-shaped p (hart_of s) (stream_at p (hart_of s) (now (first (hart_of s)) (own (hart_of s) past)).pc) (now (first (hart_of s)) (own (hart_of s) past)) past s f.0, all-shaped p first past f.1)
+all-shaped p first (s ∷ past) f = (
+  step-shaped p (hart_of s) (stream_at p (hart_of s) (now (first (hart_of s)) (own (hart_of s) past)).pc)
+      (now (first (hart_of s)) (own (hart_of s) past)) past s f.0,
+  all-shaped p first past f.1,
+)
 
 all-reads : (p : Program) (first : ℕ → Hart) (steps : List Step) → StepsBy p first steps → Always (Told-reads p) steps
 all-reads p first [] f = tt
-all-reads p first (s ∷ past) f = (step-reads p (hart_of s) (stream_at p (hart_of s) (now (first (hart_of s)) (own (hart_of s) past)).pc) (now (first (hart_of s)) (own (hart_of s) past)) past s f.0, all-reads p first past f.1)
+all-reads p first (s ∷ past) f = (
+  step-reads p (hart_of s) (stream_at p (hart_of s) (now (first (hart_of s)) (own (hart_of s) past)).pc)
+      (now (first (hart_of s)) (own (hart_of s) past)) past s f.0,
+  all-reads p first past f.1,
+)
 
 -- So it is of a run of one memory.
 pub told : (p : Program) → AllMeet p → (r : Run) → OneMemory p r → Told p r.steps

@@ -1,7 +1,10 @@
 -- Harts never wait for each other all at once: whoever is behind all others doesn't wait.
-use Rattle.std.proofs.Common.{◌≡◌, ◌≢◌, ℕ, zero, suc, ◌+◌, ◌<◌, ◌≤◌, List, [], ◌∷◌, Bool, true, false, ◌&&◌, ◌==◌, not, nat_le, nat_lt, ◌⊎◌, inl, inr, refl, sym, ap, ap₂, ◌∙◌, arith, le_refl, eqb-true, eq-eqb, ne_eqb}
+use Rattle.std.proofs.Common.{◌≡◌, ◌≢◌, ℕ, zero, suc, ◌+◌, ◌<◌, ◌≤◌, List, [], ◌∷◌, Bool, true, false, ◌&&◌, ◌==◌}
+use Rattle.std.proofs.Common.{not, nat_le, nat_lt, ◌⊎◌, inl, inr, refl, sym, ap, ap₂, ◌∙◌, arith, le_refl, eqb-true}
+use Rattle.std.proofs.Common.{eq-eqb, ne_eqb}
 use Rattle.std.specs.Prelude.{IsTrue}
-use Rattle.std.proofs.lemmas.Bool.{cases_Bool, true≢false, false≢true, or_cases, or_left, or_right, and_parts, and_from, leb-true, le-leb, ltb-true, not-true, not_from_false}
+use Rattle.std.proofs.lemmas.Bool.{cases_Bool, true≢false, false≢true, or_cases, or_left, or_right, and_parts}
+use Rattle.std.proofs.lemmas.Bool.{and_from, leb-true, le-leb, ltb-true, not-true, not_from_false}
 use Rattle.tm_table.specs.declared.state.Access.{Access}
 use Rattle.tm_table.specs.declared.state.Access.TheVariants.{Quiet, Read, Write}
 use Rattle.tm_plan_cases.specs.declared.program.Program.{Program}
@@ -41,7 +44,8 @@ other-than g h e s = true≢false (sym (eq-eqb g h s) ∙ not-true (g == h) e)
 
 -- ---- an idle read
 
-less-read : (a most : ℕ) (access : Access) → gets_less a most access ≡ true → (v : ℕ) × (access ≡ Read a 8 v) × (v < most)
+less-read : (a most : ℕ) (access : Access) → gets_less a most access ≡ true → (v : ℕ) × (access ≡ Read a 8 v)
+    × (v < most)
 less-read a most Quiet e = cc
 less-read a most (Write addr width value) e = cc
 less-read a most (Read addr width value) e =
@@ -49,7 +53,8 @@ less-read a most (Read addr width value) e =
     let r = and_parts (width == 8) (nat_lt value most) q.1 in
     (value, ap₂ (λ (x y : ℕ). Read x y value) (eqb-true _ _ q.0) (eqb-true _ _ r.0), ltb-true _ _ r.1)
 
-step-waits : (p : Program) → Formed p → (s : Step) (past : List Step) → Told p (s ∷ past) → is_idle_read p (hart_of s) (own (hart_of s) past) s ≡ true → Waits p past (hart_of s)
+step-waits : (p : Program) → Formed p → (s : Step) (past : List Step) → Told p (s ∷ past)
+    → is_idle_read p (hart_of s) (own (hart_of s) past) s ≡ true → Waits p past (hart_of s)
 step-waits p formed s past t e =
     let h = hart_of s in
     let most = phase (exit_of p h) (own h past) + 1 in
@@ -62,7 +67,8 @@ step-waits p formed s past t e =
     let same = read-is p formed g v few s past t read in
     record { signalled = q.0; other = g; few = few; differs = other-than g h r.0; behind = omega arith }
 
-all-wait : (p : Program) → Formed p → (steps : List Step) → Told p steps → Always (λ past s. IsTrue (is_idle_read p (hart_of s) (own (hart_of s) past) s) → Waits p past (hart_of s)) steps
+all-wait : (p : Program) → Formed p → (steps : List Step) → Told p steps
+    → Always (λ past s. IsTrue (is_idle_read p (hart_of s) (own (hart_of s) past) s) → Waits p past (hart_of s)) steps
 all-wait p formed [] t = tt
 all-wait p formed (s ∷ past) t = (step-waits p formed s past t, all-wait p formed past (told-before p s past t))
 
@@ -72,37 +78,46 @@ idle-waits p m r memory = all-wait p m.formed r.steps (told p m r memory)
 -- ---- who waits
 
 waits-or : (p : Program) (steps : List Step) (h : ℕ) → Waits p steps h ⊎ (Waits p steps h → ⊥)
-waits-or p steps h = by (cases_Bool (signalled p h (own h steps))) (cases_Bool (any (λ g. not (g == h) && nat_le (flags g steps) (phase_of p steps h)) (count_from 0 (harts p))))
+waits-or p steps h = by (cases_Bool (signalled p h (own h steps)))
+    (cases_Bool (any (λ g. not (g == h) && nat_le (flags g steps) (phase_of p steps h)) (count_from 0 (harts p))))
   where
     by : (signalled p h (own h steps) ≡ true) ⊎ (signalled p h (own h steps) ≡ false)
-        → (any (λ g. not (g == h) && nat_le (flags g steps) (phase_of p steps h)) (count_from 0 (harts p)) ≡ true) ⊎ (any (λ g. not (g == h) && nat_le (flags g steps) (phase_of p steps h)) (count_from 0 (harts p)) ≡ false)
+        → (any (λ g. not (g == h) && nat_le (flags g steps) (phase_of p steps h)) (count_from 0 (harts p)) ≡ true)
+        ⊎ (any (λ g. not (g == h) && nat_le (flags g steps) (phase_of p steps h)) (count_from 0 (harts p)) ≡ false)
         → Waits p steps h ⊎ (Waits p steps h → ⊥)
     by (inr n) o = inr (λ w. true≢false (sym w.signalled ∙ n))
     by (inl y) (inr n) = inr (λ w.
-        true≢false (sym (any-hart (λ g. not (g == h) && nat_le (flags g steps) (phase_of p steps h)) w.other (count_from 0 (harts p)) (among-count w.other 0 (harts p) (omega arith) (omega (arith, w.few)))
-        (and_from (not (w.other == h)) (nat_le (flags w.other steps) (phase_of p steps h)) (not_from_false (w.other == h) (ne_eqb w.other h w.differs)) (le-leb _ _ w.behind))) ∙ n))
+        true≢false (sym (any-hart (λ g. not (g == h) && nat_le (flags g steps) (phase_of p steps h)) w.other
+        (count_from 0 (harts p)) (among-count w.other 0 (harts p) (omega arith) (omega (arith, w.few)))
+        (and_from (not (w.other == h)) (nat_le (flags w.other steps) (phase_of p steps h))
+        (not_from_false (w.other == h) (ne_eqb w.other h w.differs)) (le-leb _ _ w.behind))) ∙ n))
     by (inl y) (inl o) =
-        let (g, among, is) = some-hart (λ g. not (g == h) && nat_le (flags g steps) (phase_of p steps h)) (count_from 0 (harts p)) o in
+        let (g, among, is) = some-hart (λ g. not (g == h) && nat_le (flags g steps) (phase_of p steps h))
+        (count_from 0 (harts p)) o in
         let few : g < harts p = let k = among-least g 0 (harts p) among in omega arith in
         let r = and_parts (not (g == h)) (nat_le (flags g steps) (phase_of p steps h)) is in
         inl (record { signalled = y; other = g; few = few; differs = other-than g h r.0; behind = leb-true _ _ r.1 })
 
 -- a hart that is waited for and hasn't signalled doesn't wait
-quiet : (p : Program) (steps : List Step) → Told p steps → (h : ℕ) (w : Waits p steps h) → signalled p w.other (own w.other steps) ≡ false → (g : ℕ) × (g < harts p) × (phase_of p steps g ≤ phase_of p steps h) × (Waits p steps g → ⊥)
+quiet : (p : Program) (steps : List Step) → Told p steps → (h : ℕ) (w : Waits p steps h)
+    → signalled p w.other (own w.other steps) ≡ false → (g : ℕ) × (g < harts p)
+    × (phase_of p steps g ≤ phase_of p steps h) × (Waits p steps g → ⊥)
 quiet p steps t h w q =
     let d = counted p w.other (own w.other steps) (t.keep w.other w.few) in
     let z : one (signalled p w.other (own w.other steps)) ≡ 0 = ap one q in
     (w.other, w.few, omega (arith, w.behind), λ v. true≢false (sym v.signalled ∙ q))
 
 -- one that has signalled is in an earlier phase
-behind : (p : Program) (steps : List Step) → Told p steps → (h : ℕ) (w : Waits p steps h) → signalled p w.other (own w.other steps) ≡ true → phase_of p steps w.other < phase_of p steps h
+behind : (p : Program) (steps : List Step) → Told p steps → (h : ℕ) (w : Waits p steps h)
+    → signalled p w.other (own w.other steps) ≡ true → phase_of p steps w.other < phase_of p steps h
 behind p steps t h w q =
     let d = counted p w.other (own w.other steps) (t.keep w.other w.few) in
     let z : one (signalled p w.other (own w.other steps)) ≡ 1 = ap one q in
     omega (arith, w.behind)
 
 -- From a hart that waits on to one that is behind it: at last to one that doesn't wait.
-someone : (p : Program) (steps : List Step) → Told p steps → (n h : ℕ) → h < harts p → phase_of p steps h ≤ n → (g : ℕ) × (g < harts p) × (phase_of p steps g ≤ phase_of p steps h) × (Waits p steps g → ⊥)
+someone : (p : Program) (steps : List Step) → Told p steps → (n h : ℕ) → h < harts p → phase_of p steps h ≤ n → (g : ℕ)
+    × (g < harts p) × (phase_of p steps g ≤ phase_of p steps h) × (Waits p steps g → ⊥)
 someone p steps t zero h l few = elim (waits-or p steps h) [
   | inr free ↦ (h, l, le_refl _, free)
   | inl w ↦ elim (cases_Bool (signalled p w.other (own w.other steps))) [
@@ -128,7 +143,13 @@ some-goes_on p m r memory h l out = elim (waits-or p r.steps h) [
       let t = told p m r memory in
       let half = memory-half p m.formed (λ g k. (m.each g k).writes) r memory in
       let (g, k, le, free) = someone p r.steps t (phase_of p r.steps h) h l (le_refl _) in
-      let more : phase_of p r.steps h ≢ last_phase p = signals-more p h (phase_of p r.steps h) (own h r.steps) (t.keep h l) w.signalled in
-      let most : phase_of p r.steps h ≤ last_phase p = phase-most p h (own h r.steps) (t.keep h l) in
-      (g, k, λ z. let e : phase_of p r.steps g ≡ last_phase p = halt-last p m r half g k z in absurd (omega arith), free)
+      let more : phase_of p r.steps h ≢ last_phase p =
+      signals-more p h (phase_of p r.steps h) (own h r.steps) (t.keep h l) w.signalled in
+      let most : phase_of p r.steps h ≤ last_phase p = phase-most p h (own h r.steps) (t.keep h l) in (
+        g,
+        k,
+        λ z. let e : phase_of p r.steps g ≡ last_phase p = halt-last p m r half g k z in
+            absurd (omega arith),
+        free,
+      )
 ]

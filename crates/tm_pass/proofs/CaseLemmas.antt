@@ -1,5 +1,6 @@
 -- The cases of one hart's text, one after another.
-use Rattle.std.proofs.Common.{◌≡◌, ℕ, zero, suc, ◌+◌, ◌*◌, ◌<◌, ◌≤◌, List, [], ◌∷◌, ◌++◌, length, map, drop, get_or, refl, sym, ap, ◌∙◌, arith, append_assoc, append-nil, drop-cons}
+use Rattle.std.proofs.Common.{◌≡◌, ℕ, zero, suc, ◌+◌, ◌*◌, ◌<◌, ◌≤◌, List, [], ◌∷◌, ◌++◌, length, map, drop, get_or}
+use Rattle.std.proofs.Common.{refl, sym, ap, ◌∙◌, arith, append_assoc, append-nil, drop-cons}
 use Rattle.std.specs.Prelude.{slice_get, Some}
 use Rattle.std.proofs.lemmas.List.{drop_all, get_or-map}
 use Rattle.std.proofs.lemmas.Option.{slice_get_read}
@@ -18,7 +19,8 @@ count-more : (f : ℕ → ℕ) (a n : ℕ) → map f (count_from a (suc n)) ≡ 
 count-more f a zero = let g : a ≡ a + 0 = omega arith in ap (λ (k : ℕ). f k ∷ []) g
 count-more f a (suc n) =
     let g : suc a + n ≡ a + suc n = omega arith in
-    ap (λ (l : List ℕ). f a ∷ l) (count-more f (suc a) n) ∙ ap (λ (k : ℕ). f a ∷ (map f (count_from (suc a) n) ++ f k ∷ [])) g
+    ap (λ (l : List ℕ). f a ∷ l) (count-more f (suc a) n) ∙ ap (λ (k : ℕ). f a
+    ∷ (map f (count_from (suc a) n) ++ f k ∷ [])) g
 
 -- one more number
 pub count-on : (f : ℕ → ℕ) (n m : ℕ) → m ≡ suc n → map f (count_from 0 m) ≡ map f (count_from 0 n) ++ f n ∷ []
@@ -43,18 +45,25 @@ module _ (cases : Cases) (shaped : AreShaped cases) (h : ℕ) (number : h < case
   size c = case_size B c (length (here c))
 
   -- a stream that was read of the cases
-  pub stream-read : (c : ℕ) (xs : List Case) (case : Case) (ys : List Stream) (s : Stream) → c < C → xs ≡ cases.cases → case ≡ get_or xs c case → ys ≡ case.streams → s ≡ get_or ys h s → s.words ≡ here c
+  pub stream-read : (c : ℕ) (xs : List Case) (case : Case) (ys : List Stream) (s : Stream) → c < C → xs ≡ cases.cases
+      → case ≡ get_or xs c case → ys ≡ case.streams → s ≡ get_or ys h s → s.words ≡ here c
   stream-read c xs case ys s few ex ec ey es =
-      let at : slice_get cases.cases c ≡ Some case = slice_get_read cases.cases C c case refl few (ec ∙ ap (λ (l : List Case). get_or l c case) ex) in
-      let many : length case.streams ≡ cases.harts = (all-at (IsShapedCase cases) cases.cases c case shaped.each at).streams in
-      let mine : slice_get case.streams h ≡ Some s = slice_get_read case.streams (length case.streams) h s refl (omega (arith, many)) (es ∙ ap (λ (l : List Stream). get_or l h s) ey) in
+      let at : slice_get cases.cases c ≡ Some case =
+      slice_get_read cases.cases C c case refl few (ec ∙ ap (λ (l : List Case). get_or l c case) ex) in
+      let many : length case.streams ≡ cases.harts =
+      (all-at (IsShapedCase cases) cases.cases c case shaped.each at).streams in
+      let mine : slice_get case.streams h ≡ Some s =
+      slice_get_read case.streams (length case.streams) h s refl (omega (arith, many))
+      (es ∙ ap (λ (l : List Stream). get_or l h s) ey) in
       let mapped = get_or-map (λ (k : Case). words_at (slice_get k.streams h)) cases.cases c case [] few in
       let found : get_or cases.cases c case ≡ case = sym (ec ∙ ap (λ (l : List Case). get_or l c case) ex) in
       sym (mapped ∙ (ap (λ (k : Case). words_at (slice_get k.streams h)) found ∙ ap words_at mine))
 
   -- the words of the next case, and of those behind it
-  pub words-next : (c n : ℕ) → n ≡ suc c → c < C → (at' barrier : ℕ) (o w : List ℕ) → w ≡ o ++ case_words B cases.passes c (here c) at' barrier
-      → w ++ cases_words B cases.passes n (drop n ss) (at' + 4 * size c) barrier ≡ o ++ cases_words B cases.passes c (drop c ss) at' barrier
+  pub words-next : (c n : ℕ) → n ≡ suc c → c < C → (at' barrier : ℕ) (o w : List ℕ)
+      → w ≡ o ++ case_words B cases.passes c (here c) at' barrier
+      → w ++ cases_words B cases.passes n (drop n ss) (at' + 4 * size c) barrier
+      ≡ o ++ cases_words B cases.passes c (drop c ss) at' barrier
   words-next c n e few at' barrier o w is =
       let one = case_words B cases.passes c (here c) at' barrier in
       let behind = cases_words B cases.passes (suc c) (drop (suc c) ss) (at' + 4 * size c) barrier in
@@ -66,7 +75,8 @@ module _ (cases : Cases) (shaped : AreShaped cases) (h : ℕ) (number : h < case
       ∙ ap (λ (l : List (List ℕ)). o ++ cases_words B cases.passes c l at' barrier) (sym split)))
 
   -- behind the last case nothing is left
-  pub words-end : (c : ℕ) → C ≤ c → (at' barrier : ℕ) (o : List ℕ) → o ++ cases_words B cases.passes c (drop c ss) at' barrier ≡ o
+  pub words-end : (c : ℕ) → C ≤ c → (at' barrier : ℕ) (o : List ℕ)
+      → o ++ cases_words B cases.passes c (drop c ss) at' barrier ≡ o
   words-end c l at' barrier o =
       let none : drop c ss ≡ [] = drop_all c ss (omega (arith, count cases shaped h)) in
       ap (λ (rest : List (List ℕ)). o ++ cases_words B cases.passes c rest at' barrier) none ∙ append-nil o

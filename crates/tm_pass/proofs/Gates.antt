@@ -1,5 +1,6 @@
 -- What the gate of a hart's text does.
-use Rattle.std.proofs.Common.{◌≡◌, inl, inr, ℕ, zero, suc, ◌+◌, ◌-◌, ◌*◌, ◌^◌, ◌<◌, List, [], ◌∷◌, ◌++◌, length, map, refl, sym, ap, ap₂, ◌∙◌, arith, append_assoc}
+use Rattle.std.proofs.Common.{◌≡◌, inl, inr, ℕ, zero, suc, ◌+◌, ◌-◌, ◌*◌, ◌^◌, ◌<◌, List, [], ◌∷◌, ◌++◌, length, map}
+use Rattle.std.proofs.Common.{refl, sym, ap, ap₂, ◌∙◌, arith, append_assoc}
 use Rattle.std.specs.Prelude.{slice_get, Some}
 use Rattle.tm_table.specs.declared.instr.Instr.{Instr}
 use Rattle.tm_table.specs.Words.{Fits, word_of}
@@ -56,7 +57,8 @@ module _ (cases : Cases) (shaped : AreShaped cases) (h : ℕ) (number : h < case
   behind-all = let e = ap (skip (blocks_of cases h) 0 (streams_of cases h)) (count cases shaped h) in omega (arith, e)
 
   -- the words, put together where the halt mark and the barrier's size are known
-  pub whole-words : (halt size' : ℕ) → halt ≡ halt_at cases h base → size' ≡ length (barrier h cases.harts) → (o w1 w2 w3 : List ℕ)
+  pub whole-words : (halt size' : ℕ) → halt ≡ halt_at cases h base → size' ≡ length (barrier h cases.harts)
+      → (o w1 w2 w3 : List ℕ)
       → o ≡ [] → w1 ≡ o ++ words_of (gate h (halt + 4 * size' - base - 4) ++ constant 31 (private_at h))
       → w2 ≡ w1 ++ cases_words (blocks_of cases h) cases.passes 0 (streams_of cases h) (base + 56) (halt + 4)
       → w3 ≡ w2 ++ 0x0000006F ∷ words_of (barrier h cases.harts) → w3 ≡ words_of_hart cases h base
@@ -64,12 +66,15 @@ module _ (cases : Cases) (shaped : AreShaped cases) (h : ℕ) (number : h < case
   whole-words halt size' eh es o w1 w2 w3 e0 e1 e2 e3 =
       let skipped = ap (skip (blocks_of cases h) 0 (streams_of cases h)) (count cases shaped h) in
       let far : halt + 4 * size' - base - 4 ≡ 4 * (size - 2) = omega (arith, eh, es, skipped) in
-      let at' : halt + 4 ≡ base + 4 * (opening_size + skip (blocks_of cases h) 0 (streams_of cases h) (length (streams_of cases h)) + 1) = omega (arith, eh, skipped) in
+      let at' : halt + 4
+      ≡ base + 4 * (opening_size + skip (blocks_of cases h) 0 (streams_of cases h) (length (streams_of cases h))
+      + 1) = omega (arith, eh, skipped) in
       let opens = λ (n : ℕ). words_of (gate h n ++ constant 31 (private_at h)) in
       let all = λ (b : ℕ). cases_words (blocks_of cases h) cases.passes 0 (streams_of cases h) (base + 56) b in
       let ending = 0x0000006F ∷ words_of (barrier h cases.harts) in
       e3
-      ∙ ap (λ (w : List ℕ). w ++ ending) (e2 ∙ ap (λ (w : List ℕ). w ++ all (halt + 4)) (e1 ∙ ap (λ (w : List ℕ). w ++ opens (halt + 4 * size' - base - 4)) e0))
+      ∙ ap (λ (w : List ℕ). w ++ ending) (e2 ∙ ap (λ (w : List ℕ). w ++ all (halt + 4))
+      (e1 ∙ ap (λ (w : List ℕ). w ++ opens (halt + 4 * size' - base - 4)) e0))
       ∙ append_assoc (opens (halt + 4 * size' - base - 4)) (all (halt + 4)) ending
       ∙ ap₂ (λ (x y : ℕ). opens x ++ (all y ++ ending)) far at'
 
@@ -85,8 +90,10 @@ module _ (cases : Cases) (shaped : AreShaped cases) (h : ℕ) (number : h < case
   unfolding words_of_hart hart_words
   third-word = refl
 
-  module _ (code : HartCode) (words : code.words ≡ words_of_hart cases h base) (starts : code.starts ≡ map (start_at cases h base) (count_from 0 C))
-      (ends : code.ends ≡ map (end_at cases h base) (count_from 0 C)) (exit : code.exit ≡ exit_at cases h base) (halt : code.halt ≡ halt_at cases h base) where
+  module _ (code : HartCode) (words : code.words ≡ words_of_hart cases h base) (starts : code.starts
+      ≡ map (start_at cases h base) (count_from 0 C))
+      (ends : code.ends ≡ map (end_at cases h base) (count_from 0 C)) (exit : code.exit ≡ exit_at cases h base)
+      (halt : code.halt ≡ halt_at cases h base) where
     start-is : (c x : ℕ) → slice_get code.starts c ≡ Some x → (c < C) × (x ≡ start_at cases h base c)
     start-is c x e =
         let r = of-count (start_at cases h base) 0 C c x (ap (λ (l : List ℕ). slice_get l c) (sym starts) ∙ e) in
@@ -110,7 +117,8 @@ module _ (cases : Cases) (shaped : AreShaped cases) (h : ℕ) (number : h < case
     -- and none is behind the last word
     behind : (a : ℕ) → a ≡ base + 4 * size → IsPlain code a
     behind a e = record {
-      streams = λ c start end b f. let s = end-is c end f in inr (omega (arith, s.1, ends-low cases shaped h number base c s.0, behind-all));
+      streams = λ c start end b f. let s = end-is c end f in
+          inr (omega (arith, s.1, ends-low cases shaped h number base c s.0, behind-all));
       exit = λ z. omega (arith, z, exit, behind-all);
       halt = λ z. omega (arith, z, halt, behind-all);
     }
@@ -123,24 +131,46 @@ module _ (cases : Cases) (shaped : AreShaped cases) (h : ℕ) (number : h < case
         let n = 4 * (size - 2) in
         let most = short-hart cases shaped h number in
         let harts = shaped.harts in
-        let word : (k : ℕ) (v : ℕ) → slice_get (words_of_hart cases h base) k ≡ Some v → slice_get code.words k ≡ Some v = λ k v e. ap (λ (l : List ℕ). slice_get l k) words ∙ e in
+        let word : (k : ℕ) (v : ℕ) → slice_get (words_of_hart cases h base) k ≡ Some v → slice_get code.words k
+        ≡ Some v = λ k v e. ap (λ (l : List ℕ). slice_get l k) words ∙ e in
         let a1 : s.pc ≡ base + 4 * 0 = omega (arith, pc) in
         let a2 : s.pc + 4 ≡ base + 4 * 1 = omega (arith, pc) in
         let a3 : s.pc + 4 + 4 ≡ base + 4 * 2 = omega (arith, pc) in
-        let t1 = ap w.text a1 ∙ (has 0 (word_of (addi 1 0 h)) (omega arith) (word 0 _ first-word) ∙ word-instr (addi 1 0 h) (addi_fits 1 0 h (omega arith) (omega arith) (omega arith))) in
-        let t2 = ap w.text a2 ∙ (has 1 (word_of (beq 1 10 8)) (omega arith) (word 1 _ second-word) ∙ word-instr (beq 1 10 8) (beq_fits 1 10 8 (omega arith) (omega arith) (omega arith) (omega arith))) in
-        let t3 = ap w.text a3 ∙ (has 2 (word_of (jump n)) (omega arith) (word 2 _ third-word) ∙ word-instr (jump n) (jump_fits n (omega arith) (omega arith))) in
+        let t1 = ap w.text a1 ∙ (has 0 (word_of (addi 1 0 h)) (omega arith) (word 0 _ first-word) ∙ word-instr
+        (addi 1 0 h) (addi_fits 1 0 h (omega arith) (omega arith) (omega arith))) in
+        let t2 = ap w.text a2 ∙ (has 1 (word_of (beq 1 10 8)) (omega arith) (word 1 _ second-word) ∙ word-instr
+        (beq 1 10 8) (beq_fits 1 10 8 (omega arith) (omega arith) (omega arith) (omega arith))) in
+        let t3 = ap w.text a3 ∙ (has 2 (word_of (jump n)) (omega arith) (word 2 _ third-word) ∙ word-instr (jump n)
+        (jump_fits n (omega arith) (omega arith))) in
         let small : h < 2 ^ 11 = omega arith in
         step_addi h refl t1 (omega arith) (record {
-          within = record { from = omega (arith, pc); below = omega (arith, pc, all-words); least = omega (arith, pc); most = omega (arith, pc, all-words); access = refl };
+          within = record {
+            from = omega (arith, pc);
+            below = omega (arith, pc, all-words);
+            least = omega (arith, pc);
+            most = omega (arith, pc, all-words);
+            access = refl;
+          };
           plain = before (s.pc + 4) (omega (arith, pc));
         })
         (step_beq_on refl t2 (λ e. other (sym e)) (record {
-          within = record { from = omega (arith, pc); below = omega (arith, pc, all-words); least = omega (arith, pc); most = omega (arith, pc, all-words); access = refl };
+          within = record {
+            from = omega (arith, pc);
+            below = omega (arith, pc, all-words);
+            least = omega (arith, pc);
+            most = omega (arith, pc, all-words);
+            access = refl;
+          };
           plain = before (s.pc + 4 + 4) (omega (arith, pc));
         })
         (step_jal {i = jump n} (s.pc + 8 + n) refl t3 (omega arith) (record {
-          within = record { from = omega (arith, pc); below = omega (arith, pc, all-words); least = omega (arith, pc); most = omega (arith, pc, all-words); access = refl };
+          within = record {
+            from = omega (arith, pc);
+            below = omega (arith, pc, all-words);
+            least = omega (arith, pc);
+            most = omega (arith, pc, all-words);
+            access = refl;
+          };
           plain = behind (s.pc + 8 + n) (omega (arith, pc));
         })
         (Now (record {

@@ -1,5 +1,6 @@
 -- The cases of the tests are shaped.
-use Rattle.std.proofs.Common.{◌≡◌, ◌≢◌, ℕ, zero, suc, ◌+◌, ◌*◌, ◌<◌, List, [], ◌∷◌, length, refl, sym, ap, ap₂, ◌∙◌, subst, arith, inl, inr}
+use Rattle.std.proofs.Common.{◌≡◌, ◌≢◌, ℕ, zero, suc, ◌+◌, ◌*◌, ◌<◌, List, [], ◌∷◌, length, refl, sym, ap, ap₂, ◌∙◌}
+use Rattle.std.proofs.Common.{subst, arith, inl, inr}
 use Rattle.std.specs.Prelude.{All, AllPairs, slice_get, slice_index, Some}
 use Rattle.tm_table.specs.Words.{word_of}
 use Rattle.tm_plan_cases.specs.declared.cases.Case.{Case}
@@ -23,7 +24,8 @@ unfolding word_of
 slot = refl
 
 slot-instr : instr_of 0x00100093 ≡ Some (addi 1 0 1)
-slot-instr = subst (λ (w : ℕ). instr_of w ≡ Some (addi 1 0 1)) slot (word-instr (addi 1 0 1) (addi_fits 1 0 1 (omega arith) (omega arith) (omega arith)))
+slot-instr = subst (λ (w : ℕ). instr_of w ≡ Some (addi 1 0 1)) slot
+    (word-instr (addi 1 0 1) (addi_fits 1 0 1 (omega arith) (omega arith) (omega arith)))
 
 slot-shaped : (cases : Cases) (len n : ℕ) → IsShapedSlot cases len n (addi 1 0 1)
 slot-shaped cases len n = record {
@@ -44,14 +46,18 @@ module _ (cases : Cases) (h : ℕ) (s : Stream) (words : s.words ≡ 0x00100093 
   long : length s.words ≡ 1
   long = ap length words
 
-  pub stream-shaped : slice_index s.regs 0 ≡ 0 → slice_index s.regs 28 ≡ window_at 0 → slice_index s.regs 29 ≡ window_at 1 → slice_index s.regs 30 ≡ window_at 2 → slice_index s.regs 31 ≡ private_at h
+  pub stream-shaped : slice_index s.regs 0 ≡ 0 → slice_index s.regs 28 ≡ window_at 0 → slice_index s.regs 29
+      ≡ window_at 1 → slice_index s.regs 30 ≡ window_at 2 → slice_index s.regs 31 ≡ private_at h
       → IsShapedStream cases h s
   stream-shaped z b0 b1 b2 own = record {
     some = omega (arith, long);
     few = omega (arith, long);
     slots = λ n w e.
-        let is = one-slot n w (ap (λ (l : List ℕ). slice_get l n) (sym words) ∙ e) in
-        (addi 1 0 1, (subst (λ (v : ℕ). instr_of v ≡ Some (addi 1 0 1)) is slot-instr), slot-shaped cases (length s.words) n);
+        let is = one-slot n w (ap (λ (l : List ℕ). slice_get l n) (sym words) ∙ e) in (
+          addi 1 0 1,
+          (subst (λ (v : ℕ). instr_of v ≡ Some (addi 1 0 1)) is slot-instr),
+          slot-shaped cases (length s.words) n,
+        );
     zero = z;
     bases = λ w l. base w l;
     own = own;
@@ -63,7 +69,8 @@ module _ (cases : Cases) (h : ℕ) (s : Stream) (words : s.words ≡ 0x00100093 
       base (suc (suc zero)) l = b2
       base (suc (suc (suc w))) l = absurd (omega arith)
 
-pub case-shaped : (cases : Cases) (case : Case) (s t : Stream) → cases.harts ≡ 2 → case.streams ≡ s ∷ t ∷ [] → length case.first ≡ 768 → IsShapedStream cases 0 s → IsShapedStream cases 1 t → IsShapedCase cases case
+pub case-shaped : (cases : Cases) (case : Case) (s t : Stream) → cases.harts ≡ 2 → case.streams ≡ s ∷ t ∷ []
+    → length case.first ≡ 768 → IsShapedStream cases 0 s → IsShapedStream cases 1 t → IsShapedCase cases case
 case-shaped cases case s t e f g a b = record {
   streams = ap length f ∙ sym e;
   first = g;
@@ -75,13 +82,20 @@ case-shaped cases case s t e f g a b = record {
     each (suc zero) x i = let same : t ≡ x = cc in subst (IsShapedStream cases 1) same b
     each (suc (suc h)) x i = let no : ⊥ = cc in absurd no
 
-pub cases-shaped : (all : Cases) (case : Case) (w : Window) → all.harts ≡ 2 → all.line ≡ 64 → all.passes ≡ 2 → all.windows ≡ w ∷ [] → all.cases ≡ case ∷ [] → w.number ≡ 0 → w.lines ≡ 1 → IsShapedCase all case → AreShaped all
+pub cases-shaped : (all : Cases) (case : Case) (w : Window) → all.harts ≡ 2 → all.line ≡ 64 → all.passes ≡ 2
+    → all.windows ≡ w ∷ [] → all.cases ≡ case ∷ [] → w.number ≡ 0 → w.lines ≡ 1 → IsShapedCase all case → AreShaped all
 cases-shaped all case w e f g i j n m it = record {
   harts = (omega (arith, e), omega (arith, e));
   count = let one = ap length j in (omega (arith, one), omega (arith, one));
   passes = (omega (arith, g), omega (arith, g));
   line = inr (inl f);
-  windows = subst (All (IsShapedWindow all.line)) (sym i) (all-one (IsShapedWindow all.line) w (record { number = omega (arith, n); some = omega (arith, m); few = (let size : w.lines * all.line ≡ 64 = ap₂ (λ (a b : ℕ). a * b) m f in omega (arith, size)) }));
-  apart = subst (AllPairs (λ (a b : Window). a.number ≢ b.number)) (sym i) (pairs-all (λ (a b : Window). a.number ≢ b.number) (w ∷ []) (tt, tt));
+  windows = subst (All (IsShapedWindow all.line)) (sym i)
+      (all-one (IsShapedWindow all.line) w (record {
+        number = omega (arith, n);
+        some = omega (arith, m);
+        few = (let size : w.lines * all.line ≡ 64 = ap₂ (λ (a b : ℕ). a * b) m f in omega (arith, size));
+      }));
+  apart = subst (AllPairs (λ (a b : Window). a.number ≢ b.number)) (sym i)
+      (pairs-all (λ (a b : Window). a.number ≢ b.number) (w ∷ []) (tt, tt));
   each = subst (All (IsShapedCase all)) (sym j) (all-one (IsShapedCase all) case it);
 }

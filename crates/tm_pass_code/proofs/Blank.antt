@@ -27,9 +27,11 @@ plain-instrs ps at [] = refl
 plain-instrs ps at (i ∷ is) = ap (λ (l : List Instr). i ∷ l) (plain-instrs ps (at + 1) is)
 
 -- the words that plain code becomes
-pub plain-words : (s : Sheet) (is : List Instr) → s ≡ puts blank is → sheet.words_of (instrs s.places 0 s.items) ≡ words_of is
+pub plain-words : (s : Sheet) (is : List Instr) → s ≡ puts blank is → sheet.words_of (instrs s.places 0 s.items)
+    ≡ words_of is
 unfolding puts
-plain-words s is e = ap (λ (x : Sheet). sheet.words_of (instrs x.places 0 x.items)) e ∙ ap sheet.words_of (plain-instrs [] 0 is) ∙ same-words is
+plain-words s is e = ap (λ (x : Sheet). sheet.words_of (instrs x.places 0 x.items)) e ∙ ap sheet.words_of
+    (plain-instrs [] 0 is) ∙ same-words is
 
 -- how many words there are
 pub plain-length : (s : Sheet) (is : List Instr) → s ≡ puts blank is → length s.items ≡ length is

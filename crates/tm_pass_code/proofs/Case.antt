@@ -18,4 +18,5 @@ case_built b passes c stream at' barrier d1 d2 back o w1 w2 w3 ed1 ed2 eb e1 e2 
     ∙ append_assoc (o ++ front) stream behind
     ∙ append_assoc o front (stream ++ behind)
     ∙ ap (λ (x : ℕ). o ++ (words_of (case_before b c x) ++ (stream ++ behind))) ed1
-    ∙ ap₂ (λ (x y : ℕ). o ++ (words_of (case_before b c (barrier - (at' + 4 * (1 + length (b.first c))))) ++ (stream ++ words_of (case_behind b passes c x y)))) eb ed2
+    ∙ ap₂ (λ (x y : ℕ). o ++ (words_of (case_before b c (barrier - (at' + 4 * (1 + length (b.first c)))))
+    ++ (stream ++ words_of (case_behind b passes c x y)))) eb ed2

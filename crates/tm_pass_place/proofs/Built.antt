@@ -1,5 +1,6 @@
 -- The built program of shaped cases is a program.
-use Rattle.std.proofs.Common.{◌≡◌, ℕ, zero, suc, ◌+◌, ◌*◌, ◌<◌, ◌≤◌, List, [], ◌++◌, length, map, flat_map, refl, sym, ap, ◌∙◌, arith, length-append}
+use Rattle.std.proofs.Common.{◌≡◌, ℕ, zero, suc, ◌+◌, ◌*◌, ◌<◌, ◌≤◌, List, [], ◌++◌, length, map, flat_map, refl, sym}
+use Rattle.std.proofs.Common.{ap, ◌∙◌, arith, length-append}
 use Rattle.std.specs.Prelude.{slice_index, slice_index_or}
 use Rattle.std.proofs.lemmas.List.{get_or_append_left, get_or-append-add}
 use Rattle.std.proofs.Math.Nat.{mul-le-mul_left}
@@ -23,7 +24,8 @@ use Rattle.tm_pass_place.proofs.Sizes.{short-hart}
 map-at : (f : ℕ → ℕ) (a n k : ℕ) → k < n → slice_index (map f (count_from a n)) k ≡ f (a + k)
 map-at f a zero k l = absurd (omega arith)
 map-at f a (suc n) zero l = let e : a ≡ a + 0 = omega arith in ap f e
-map-at f a (suc n) (suc k) l = let e : suc a + k ≡ a + suc k = omega arith in map-at f (suc a) n k (omega arith) ∙ ap f e
+map-at f a (suc n) (suc k) l = let e : suc a + k ≡ a + suc k = omega arith in
+    map-at f (suc a) n k (omega arith) ∙ ap f e
 
 module _ (f : ℕ → ℕ → ℕ) (C : ℕ) where
   abbrev row : ℕ → List ℕ
@@ -36,40 +38,58 @@ module _ (f : ℕ → ℕ → ℕ) (C : ℕ) where
       let g : a ≡ a + 0 = omega arith in
       let rest = flat_map row (count_from (suc a) n) in
       ap (slice_index (row a ++ rest)) e
-      ∙ (get_or_append_left (row a) rest 0 c (omega (arith, length-line (f a) 0 C)) ∙ (map-at (f a) 0 C c m ∙ (ap (f a) (omega arith) ∙ ap (λ (h : ℕ). f h c) g)))
+      ∙ (get_or_append_left (row a) rest 0 c (omega (arith, length-line (f a) 0 C)) ∙
+      (map-at (f a) 0 C c m ∙ (ap (f a) (omega arith) ∙ ap (λ (h : ℕ). f h c) g)))
   grid-at a (suc n) (suc k) c l m =
       let rest = flat_map row (count_from (suc a) n) in
       let times : suc k * C ≡ C + k * C = next k in
       let e : suc k * C + c ≡ length (row a) + (k * C + c) = omega (arith, times, length-line (f a) 0 C) in
       let g : suc a + k ≡ a + suc k = omega arith in
-      ap (slice_index (row a ++ rest)) e ∙ (get_or-append-add (row a) rest (k * C + c) 0 ∙ (grid-at (suc a) n k c (omega arith) m ∙ ap (λ (h : ℕ). f h c) g))
+      ap (slice_index (row a ++ rest)) e ∙ (get_or-append-add (row a) rest (k * C + c) 0 ∙
+      (grid-at (suc a) n k c (omega arith) m ∙ ap (λ (h : ℕ). f h c) g))
     where
       next : (k : ℕ) → suc k * C ≡ C + k * C
       next k = grind arith
 
   length-grid : (a n : ℕ) → length (flat_map row (count_from a n)) ≡ n * C
   length-grid a zero = omega arith
-  length-grid a (suc n) = length-append (row a) (flat_map row (count_from (suc a) n)) ∙ omega (arith, next n, length-line (f a) 0 C, length-grid (suc a) n)
+  length-grid a (suc n) = length-append (row a) (flat_map row (count_from (suc a) n)) ∙ omega (
+    arith,
+    next n,
+    length-line (f a) 0 C,
+    length-grid (suc a) n,
+  )
     where
       next : (k : ℕ) → suc k * C ≡ C + k * C
       next k = grind arith
 
 -- ---- the text
 
-module _ (cases : Cases) (masks : Masks) (shaped : AreShaped cases) (fit : MasksFit cases masks) (regs : HaveRegisters cases) where
+module _ (cases : Cases) (masks : Masks) (shaped : AreShaped cases) (fit : MasksFit cases masks)
+    (regs : HaveRegisters cases) where
   text-short : (h n base : ℕ) → h + n ≤ cases.harts → length (text_words (blocks_of cases) cases h n base) ≤ n * 33792
   text-short h zero base l = omega arith
   text-short h (suc n) base l =
       let one = hart_words (blocks_of cases h) cases.passes (streams_of cases h) h base in
       let on = base + 4 * hart_size (blocks_of cases h) (streams_of cases h) in
-      omega (arith, length-append one (text_words (blocks_of cases) cases (suc h) n on), length-hart (blocks_of cases h) cases.passes (streams_of cases h) h base, short-hart cases shaped h (omega arith), text-short (suc h) n on (omega arith))
+      omega (
+        arith,
+        length-append one (text_words (blocks_of cases) cases (suc h) n on),
+        length-hart (blocks_of cases h) cases.passes (streams_of cases h) h base,
+        short-hart cases shaped h (omega arith),
+        text-short (suc h) n on (omega arith),
+      )
 
   text-some : (h n base : ℕ) → 1 ≤ n → 1 ≤ length (text_words (blocks_of cases) cases h n base)
   text-some h zero base l = absurd (omega arith)
   text-some h (suc n) base l =
       let one = hart_words (blocks_of cases h) cases.passes (streams_of cases h) h base in
       let on = base + 4 * hart_size (blocks_of cases h) (streams_of cases h) in
-      omega (arith, length-append one (text_words (blocks_of cases) cases (suc h) n on), length-hart (blocks_of cases h) cases.passes (streams_of cases h) h base)
+      omega (
+        arith,
+        length-append one (text_words (blocks_of cases) cases (suc h) n on),
+        length-hart (blocks_of cases h) cases.passes (streams_of cases h) h base,
+      )
 
   some-barrier : (h n : ℕ) → 1 ≤ length (barrier h n)
   unfolding barrier meet prepare
@@ -82,7 +102,8 @@ module _ (cases : Cases) (masks : Masks) (shaped : AreShaped cases) (fit : Masks
       let b = shaped.count in
       let tables = (tables-stand cases masks shaped fit regs).whole in
       let m : table_size cases.harts ≤ 14336 = omega arith in
-      let most : length cases.cases * table_size cases.harts ≤ length cases.cases * 14336 = mul-le-mul_left (length cases.cases) m in
+      let most : length cases.cases * table_size cases.harts ≤ length cases.cases * 14336 =
+      mul-le-mul_left (length cases.cases) m in
       record {
         cases = shaped;
         masks = fit;
@@ -90,7 +111,11 @@ module _ (cases : Cases) (masks : Masks) (shaped : AreShaped cases) (fit : Masks
         ends = length-grid (end_in cases) (length cases.cases) 0 cases.harts;
         exits = length-line (exit_in cases) 0 cases.harts;
         halts = length-line (halt_in cases) 0 cases.harts;
-        text = (text-some 0 cases.harts text_base a.0, (let t = text-short 0 cases.harts text_base (omega arith) in omega arith));
+        text = (
+          text-some 0 cases.harts text_base a.0,
+          (let t = text-short 0 cases.harts text_base (omega arith) in
+              omega arith),
+        );
         tables = omega (arith, tables);
       }
 
@@ -101,10 +126,13 @@ module _ (cases : Cases) (masks : Masks) (shaped : AreShaped cases) (fit : Masks
       record {
         text = refl;
         some = λ h l. some-barrier h cases.harts;
-        starts = λ h c l m. grid-at (start_in cases) (length cases.cases) 0 cases.harts h c l m ∙ ap (λ (g : ℕ). start_in cases g c) (zero-on h);
+        starts = λ h c l m. grid-at (start_in cases) (length cases.cases) 0 cases.harts h c l m ∙ ap
+            (λ (g : ℕ). start_in cases g c) (zero-on h);
         ends = λ h c l m.
-            let e = grid-at (end_in cases) (length cases.cases) 0 cases.harts h c l m ∙ ap (λ (g : ℕ). end_in cases g c) (zero-on h) in
-            let s = grid-at (start_in cases) (length cases.cases) 0 cases.harts h c l m ∙ ap (λ (g : ℕ). start_in cases g c) (zero-on h) in
+            let e = grid-at (end_in cases) (length cases.cases) 0 cases.harts h c l m ∙ ap (λ (g : ℕ). end_in cases g c)
+            (zero-on h) in
+            let s = grid-at (start_in cases) (length cases.cases) 0 cases.harts h c l m ∙ ap
+            (λ (g : ℕ). start_in cases g c) (zero-on h) in
             e ∙ ap (λ (a : ℕ). a + 4 * length (slice_index_or (streams_of cases h) c [])) (sym s);
         halts = λ h l. map-at (halt_in cases) 0 cases.harts h l ∙ ap (halt_in cases) (zero-on h);
         exits = λ h l.

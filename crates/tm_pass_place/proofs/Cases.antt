@@ -1,5 +1,6 @@
 -- The parts of each case stand in their places.
-use Rattle.std.proofs.Common.{◌≡◌, ◌≢◌, ◌⊎◌, inl, inr, ℕ, suc, ◌+◌, ◌-◌, ◌*◌, ◌<◌, ◌≤◌, List, [], ◌∷◌, ◌++◌, length, Option, refl, subst, arith, length-append}
+use Rattle.std.proofs.Common.{◌≡◌, ◌≢◌, ◌⊎◌, inl, inr, ℕ, suc, ◌+◌, ◌-◌, ◌*◌, ◌<◌, ◌≤◌, List, [], ◌∷◌, ◌++◌, length}
+use Rattle.std.proofs.Common.{Option, refl, subst, arith, length-append}
 use Rattle.tm_table.specs.declared.instr.Instr.{Instr}
 use Rattle.tm_plan_cases.specs.declared.program.Program.{Program}
 use Rattle.tm_plan_cases.specs.Shaped.{AreShaped}
@@ -22,7 +23,8 @@ use Rattle.tm_pass_steps.specs.Sites.{CallSite}
 use Rattle.tm_pass_steps.specs.Turning.{Plain}
 use Rattle.tm_pass_steps.specs.Placed.{ResetPlaced, SavePlaced, CollectPlaced, TurnPlaced}
 use Rattle.tm_pass_place.specs.Places.{first_long, collect_long}
-use Rattle.tm_pass_place.proofs.Sites.{B, words, some, base, heads, spreads, next, start-is, ends-low, barrier-is, before-clear, behind-clear, code-before, code-behind}
+use Rattle.tm_pass_place.proofs.Sites.{B, words, some, base, heads, spreads, next, start-is, ends-low, barrier-is}
+use Rattle.tm_pass_place.proofs.Sites.{before-clear, behind-clear, code-before, code-behind}
 
 -- behind the first of clear words no mark is at one of them
 clear-plain : (p : Program) (h lo hi x : ℕ) → Clear p h lo hi → lo < x → x ≤ hi → Plain p h x
@@ -40,7 +42,8 @@ clear-plain p h lo hi x c l m = record {
     by mark (inl a) z = omega arith
     by mark (inr a) z = omega arith
 
-module _ (p : Program) (shaped : AreShaped p.cases) (is : IsBuilt p) (h : ℕ) (number : h < harts p) (c : ℕ) (few : c < case_count p) where
+module _ (p : Program) (shaped : AreShaped p.cases) (is : IsBuilt p) (h : ℕ) (number : h < harts p) (c : ℕ) (few : c
+    < case_count p) where
   abbrev t : ℕ → Option Instr
   t = support_at p h
 
@@ -63,7 +66,8 @@ module _ (p : Program) (shaped : AreShaped p.cases) (is : IsBuilt p) (h : ℕ) (
   compare-from = end_of p h c + 172 + collect_long p h
 
   abbrev pub but-last : List Instr
-  but-last = compare_all_but_last p.cases h (save_at h 0) (case_masks p.cases h c) (case_bytes p.cases c) (verdict_at c h)
+  but-last = compare_all_but_last p.cases h (save_at h 0) (case_masks p.cases h c) (case_bytes p.cases c)
+      (verdict_at c h)
 
   abbrev compared : List Instr
   compared = compare_all p.cases h (save_at h 0) (case_masks p.cases h c) (case_bytes p.cases c) (verdict_at c h)
@@ -85,25 +89,35 @@ module _ (p : Program) (shaped : AreShaped p.cases) (is : IsBuilt p) (h : ℕ) (
 
   rest-code : At t (head + 4) (first ++ (call far ∷ load))
   unfolding case_before
-  rest-code = at_next t head (head + 4) (reset ∷ []) (first ++ (call far ∷ load)) 1 refl (omega arith) (code-before p shaped is h number c few)
+  rest-code = at_next t head (head + 4) (reset ∷ []) (first ++ (call far ∷ load)) 1 refl (omega arith)
+      (code-before p shaped is h number c few)
 
   pub first-code : At t (head + 4) first
   first-code = at_front t (head + 4) first (call far ∷ load) rest-code
 
   on-code : At t (head + 4 + first_long p h c) (call far ∷ load)
-  on-code = at_next t (head + 4) (head + 4 + first_long p h c) first (call far ∷ load) (length first) refl refl rest-code
+  on-code = at_next t (head + 4) (head + 4 + first_long p h c) first (call far ∷ load) (length first) refl refl
+      rest-code
 
   pub load-code : At t (head + 4 + first_long p h c + 4) load
   load-code = on-code.1
 
   pub reset-placed : ResetPlaced p h head (head + 4)
-  reset-placed = record { code = reset-code; clear = before-clear p shaped is h number c few head (head + 4) (omega arith) (omega (arith, start)); to = refl }
+  reset-placed =
+      record {
+        code = reset-code;
+        clear = before-clear p shaped is h number c few head (head + 4) (omega arith)
+            (omega (arith, start));
+        to = refl;
+      }
 
   pub first-clear : Clear p h (head + 4) (head + 4 + first_long p h c)
-  first-clear = before-clear p shaped is h number c few (head + 4) (head + 4 + first_long p h c) (omega arith) (omega (arith, start))
+  first-clear = before-clear p shaped is h number c few (head + 4) (head + 4 + first_long p h c) (omega arith)
+      (omega (arith, start))
 
   pub load-clear : Clear p h (head + 4 + first_long p h c + 4) (start_of p h c - 4)
-  load-clear = before-clear p shaped is h number c few (head + 4 + first_long p h c + 4) (start_of p h c - 4) (omega arith) (omega (arith, start))
+  load-clear = before-clear p shaped is h number c few (head + 4 + first_long p h c + 4) (start_of p h c - 4)
+      (omega arith) (omega (arith, start))
 
   pub load-to : head + 4 + first_long p h c + 4 + 168 ≡ start_of p h c
   load-to = omega (arith, start)
@@ -143,31 +157,45 @@ module _ (p : Program) (shaped : AreShaped p.cases) (is : IsBuilt p) (h : ℕ) (
 
   save-code : At t (end_of p h c) save_registers
   unfolding case_behind
-  save-code = at_front t (end_of p h c) save_registers (call far-on ∷ (aim ++ (gather ++ (turn p.cases.passes back ++ compared)))) (code-behind p shaped is h number c few)
+  save-code = at_front t (end_of p h c) save_registers (call far-on
+      ∷ (aim ++ (gather ++ (turn p.cases.passes back ++ compared)))) (code-behind p shaped is h number c few)
 
   recall-code : At t (end_of p h c + 120) (call far-on ∷ (aim ++ (gather ++ (turn p.cases.passes back ++ compared))))
   unfolding case_behind
-  recall-code = at_next t (end_of p h c) (end_of p h c + 120) save_registers (call far-on ∷ (aim ++ (gather ++ (turn p.cases.passes back ++ compared)))) 30 length-save_registers (omega arith) (code-behind p shaped is h number c few)
+  recall-code = at_next t (end_of p h c) (end_of p h c + 120) save_registers (call far-on
+      ∷ (aim ++ (gather ++ (turn p.cases.passes back ++ compared)))) 30 length-save_registers (omega arith)
+      (code-behind p shaped is h number c few)
 
   aim-on : At t (end_of p h c + 124) (aim ++ (gather ++ (turn p.cases.passes back ++ compared)))
-  aim-on = let e : end_of p h c + 120 + 4 ≡ end_of p h c + 124 = omega arith in subst (λ (a : ℕ). At t a (aim ++ (gather ++ (turn p.cases.passes back ++ compared)))) e recall-code.1
+  aim-on = let e : end_of p h c + 120 + 4 ≡ end_of p h c + 124 = omega arith in
+      subst (λ (a : ℕ). At t a (aim ++ (gather ++ (turn p.cases.passes back ++ compared)))) e recall-code.1
 
   gather-on : At t (end_of p h c + 124 + 24) (gather ++ (turn p.cases.passes back ++ compared))
-  gather-on = at_next t (end_of p h c + 124) (end_of p h c + 124 + 24) aim (gather ++ (turn p.cases.passes back ++ compared)) 6 refl (omega arith) aim-on
+  gather-on = at_next t (end_of p h c + 124) (end_of p h c + 124 + 24) aim (gather
+      ++ (turn p.cases.passes back ++ compared)) 6 refl (omega arith) aim-on
 
   turn-on : At t (end_of p h c + 148 + collect_long p h) (turn p.cases.passes back ++ compared)
-  turn-on = at_next t (end_of p h c + 124 + 24) (end_of p h c + 148 + collect_long p h) gather (turn p.cases.passes back ++ compared) (length gather) refl (omega arith) gather-on
+  turn-on = at_next t (end_of p h c + 124 + 24) (end_of p h c + 148 + collect_long p h) gather (turn p.cases.passes back
+      ++ compared) (length gather) refl (omega arith) gather-on
 
   compare-on : At t compare-from compared
-  compare-on = at_next t (end_of p h c + 148 + collect_long p h) compare-from (turn p.cases.passes back) compared 6 refl (omega arith) turn-on
+  compare-on = at_next t (end_of p h c + 148 + collect_long p h) compare-from (turn p.cases.passes back) compared 6 refl
+      (omega arith) turn-on
 
   pub save-placed : SavePlaced p h c (end_of p h c + 120)
-  save-placed = record { code = save-code; clear = behind-clear p shaped is h number c few (end_of p h c) (end_of p h c + 120) (omega arith) (omega (arith, after)); to = refl }
+  save-placed =
+      record {
+        code = save-code;
+        clear = behind-clear p shaped is h number c few (end_of p h c) (end_of p h c + 120)
+            (omega arith) (omega (arith, after));
+        to = refl;
+      }
 
   pub recall-site : CallSite p h (halt_of p h + 4) (end_of p h c + 120) (end_of p h c + 124)
   unfolding text_base
   recall-site =
-      let clear = behind-clear p shaped is h number c few (end_of p h c + 120) (end_of p h c + 124) (omega arith) (omega (arith, after)) in
+      let clear = behind-clear p shaped is h number c few (end_of p h c + 120) (end_of p h c + 124) (omega arith)
+      (omega (arith, after)) in
       let low = ends-low p shaped is h number c few in
       let a = is.starts h c number few in
       let b = is.ends h c number few in
@@ -185,7 +213,8 @@ module _ (p : Program) (shaped : AreShaped p.cases) (is : IsBuilt p) (h : ℕ) (
   collect-placed = record {
     aims = at_front t (end_of p h c + 124) aim (gather ++ (turn p.cases.passes back ++ compared)) aim-on;
     code = at_front t (end_of p h c + 124 + 24) gather (turn p.cases.passes back ++ compared) gather-on;
-    clear = behind-clear p shaped is h number c few (end_of p h c + 124) (end_of p h c + 124 + 24 + 4 * length gather) (omega arith) (omega (arith, after));
+    clear = behind-clear p shaped is h number c few (end_of p h c + 124) (end_of p h c + 124 + 24 + 4 * length gather)
+        (omega arith) (omega (arith, after));
     to = omega arith;
   }
 
@@ -201,8 +230,11 @@ module _ (p : Program) (shaped : AreShaped p.cases) (is : IsBuilt p) (h : ℕ) (
           some = omega arith;
           reach = omega (arith, a, b, length-save_registers);
           clear = behind-clear p shaped is h number c few lo (lo + 20) (omega arith) (omega (arith, after));
-          first = clear-plain p h head (head + 4) (head + 4) (before-clear p shaped is h number c few head (head + 4) (omega arith) (omega (arith, start))) (omega arith) (omega arith);
-          behind = clear-plain p h lo (lo + 24) (lo + 24) (behind-clear p shaped is h number c few lo (lo + 24) (omega arith) (omega (arith, after, some-compared))) (omega arith) (omega arith);
+          first = clear-plain p h head (head + 4) (head + 4) (before-clear p shaped is h number c few head (head + 4)
+              (omega arith) (omega (arith, start))) (omega arith) (omega arith);
+          behind = clear-plain p h lo (lo + 24) (lo + 24)
+              (behind-clear p shaped is h number c few lo (lo + 24) (omega arith) (omega (arith, after, some-compared)))
+              (omega arith) (omega arith);
         };
         to = omega arith;
       }
@@ -218,7 +250,8 @@ module _ (p : Program) (shaped : AreShaped p.cases) (is : IsBuilt p) (h : ℕ) (
 
   pub store-code : At t (compare-from + 4 * length but-last) (sd 8 0 7 ∷ [])
   unfolding compare_all
-  store-code = at_next t compare-from (compare-from + 4 * length but-last) but-last (sd 8 0 7 ∷ []) (length but-last) refl refl compare-on
+  store-code = at_next t compare-from (compare-from + 4 * length but-last) but-last (sd 8 0 7 ∷ []) (length but-last)
+      refl refl compare-on
 
   pub compare-to : compare-from + 4 * length but-last + 4 ≡ heads p shaped is h (suc c)
   compare-to = omega (arith, after, some-compared)

@@ -38,7 +38,8 @@ module _ (cases : Cases) (shaped : AreShaped cases) where
     skip-on : (c : ℕ) → c < C → skip (B h) 0 (ss h) (suc c) ≡ skip (B h) 0 (ss h) c + size c
     skip-on c few =
         let z : 0 + c ≡ c = omega arith in
-        skip-next (B h) 0 (ss h) c (omega (arith, count cases shaped h)) ∙ ap (λ (d : ℕ). skip (B h) 0 (ss h) c + case_size (B h) d (length (stream c))) z
+        skip-next (B h) 0 (ss h) c (omega (arith, count cases shaped h)) ∙ ap
+        (λ (d : ℕ). skip (B h) 0 (ss h) c + case_size (B h) d (length (stream c))) z
 
     pub head-next : (base c n : ℕ) → n ≡ suc c → c < C → head_at cases h base n ≡ head_at cases h base c + 4 * size c
     head-next base c n e few = let f = ap (head_at cases h base) e in omega (arith, skip-on c few, f)
@@ -46,16 +47,29 @@ module _ (cases : Cases) (shaped : AreShaped cases) where
     -- the cases stand close together
     pub heads-low : (base c : ℕ) → c ≤ C → head_at cases h base c ≤ base + 56 + 4096 * c
     heads-low base zero l = omega arith
-    heads-low base (suc c) l = omega (arith, head-next base c (suc c) refl (omega arith), case-few c (omega arith), heads-low base c (omega arith))
+    heads-low base (suc c) l = omega (
+      arith,
+      head-next base c (suc c) refl (omega arith),
+      case-few c (omega arith),
+      heads-low base c (omega arith),
+    )
 
     -- and none behind the halt mark
     heads-rise : (base k c : ℕ) → c + k ≡ C → head_at cases h base c ≤ halt_at cases h base
     heads-rise base zero c e = let same : c ≡ C = omega arith in omega (arith, ap (head_at cases h base) same)
-    heads-rise base (suc k) c e = omega (arith, head-next base c (suc c) refl (omega arith), heads-rise base k (suc c) (omega arith))
+    heads-rise base (suc k) c e = omega (
+      arith,
+      head-next base c (suc c) refl (omega arith),
+      heads-rise base k (suc c) (omega arith),
+    )
 
     -- a stream ends before the halt mark
     pub ends-low : (base c : ℕ) → c < C → end_at cases h base c ≤ halt_at cases h base
-    ends-low base c l = omega (arith, head-next base c (suc c) refl l, heads-rise base (C - suc c) (suc c) (omega arith))
+    ends-low base c l = omega (
+      arith,
+      head-next base c (suc c) refl l,
+      heads-rise base (C - suc c) (suc c) (omega arith),
+    )
 
   -- ---- the harts
 

@@ -1,5 +1,6 @@
 -- Where the words of each part of a hart's program stand in a built text, and that its way from part to part is clear.
-use Rattle.std.proofs.Common.{◌≡◌, ◌≢◌, ◌⊎◌, inl, inr, ℕ, suc, ◌+◌, ◌-◌, ◌*◌, ◌%◌, ◌<◌, ◌≤◌, List, [], length, None, ap, subst, arith}
+use Rattle.std.proofs.Common.{◌≡◌, ◌≢◌, ◌⊎◌, inl, inr, ℕ, suc, ◌+◌, ◌-◌, ◌*◌, ◌%◌, ◌<◌, ◌≤◌, List, [], length, None}
+use Rattle.std.proofs.Common.{ap, subst, arith}
 use Rattle.std.specs.Prelude.{slice_index_or}
 use Rattle.tm_plan_cases.specs.declared.program.Program.{Program}
 use Rattle.tm_plan_cases.specs.Shaped.{AreShaped}
@@ -12,7 +13,8 @@ use Rattle.tm_runs.proofs.Arrivals.{stream-none, inside-false}
 use Rattle.tm_blocks_base.proofs.Lengths.{length-load_registers}
 use Rattle.tm_pass_text.specs.Words.{Blocks, before_size, behind_size, back_words, skip, streams_of, base_of, head_of}
 use Rattle.tm_pass_text.specs.Spread.{Spread}
-use Rattle.tm_pass_text.proofs.Laying.{spread, head, barrier, far-before, far-behind, before, behind, before-at, behind-at, skip-next}
+use Rattle.tm_pass_text.proofs.Laying.{spread, head, barrier, far-before, far-behind, before, behind, before-at}
+use Rattle.tm_pass_text.proofs.Laying.{behind-at, skip-next}
 use Rattle.tm_pass_text.proofs.Spreads.{head-up}
 use Rattle.tm_pass_text.proofs.Stands.{length-before, length-behind}
 use Rattle.tm_pass_way.specs.Calm.{Clear}
@@ -24,7 +26,8 @@ use Rattle.tm_pass_place.proofs.Fits.{all-fit}
 use Rattle.tm_pass_place.proofs.Sizes.{count, stream-size, fits-before, fits-behind, short-hart}
 
 -- where words are clear, each of them is outside the streams and not at the halt mark
-pub clear-outside : (p : Program) (h lo hi x : ℕ) → Clear p h lo hi → lo ≤ x → x ≤ hi → (stream_at p h x ≡ None) × (x ≢ halt_of p h)
+pub clear-outside : (p : Program) (h lo hi x : ℕ) → Clear p h lo hi → lo ≤ x → x ≤ hi → (stream_at p h x ≡ None)
+    × (x ≢ halt_of p h)
 clear-outside p h lo hi x c l m = (stream-none p h x (λ d k. inside-false p h d x (off d (c.streams d k))), halt c.halt)
   where
     off : (d : ℕ) → (hi < start_of p h d) ⊎ (end_of p h d ≤ lo) → (x < start_of p h d) ⊎ (end_of p h d ≤ x)
@@ -61,7 +64,14 @@ module _ (p : Program) (shaped : AreShaped p.cases) (is : IsBuilt p) where
     pub next : (c : ℕ) → c < C → heads h (suc c) ≡ end_of p h c + 4 * behind_size (B h) c
     next c l =
         let e : 0 + c ≡ c = omega arith in
-        omega (arith, skip-next (B h) 0 (streams_of p.cases h) c (omega (arith, count p.cases shaped h, l)), is.starts h c number l, is.ends h c number l, ap (before_size (B h)) e, ap (behind_size (B h)) e)
+        omega (
+          arith,
+          skip-next (B h) 0 (streams_of p.cases h) c (omega (arith, count p.cases shaped h, l)),
+          is.starts h c number l,
+          is.ends h c number l,
+          ap (before_size (B h)) e,
+          ap (behind_size (B h)) e,
+        )
 
     pub start-is : (c : ℕ) → c < C → start_of p h c ≡ heads h c + 4 + first_long p h c + 172
     start-is c l = omega (arith, is.starts h c number l, length-load_registers (registers_at p.cases h c))
@@ -97,22 +107,30 @@ module _ (p : Program) (shaped : AreShaped p.cases) (is : IsBuilt p) where
       pub code-before : At (support_at p h) (heads h c) (before p B is some h c)
       code-before =
           let place : text_base + 4 * head p B is some h c ≡ heads h c = omega arith in
-          let fit = fits-before p.cases shaped h c number few (far-before p B is some h c) far-even (omega (arith, far-low)) in
+          let fit = fits-before p.cases shaped h c number few (far-before p B is some h c) far-even
+          (omega (arith, far-low)) in
           let long = length-before (B h) c (far-before p B is some h c) in
           let start = is.starts h c number few in
           let free = before-clear (heads h c) (start_of p h c - 4) (omega arith) (omega arith) in
           subst (λ (a : ℕ). At (support_at p h) a (before p B is some h c)) place
-          (stands-code p h (before p B is some h c) (head p B is some h c) (all-fit (before p B is some h c) fit) (before-at p B is some h c number few)
-          (λ j l. clear-outside p h (heads h c) (start_of p h c - 4) (text_base + 4 * (head p B is some h c + j)) free (omega arith) (omega arith)))
+          (stands-code p h (before p B is some h c) (head p B is some h c) (all-fit (before p B is some h c) fit)
+          (before-at p B is some h c number few)
+          (λ j l. clear-outside p h (heads h c) (start_of p h c - 4) (text_base + 4 * (head p B is some h c + j)) free
+          (omega arith) (omega arith)))
 
       pub code-behind : At (support_at p h) (end_of p h c) (behind p B is some h c)
       code-behind =
           let k = head p B is some h c + before_size (B h) c + length (words h c) in
-          let place : text_base + 4 * k ≡ end_of p h c = omega (arith, is.starts h c number few, is.ends h c number few) in
-          let fit = fits-behind p.cases shaped h c number few (length (words h c)) (far-behind p B is some h c) (stream-size p.cases shaped h c number few).1 far-even-behind (omega (arith, far-low-behind)) in
-          let long = length-behind (B h) p.cases.passes c (4 * back_words (B h) c (length (words h c))) (far-behind p B is some h c) in
+          let place : text_base + 4 * k ≡ end_of p h c =
+          omega (arith, is.starts h c number few, is.ends h c number few) in
+          let fit = fits-behind p.cases shaped h c number few (length (words h c)) (far-behind p B is some h c)
+          (stream-size p.cases shaped h c number few).1 far-even-behind (omega (arith, far-low-behind)) in
+          let long = length-behind (B h) p.cases.passes c (4 * back_words (B h) c (length (words h c)))
+          (far-behind p B is some h c) in
           let after = next c few in
           let free = behind-clear (end_of p h c) (heads h (suc c) - 4) (omega arith) (omega arith) in
           subst (λ (a : ℕ). At (support_at p h) a (behind p B is some h c)) place
-          (stands-code p h (behind p B is some h c) k (all-fit (behind p B is some h c) fit) (behind-at p B is some h c number few)
-          (λ j l. clear-outside p h (end_of p h c) (heads h (suc c) - 4) (text_base + 4 * (k + j)) free (omega arith) (omega arith)))
+          (stands-code p h (behind p B is some h c) k (all-fit (behind p B is some h c) fit)
+          (behind-at p B is some h c number few)
+          (λ j l. clear-outside p h (end_of p h c) (heads h (suc c) - 4) (text_base + 4 * (k + j)) free (omega arith)
+          (omega arith)))

@@ -1,5 +1,6 @@
 -- How many words each part of a hart's program has, and that all of them fit.
-use Rattle.std.proofs.Common.{◌≡◌, ℕ, zero, suc, ◌+◌, ◌-◌, ◌*◌, ◌%◌, ◌^◌, ◌<◌, ◌≤◌, Bool, true, false, ◌==◌, List, [], ◌∷◌, ◌++◌, length, flat_map, ap, arith, length-append}
+use Rattle.std.proofs.Common.{◌≡◌, ℕ, zero, suc, ◌+◌, ◌-◌, ◌*◌, ◌%◌, ◌^◌, ◌<◌, ◌≤◌, Bool, true, false, ◌==◌, List, []}
+use Rattle.std.proofs.Common.{◌∷◌, ◌++◌, length, flat_map, ap, arith, length-append}
 use Rattle.std.specs.Prelude.{slice_get, slice_index_or, if◌then◌else◌}
 use Rattle.std.proofs.lemmas.List.{length-map}
 use Rattle.std.proofs.Math.Nat.{mul-le-mul_left}
@@ -15,11 +16,13 @@ use Rattle.tm_blocks_base.proofs.Lengths.{length-load_registers, length-save_reg
 use Rattle.tm_blocks_move.proofs.Sizes.{length-first, length-collect}
 use Rattle.tm_blocks_compare.specs.Words.{case_masks, case_bytes}
 use Rattle.tm_barrier.specs.Words.{prepare, wait, turn, waits, meet, barrier}
-use Rattle.tm_pass_text.specs.Words.{Blocks, gate, case_size, case_before, case_behind, back_words, hart_size, words_at, streams_of}
+use Rattle.tm_pass_text.specs.Words.{Blocks, gate, case_size, case_before, case_behind, back_words, hart_size}
+use Rattle.tm_pass_text.specs.Words.{words_at, streams_of}
 use Rattle.tm_pass_text.proofs.Laying.{stream-words}
 use Rattle.tm_pass_text.proofs.Room.{hart-fits}
 use Rattle.tm_pass_steps.specs.Hart.{registers_at, first_at, blocks_of}
-use Rattle.tm_pass_place.proofs.Fits.{Fitting, fit-append, fit-constant, fit-loads, fit-saves, fit-first, fit-collect, fit-barrier, fit-call, fit-reset, fit-aim, fit-pass, fit-gate}
+use Rattle.tm_pass_place.proofs.Fits.{Fitting, fit-append, fit-constant, fit-loads, fit-saves, fit-first, fit-collect}
+use Rattle.tm_pass_place.proofs.Fits.{fit-barrier, fit-call, fit-reset, fit-aim, fit-pass, fit-gate}
 use Rattle.tm_pass_place.proofs.Comparing.{fit-compare, compare-short}
 
 waits-short : (h a n : ℕ) → length (flat_map (turn h) (count_from a n)) ≤ 2 * n
@@ -110,24 +113,37 @@ module _ (cases : Cases) (shaped : AreShaped cases) where
     fits-load = fit-loads (registers_at cases h c) (omega (arith, registers-low))
 
     pub fits-compare : Fitting ((B h).compare c)
-    fits-compare = fit-compare cases h shaped (save_at h 0) (case_masks cases h c) (case_bytes cases c) (verdict_at c h) area-low masks-low bytes-low cell-low
+    fits-compare = fit-compare cases h shaped (save_at h 0) (case_masks cases h c) (case_bytes cases c) (verdict_at c h)
+        area-low masks-low bytes-low cell-low
 
     short-compare : length ((B h).compare c) ≤ 143
-    short-compare = compare-short cases h shaped (save_at h 0) (case_masks cases h c) (case_bytes cases c) (verdict_at c h) area-low masks-low bytes-low cell-low
+    short-compare = compare-short cases h shaped (save_at h 0) (case_masks cases h c) (case_bytes cases c)
+        (verdict_at c h) area-low masks-low bytes-low cell-low
 
     pub short-case : (n : ℕ) → n ≤ 256 → case_size (B h) c n ≤ 1024
-    short-case n l = omega (arith, length-first cases h (first_at cases c) shaped, length-load_registers (registers_at cases h c), length-save_registers, length-collect cases h shaped, short-compare)
+    short-case n l = omega (
+      arith,
+      length-first cases h (first_at cases c) shaped,
+      length-load_registers (registers_at cases h c),
+      length-save_registers,
+      length-collect cases h shaped,
+      short-compare,
+    )
 
     pub fits-before : (d : ℕ) → d % 2 ≡ 0 → d ≤ 1048574 → Fitting (case_before (B h) c d)
     unfolding case_before
     fits-before d e l = fit-append fit-reset (fit-append fits-first (fit-append (fit-call d e l) fits-load))
 
-    pub fits-behind : (n d : ℕ) → n ≤ 256 → d % 2 ≡ 0 → d ≤ 1048574 → Fitting (case_behind (B h) cases.passes c (4 * back_words (B h) c n) d)
+    pub fits-behind : (n d : ℕ) → n ≤ 256 → d % 2 ≡ 0 → d ≤ 1048574
+        → Fitting (case_behind (B h) cases.passes c (4 * back_words (B h) c n) d)
     unfolding case_behind
     fits-behind n d m e l =
         let k = shaped.passes in
         let big = short-case n m in
-        fit-append fit-saves (fit-append (fit-call d e l) (fit-append fit-aim (fit-append (fit-collect cases h shaped) (fit-append (fit-pass cases.passes (4 * back_words (B h) c n) (omega arith) (omega arith) (omega arith) (omega arith)) fits-compare))))
+        fit-append fit-saves (fit-append (fit-call d e l)
+        (fit-append fit-aim (fit-append (fit-collect cases h shaped)
+        (fit-append (fit-pass cases.passes (4 * back_words (B h) c n) (omega arith) (omega arith) (omega arith)
+        (omega arith)) fits-compare))))
 
   -- ---- a hart
 
@@ -136,14 +152,16 @@ module _ (cases : Cases) (shaped : AreShaped cases) where
       let a = shaped.harts in
       let b = shaped.count in
       let whole = hart-fits (B h) (ss h) (omega (arith, barrier-short h N))
-      (λ d s m e. let few : d < C = omega (arith, count h) in short-case h d l few (length s) (omega (arith, ap length e, (stream-size h d l few).1))) in
+      (λ d s m e. let few : d < C = omega (arith, count h) in
+      short-case h d l few (length s) (omega (arith, ap length e, (stream-size h d l few).1))) in
       omega (arith, count h)
 
   pub fits-opening : (h : ℕ) → h < N → Fitting (gate h (4 * (hart_size (B h) (ss h) - 2)) ++ constant 31 (private_at h))
   unfolding private_at
   fits-opening h l =
       let a = shaped.harts in
-      fit-append (fit-gate h (4 * (hart_size (B h) (ss h) - 2)) (omega arith) (omega arith) (omega (arith, short-hart h l))) (fit-constant 31 (private_at h) (omega arith) (omega arith))
+      fit-append (fit-gate h (4 * (hart_size (B h) (ss h) - 2)) (omega arith) (omega arith)
+      (omega (arith, short-hart h l))) (fit-constant 31 (private_at h) (omega arith) (omega arith))
 
   pub fits-barrier : (h : ℕ) → h < N → Fitting ((B h).barrier)
   fits-barrier h l = let a = shaped.harts in fit-barrier h N l (omega arith)

@@ -26,22 +26,30 @@ use Rattle.tm_pass_place.proofs.Sizes.{stream-size}
 
 -- what the parts of one pass cost
 abbrev pace_at : Program → ℕ → Pace
-pace_at p h = let m = pace_of (costs_of p h) in record { sets = m.sets; runs = m.runs; ends = m.ends; compares = m.compares }
+pace_at p h = let m = pace_of (costs_of p h) in record {
+  sets = m.sets;
+  runs = m.runs;
+  ends = m.ends;
+  compares = m.compares;
+}
 
 fits : (p : Program) (h : ℕ) → PaceFits p h (pace_at p h)
 fits p h = by (passes p) (harts p) (length (owned p.cases h))
   where
-    by : (K N Q : ℕ) → K * (1 + (69 + 4 * Q) + (10 + 2 * N) + (42 + 30 + (10 + 2 * N)) + (103 + 4 * Q + 6)) + (27 + K * (385 + 13 * Q)) ≤ 64 + K * (256 + 32 * N + 32 * (30 + Q))
+    by : (K N Q : ℕ) → K * (1 + (69 + 4 * Q) + (10 + 2 * N) + (42 + 30 + (10 + 2 * N)) + (103 + 4 * Q + 6))
+        + (27 + K * (385 + 13 * Q)) ≤ 64 + K * (256 + 32 * N + 32 * (30 + Q))
     by K N Q = omega arith
 
-module _ (p : Program) (program : IsProgram p) (typed : IsTyped p) (is : IsBuilt p) (tables : p.tables ≡ table_bytes p.cases p.masks) where
+module _ (p : Program) (program : IsProgram p) (typed : IsTyped p) (is : IsBuilt p) (tables : p.tables
+    ≡ table_bytes p.cases p.masks) where
   laid : Laid p
   laid = text-laid p (blocks_of p.cases) is (λ h c l m. (stream-size p.cases program.cases h c l m).0)
 
   formed : Formed p
   formed = record { program = program; typed = typed; laid = laid }
 
-  paced : (h : ℕ) (first : Hart) (steps : List Step) → KeepsLimits p h (pace_of (costs_of p h)) first steps → KeepsPace p h (pace_at p h) first steps
+  paced : (h : ℕ) (first : Hart) (steps : List Step) → KeepsLimits p h (pace_of (costs_of p h)) first steps
+      → KeepsPace p h (pace_at p h) first steps
   paced h first steps k = record { begin = k.begin; run = k.run; between = k.between; next = k.next; last = k.last }
 
   hart : (h : ℕ) → h < harts p → HartParts p h
@@ -68,4 +76,11 @@ built-keeps p program typed is tables = keeps p program typed is tables
 pub built-sound : (p : Program) → BuiltIsSound p
 built-sound p program typed is tables checked =
     let k = keeps p program typed is tables in
-    sound p (record { program = program; typed = typed; laid = k.laid; masks = checked; tables = tables; each = k.each })
+    sound p (record {
+      program = program;
+      typed = typed;
+      laid = k.laid;
+      masks = checked;
+      tables = tables;
+      each = k.each;
+    })

@@ -1,5 +1,7 @@
 -- What a log tells with the entries of a barrier up to its last fence.
-use Rattle.std.proofs.Common.{◌≡◌, ◌≢◌, ◌⊎◌, inl, inr, ℕ, suc, ◌+◌, ◌-◌, ◌*◌, ◌<◌, ◌≤◌, Bool, true, false, ◌==◌, eqb-true, ne_eqb, List, [], ◌∷◌, ◌++◌, length, Option, None, Some, refl, sym, ap, ap₂, ◌∙◌, subst, arith, append-nil}
+use Rattle.std.proofs.Common.{◌≡◌, ◌≢◌, ◌⊎◌, inl, inr, ℕ, suc, ◌+◌, ◌-◌, ◌*◌, ◌<◌, ◌≤◌, Bool, true, false, ◌==◌}
+use Rattle.std.proofs.Common.{eqb-true, ne_eqb, List, [], ◌∷◌, ◌++◌, length, Option, None, Some, refl, sym, ap, ap₂}
+use Rattle.std.proofs.Common.{◌∙◌, subst, arith, append-nil}
 use Rattle.std.specs.Prelude.{slice_index_or, IfSome, if◌then◌else◌}
 use Rattle.std.proofs.lemmas.Bool.{eqb-false}
 use Rattle.tm_table.specs.declared.state.Access.{Access}
@@ -36,7 +38,8 @@ use Rattle.tm_pass_way.proofs.Barrier.{Signals, barrier-fact}
 use Rattle.tm_pass_way.proofs.Waiting.{phase-all, now-all, barrier-work}
 use Rattle.tm_pass_steps.specs.Sites.{BarrierSite}
 
-story-map : (F G : List Entry → Entry → Type 0) → ((past : List Entry) (e : Entry) → F past e → G past e) → (log : List Entry) → Story F log → Story G log
+story-map : (F G : List Entry → Entry → Type 0) → ((past : List Entry) (e : Entry) → F past e → G past e)
+    → (log : List Entry) → Story F log → Story G log
 story-map F G f [] h = tt
 story-map F G f (e ∷ log) h = (f log e h.0, story-map F G f log h.1)
 
@@ -52,14 +55,26 @@ some-map (Some x) f s = f x s
 
 keeping-there : (p : Program) (h : ℕ) (past : List Entry) (e : Entry) → Keeping p h past e → Keeping_there p h past e
 keeping-there p h past e k = record {
-  signal = λ z. let g = k.signal z in record { value = g.value; once = g.once; fence = g.fence; ended = g.ended; more = g.more };
+  signal = λ z. let g = k.signal z in record {
+    value = g.value;
+    once = g.once;
+    fence = g.fence;
+    ended = g.ended;
+    more = g.more;
+  };
   still = k.still;
   leave = λ z. let g = k.leave z in record { signalled = g.signalled; met = g.met };
 }
 
 pub keeping-here : (p : Program) (h : ℕ) (past : List Entry) (e : Entry) → Keeping_there p h past e → Keeping p h past e
 keeping-here p h past e k = record {
-  signal = λ z. let g = k.signal z in record { value = g.value; once = g.once; fence = g.fence; ended = g.ended; more = g.more };
+  signal = λ z. let g = k.signal z in record {
+    value = g.value;
+    once = g.once;
+    fence = g.fence;
+    ended = g.ended;
+    more = g.more;
+  };
   still = k.still;
   leave = λ z. let g = k.leave z in record { signalled = g.signalled; met = g.met };
 }
@@ -69,18 +84,23 @@ keeping-here p h past e k = record {
 written-low : (h b : ℕ) (x : Access) → h < 16 → windows_base ≤ b → Uses IsBelow (Signals h) x → written x b ≡ None
 written-low h b Quiet low l u = refl
 written-low h b (Read addr width v) low l u = refl
-written-low h b (Write addr width v) low l u = ap (λ (t : Bool). if t then Some (byte_of v (b - addr)) else None) (within-false addr width b (inr (by u.1)))
+written-low h b (Write addr width v) low l u = ap (λ (t : Bool). if t then Some (byte_of v (b - addr))
+    else None) (within-false addr width b (inr (by u.1)))
   where
     by : IsOwn h addr ⊎ (addr ≡ flag_at h) → addr + width ≤ b
     by (inl m) = let w = u.0 in let k = private-below h low in omega arith
     by (inr m) = let w = u.0 in let k = private-below h low in let f = flag-low h h low in omega arith
 
-pub set-one : (p : Program) (h d : ℕ) (e : Entry) (es : List Entry) → h < 16 → Uses IsBelow (Signals h) e.access → AreSet p h d es → AreSet p h d (e ∷ es)
+pub set-one : (p : Program) (h d : ℕ) (e : Entry) (es : List Entry) → h < 16 → Uses IsBelow (Signals h) e.access
+    → AreSet p h d es → AreSet p h d (e ∷ es)
 set-one p h d e es low uses set case at k x l i m =
-    ap (λ (o : Option ℕ). or_else o (last_in (slice_index_or (owned p.cases h) k x + i) es)) (written-low h (slice_index_or (owned p.cases h) k x + i) e.access low (let z = owned-above p h k x l in omega arith) uses)
+    ap (λ (o : Option ℕ). or_else o (last_in (slice_index_or (owned p.cases h) k x + i) es))
+    (written-low h (slice_index_or (owned p.cases h) k x + i) e.access low (let z = owned-above p h k x l in
+    omega arith) uses)
     ∙ set case at k x l i m
 
-module _ (p : Program) (formed : Formed p) (fit : MasksFit p.cases p.masks) (h : ℕ) (number : h < harts p) (limit : ℕ → ℕ) (entry : ℕ) (site : BarrierSite p h entry) where
+module _ (p : Program) (formed : Formed p) (fit : MasksFit p.cases p.masks) (h : ℕ) (number : h < harts p) (limit : ℕ
+    → ℕ) (entry : ℕ) (site : BarrierSite p h entry) where
   abbrev exit : ℕ
   exit = exit_of p h
 
@@ -109,7 +129,8 @@ module _ (p : Program) (formed : Formed p) (fit : MasksFit p.cases p.masks) (h :
     where
       by : (a ≡ cell) ⊎ IsOtherFlag h n a → IsBelow a
       by (inl e) = let k = private-below h low in let c = cell-own in omega arith
-      by (inr f) = let k = private-below h low in let c = cell-own in let g = flag-low f.hart h (let b = (formed-sizes formed).harts in omega (arith, f.below)) in omega (arith, f.is)
+      by (inr f) = let k = private-below h low in let c = cell-own in let g =
+          flag-low f.hart h (let b = (formed-sizes formed).harts in omega (arith, f.below)) in omega (arith, f.is)
   uses (Write a width v) u = (u.0, by u.1)
     where
       by : (a ≡ cell) ⊎ (a ≡ flag_at h) → Signals h a
@@ -126,20 +147,29 @@ module _ (p : Program) (formed : Formed p) (fit : MasksFit p.cases p.masks) (h :
   halts e b z = omega (arith, b.least, site.halt)
 
   unmarked : (e : Entry) → Bars e → arrivals p h e.pc e.next ≡ []
-  unmarked e b = arrivals-none p h e.pc e.next (λ d l. quiet-off p h e.pc e.next d (site.some d l) (inr (omega (arith, b.least, site.streams d l)))) (λ z. let x = site.exit in omega (arith, b.most)) (halts e b)
+  unmarked e b =
+      arrivals-none p h e.pc e.next (λ d l. quiet-off p h e.pc e.next d (site.some d l)
+      (inr (omega (arith, b.least, site.streams d l)))) (λ z. let x = site.exit in omega (arith, b.most)) (halts e b)
 
-  module _ (q : ℕ) (base : List Entry) (phase : phase_in exit base ≡ q) (silent : any (signals_in h) (now_in exit base) ≡ false) (before : q < last_phase p)
-      (ended : IfSome (case_of_phase p q) (λ d. any (λ (e : Entry). e.next == end_of p h d) (now_in exit base) ≡ true)) (set : IfSome (case_of_phase p (suc q)) (λ d. AreSet p h d (now_in exit base))) where
+  module _ (q : ℕ) (base : List Entry) (phase : phase_in exit base ≡ q) (silent : any (signals_in h) (now_in exit base)
+      ≡ false) (before : q < last_phase p)
+      (ended : IfSome (case_of_phase p q) (λ d. any (λ (e : Entry). e.next == end_of p h d) (now_in exit base) ≡ true))
+      (set : IfSome (case_of_phase p (suc q)) (λ d. AreSet p h d (now_in exit base))) where
     comes : Comes p h q base
     comes = record {
       phase = phase;
       silent = subst (λ (r : ℕ). any (signals_in h) (steps_in exit r base) ≡ false) phase silent;
-      ended = subst (λ (r : ℕ). IfSome (case_of_phase p q) (λ d. any (λ (e : Entry). e.next == end_of p h d) (steps_in exit r base) ≡ true)) phase ended;
+      ended = subst (λ (r : ℕ). IfSome (case_of_phase p q)
+          (λ d. any (λ (e : Entry). e.next == end_of p h d) (steps_in exit r base) ≡ true)) phase ended;
       more = λ z. omega arith;
     }
 
-    pub passes : (es : List Entry) → Story (Fact p h) base → Each Bars es → Story (Keeps-in-step h n (q + 1)) es → PassesBarrier p h q base es
-    passes es story each steps = barriers_keep p h q base es number comes (story-map (Fact p h) (Keeping_there p h) (λ past e f. keeping-there p h past e f.barrier) base story) steps (each-map Bars (λ (e : Entry). e.pc ≢ exit) off es each)
+    pub passes : (es : List Entry) → Story (Fact p h) base → Each Bars es → Story (Keeps-in-step h n (q + 1)) es
+        → PassesBarrier p h q base es
+    passes es story each steps =
+        barriers_keep p h q base es number comes (story-map (Fact p h) (Keeping_there p h)
+        (λ past e f. keeping-there p h past e f.barrier) base story) steps
+        (each-map Bars (λ (e : Entry). e.pc ≢ exit) off es each)
 
     far : (es : List Entry) → Each Bars es → Each (λ (e : Entry). e.pc ≢ exit) es
     far es each = each-map Bars (λ (e : Entry). e.pc ≢ exit) off es each
@@ -150,41 +180,59 @@ module _ (p : Program) (formed : Formed p) (fit : MasksFit p.cases p.masks) (h :
     pub now-there : (es : List Entry) → Each Bars es → now_in exit (es ++ base) ≡ es ++ now_in exit base
     now-there es each = now-all p formed fit h number q base phase es (far es each)
 
-    set-all : (d : ℕ) (es : List Entry) → Each Bars es → AreSet p h d (now_in exit base) → AreSet p h d (es ++ now_in exit base)
+    set-all : (d : ℕ) (es : List Entry) → Each Bars es → AreSet p h d (now_in exit base)
+        → AreSet p h d (es ++ now_in exit base)
     set-all d [] each g = g
-    set-all d (e ∷ es) each g = set-one p h d e (es ++ now_in exit base) low (uses e.access each.0.access) (set-all d es each.1 g)
+    set-all d (e ∷ es) each g = set-one p h d e (es ++ now_in exit base) low (uses e.access each.0.access)
+        (set-all d es each.1 g)
 
-    pub sets : (es : List Entry) → Each Bars es → IfSome (case_of_phase p (suc (phase_in exit (es ++ base)))) (λ d. AreSet p h d (now_in exit (es ++ base)))
+    pub sets : (es : List Entry) → Each Bars es → IfSome (case_of_phase p (suc (phase_in exit (es ++ base))))
+        (λ d. AreSet p h d (now_in exit (es ++ base)))
     sets es each =
-        subst (λ (r : ℕ). IfSome (case_of_phase p (suc r)) (λ d. AreSet p h d (now_in exit (es ++ base)))) (sym (phase-there es each))
-        (some-map (case_of_phase p (suc q)) (λ d g. subst (AreSet p h d) (sym (now-there es each)) (set-all d es each g)) set)
+        subst (λ (r : ℕ). IfSome (case_of_phase p (suc r)) (λ d. AreSet p h d (now_in exit (es ++ base))))
+        (sym (phase-there es each))
+        (some-map (case_of_phase p (suc q)) (λ d g. subst (AreSet p h d) (sym (now-there es each))
+        (set-all d es each g)) set)
 
-    facts : (es : List Entry) → Each Bars es → Story (Keeping_there p h) (es ++ base) → Story (Fact p h) base → Story (Fact p h) (es ++ base)
+    facts : (es : List Entry) → Each Bars es → Story (Keeping_there p h) (es ++ base) → Story (Fact p h) base
+        → Story (Fact p h) (es ++ base)
     facts [] each keep story = story
     facts (e ∷ es) each keep story = (
-      barrier-fact p formed fit h number (es ++ base) e (keeping-here p h (es ++ base) e keep.0) (uses e.access each.0.access) (starts e each.0) (halts e each.0) (λ z. absurd (off e each.0 z)) (λ _. sets es each.1),
+      barrier-fact p formed fit h number (es ++ base) e (keeping-here p h (es ++ base) e keep.0)
+          (uses e.access each.0.access) (starts e each.0) (halts e each.0) (λ z. absurd (off e each.0 z))
+          (λ _. sets es each.1),
       facts es each.1 keep.1 story,
     )
 
     pub trail-same : (es : List Entry) → Each Bars es → trail (arrivals p h) (es ++ base) ≡ trail (arrivals p h) base
     trail-same [] each = refl
-    trail-same (e ∷ es) each = ap₂ (λ (x y : List Mark). x ++ y) (trail-same es each.1) (unmarked e each.0) ∙ append-nil (trail (arrivals p h) base)
+    trail-same (e ∷ es) each = ap₂ (λ (x y : List Mark). x ++ y) (trail-same es each.1) (unmarked e each.0) ∙ append-nil
+        (trail (arrivals p h) base)
 
     other-work : (r : ℕ) (es : List Entry) → r ≢ q → Each Bars es → work_in p h r (es ++ base) ≤ work_in p h r base
     other-work r [] ne each = omega arith
     other-work r (e ∷ es) ne each =
-        let m = subst (λ (x : Bool). work_in p h r (e ∷ es ++ base) ≤ (if x then suc (work_in p h r (es ++ base)) else work_in p h r (es ++ base))) (ne_eqb (phase_in exit (es ++ base)) r (λ z. ne (sym z ∙ phase-there es each.1))) (work-more p formed fit h number r (es ++ base) e) in
+        let m = subst (λ (x : Bool). work_in p h r (e ∷ es ++ base) ≤ (if x then suc (work_in p h r (es ++ base))
+        else work_in p h r (es ++ base))) (ne_eqb (phase_in exit (es ++ base)) r
+        (λ z. ne (sym z ∙ phase-there es each.1))) (work-more p formed fit h number r (es ++ base) e) in
         let k = other-work r es ne each.1 in
         omega arith
 
-    own-work : (es : List Entry) → Each Bars es → Story (Keeps-in-step h n (q + 1)) es → work_in p h q (es ++ base) ≤ work_in p h q base + worked (idles_in h n (q + 1)) es
-    own-work es each steps = barrier-work p formed fit h number q base phase es (far es each) (story-map (Keeps-in-step h n (q + 1)) (λ past e. idles_in h n (q + 1) e ≡ true → any (signals_in h) past ≡ true) (λ past e k. k.waits) es steps)
+    own-work : (es : List Entry) → Each Bars es → Story (Keeps-in-step h n (q + 1)) es
+        → work_in p h q (es ++ base) ≤ work_in p h q base + worked (idles_in h n (q + 1)) es
+    own-work es each steps = barrier-work p formed fit h number q base phase es (far es each)
+        (story-map (Keeps-in-step h n (q + 1)) (λ past e. idles_in h n (q + 1) e ≡ true → any (signals_in h) past
+        ≡ true) (λ past e k. k.waits) es steps)
 
-    pub few-there : (es : List Entry) (o : ℕ) → Each Bars es → Story (Keeps-in-step h n (q + 1)) es → worked (idles_in h n (q + 1)) es ≤ 7 + 2 * n → work_in p h q base ≤ o → work_in p h q (es ++ base) ≤ o + 7 + 2 * n
+    pub few-there : (es : List Entry) (o : ℕ) → Each Bars es → Story (Keeps-in-step h n (q + 1)) es
+        → worked (idles_in h n (q + 1)) es ≤ 7 + 2 * n → work_in p h q base ≤ o
+        → work_in p h q (es ++ base) ≤ o + 7 + 2 * n
     few-there es o each steps work few = let w = own-work es each steps in omega arith
 
     -- so far in the barrier, all is told
-    pub told-there : (es : List Entry) (o : ℕ) → Each Bars es → Story (Keeps-in-step h n (q + 1)) es → worked (idles_in h n (q + 1)) es ≤ 7 + 2 * n → work_in p h q base ≤ o → o + 7 + 2 * n ≤ limit q → Told p h limit base → Told p h limit (es ++ base)
+    pub told-there : (es : List Entry) (o : ℕ) → Each Bars es → Story (Keeps-in-step h n (q + 1)) es
+        → worked (idles_in h n (q + 1)) es ≤ 7 + 2 * n → work_in p h q base ≤ o → o + 7 + 2 * n ≤ limit q
+        → Told p h limit base → Told p h limit (es ++ base)
     told-there es o each steps work few room told = record {
       order = subst (λ (ms : List Mark). IsFront ms (whole_way p)) (sym (trail-same es each)) told.order;
       story = facts es each (passes es told.story each steps).story told.story;
@@ -192,7 +240,8 @@ module _ (p : Program) (formed : Formed p) (fit : MasksFit p.cases p.masks) (h :
     }
       where
         by : (r : ℕ) (b : Bool) → (r == q) ≡ b → work_in p h r (es ++ base) ≤ limit r
-        by r true e = let w = few-there es o each steps work few in let same : r ≡ q = eqb-true r q e in subst (λ (x : ℕ). work_in p h x (es ++ base) ≤ limit x) (sym same) (omega arith)
+        by r true e = let w = few-there es o each steps work few in let same : r ≡ q = eqb-true r q e in
+            subst (λ (x : ℕ). work_in p h x (es ++ base) ≤ limit x) (sym same) (omega arith)
         by r false e = by-other (eqb-false r q e)
           where
             by-other : (r ≢ q) → work_in p h r (es ++ base) ≤ limit r

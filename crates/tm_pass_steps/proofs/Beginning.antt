@@ -1,5 +1,6 @@
 -- A hart comes through the gates of those before it to its first case.
-use Rattle.std.proofs.Common.{◌≡◌, ℕ, zero, suc, ◌+◌, ◌*◌, ◌^◌, ◌<◌, ◌≤◌, List, [], ◌∷◌, ◌++◌, length, refl, sym, ap, ◌∙◌, subst, arith, length-append}
+use Rattle.std.proofs.Common.{◌≡◌, ℕ, zero, suc, ◌+◌, ◌*◌, ◌^◌, ◌<◌, ◌≤◌, List, [], ◌∷◌, ◌++◌, length, refl, sym, ap}
+use Rattle.std.proofs.Common.{◌∙◌, subst, arith, length-append}
 use Rattle.std.specs.Prelude.{IsTrue}
 use Rattle.tm_table.specs.declared.state.Access.{Access}
 use Rattle.tm_plan_cases.specs.declared.program.Program.{Program}
@@ -37,11 +38,19 @@ unfolding image_dword
 image-few p formed a = joined-lt (λ i. image_byte p (a + i)) 8 (λ i. image-lt p (a + i) (formed-sizes formed))
 
 -- a step in some words is one in more words
-wider : (lo hi a b : ℕ) (A B : Access → Type 0) → a ≤ lo → hi ≤ b → ((x : Access) → A x → B x) → (log : List Entry) → Newest (Does lo hi A) log → Newest (Does a b B) log
+wider : (lo hi a b : ℕ) (A B : Access → Type 0) → a ≤ lo → hi ≤ b → ((x : Access) → A x → B x) → (log : List Entry)
+    → Newest (Does lo hi A) log → Newest (Does a b B) log
 wider lo hi a b A B l m f [] h = tt
-wider lo hi a b A B l m f (e ∷ es) h = record { from = omega (arith, h.from); below = omega (arith, h.below); least = omega (arith, h.least); most = omega (arith, h.most); access = f e.access h.access }
+wider lo hi a b A B l m f (e ∷ es) h = record {
+  from = omega (arith, h.from);
+  below = omega (arith, h.below);
+  least = omega (arith, h.least);
+  most = omega (arith, h.most);
+  access = f e.access h.access;
+}
 
-module _ (p : Program) (formed : Formed p) (fit : MasksFit p.cases p.masks) (h : ℕ) (number : h < harts p) (base far : ℕ → ℕ) (site : GateSite p h base far) (clear : Clear p h text_base (base h + 56)) (limit : ℕ → ℕ) where
+module _ (p : Program) (formed : Formed p) (fit : MasksFit p.cases p.masks) (h : ℕ) (number : h < harts p) (base far : ℕ
+    → ℕ) (site : GateSite p h base far) (clear : Clear p h text_base (base h + 56)) (limit : ℕ → ℕ) where
   abbrev exit : ℕ
   exit = exit_of p h
 
@@ -75,41 +84,61 @@ module _ (p : Program) (formed : Formed p) (fit : MasksFit p.cases p.masks) (h :
   module _ (s : State) (own : get s.regs 10 ≡ h) where
     enter : (t : State) → At-gate h s t → Takes (world_of p h) (Within text_base hi (IsCalm h)) (Begun s) 13 t
     enter t a =
-        let law = gate-open (world_of p h) h (far h) (omega arith) t (subst (λ (x : ℕ). At (support_at p h) x (gate h (far h))) (sym a.pc) (site.gates h (omega arith))) (a.regs 10 (λ z. omega arith) ∙ own) in
+        let law = gate-open (world_of p h) h (far h) (omega arith) t
+        (subst (λ (x : ℕ). At (support_at p h) x (gate h (far h))) (sym a.pc) (site.gates h (omega arith)))
+        (a.regs 10 (λ z. omega arith) ∙ own) in
         takes_then
-        (takes_map (λ u g. wider t.pc (t.pc + 12) text_base hi IsQuiet (IsCalm h) (let r = rise h (omega arith) in omega (arith, a.pc)) (omega (arith, a.pc)) calm u.log g) (λ u g. g) law)
+        (takes_map (λ u g. wider t.pc (t.pc + 12) text_base hi IsQuiet (IsCalm h) (let r = rise h (omega arith) in
+        omega (arith, a.pc)) (omega (arith, a.pc)) calm u.log g) (λ u g. g) law)
         (λ u b.
         let pc : u.pc ≡ base h + 12 = omega (arith, b.pc, a.pc) in
-        takes_map (λ v g. wider u.pc (u.pc + 44) text_base hi IsQuiet (IsCalm h) (let r = rise h (omega arith) in omega arith) (omega arith) calm v.log g)
+        takes_map (λ v g. wider u.pc (u.pc + 44) text_base hi IsQuiet (IsCalm h) (let r = rise h (omega arith) in
+        omega arith) (omega arith) calm v.log g)
         (λ v g. record {
           pc = omega (arith, g.pc, pc);
           area = ap (λ (f : Table). get f 31) g.regs;
           mem = g.mem ∙ (b.mem ∙ a.mem);
         })
-        (constant_runs 31 (private_at h) (omega arith) private-few (world_of p h) u (subst (λ (x : ℕ). At (support_at p h) x (constant 31 (private_at h))) (sym pc) site.opening)))
+        (constant_runs 31 (private_at h) (omega arith) private-few (world_of p h) u
+        (subst (λ (x : ℕ). At (support_at p h) x (constant 31 (private_at h))) (sym pc) site.opening)))
       where
         private-few : private_at h < 2 ^ 64
         private-few = area-few h few
 
-    pass : (k g : ℕ) → g + k ≡ h → (t : State) → At-gate g s t → Takes (world_of p h) (Within text_base hi (IsCalm h)) (Begun s) (k * 3 + 13) t
-    pass zero g e t a = let same : g ≡ h = omega arith in takes_more _ (omega arith) (enter t (subst (λ (x : ℕ). At-gate x s t) same a))
+    pass : (k g : ℕ) → g + k ≡ h → (t : State) → At-gate g s t
+        → Takes (world_of p h) (Within text_base hi (IsCalm h)) (Begun s) (k * 3 + 13) t
+    pass zero g e t a = let same : g ≡ h = omega arith in
+        takes_more _ (omega arith) (enter t (subst (λ (x : ℕ). At-gate x s t) same a))
     pass (suc k) g e t a =
         let next = site.next g (omega arith) in
-        let law = gate-shut (world_of p h) g (far g) (omega arith) t (subst (λ (x : ℕ). At (support_at p h) x (gate g (far g))) (sym a.pc) (site.gates g (omega arith))) (let f = site.some g (omega arith) in omega arith) (λ z. let o = a.regs 10 (λ y. omega arith) in omega arith) in
+        let law = gate-shut (world_of p h) g (far g) (omega arith) t
+        (subst (λ (x : ℕ). At (support_at p h) x (gate g (far g))) (sym a.pc) (site.gates g (omega arith)))
+        (let f = site.some g (omega arith) in omega arith) (λ z. let o = a.regs 10 (λ y. omega arith) in
+        omega arith) in
         takes_more _ (omega arith)
         (takes_then
-        (takes_map (λ u y. wider t.pc (t.pc + 8 + far g) text_base hi IsQuiet (IsCalm h) (let r = rise g (omega arith) in omega (arith, a.pc)) (let b = below k (suc g) (omega arith) in omega (arith, a.pc)) calm u.log y) (λ u y. y) law)
-        (λ u b. pass k (suc g) (omega arith) u (record { pc = omega (arith, b.pc, a.pc); regs = λ r n. b.regs r n ∙ a.regs r n; mem = b.mem ∙ a.mem })))
+        (takes_map (λ u y. wider t.pc (t.pc + 8 + far g) text_base hi IsQuiet (IsCalm h)
+        (let r = rise g (omega arith) in omega (arith, a.pc)) (let b = below k (suc g) (omega arith) in
+        omega (arith, a.pc)) calm u.log y) (λ u y. y) law)
+        (λ u b. pass k (suc g) (omega arith) u (record {
+          pc = omega (arith, b.pc, a.pc);
+          regs = λ r n. b.regs r n ∙ a.regs r n;
+          mem = b.mem ∙ a.mem;
+        })))
 
-  pub begins : (s : State) → Opens p h s → begin_cost (harts p) ≤ limit 0 → Leads p h limit s (λ t. Ready p h hi 0 0 (begin_cost (harts p)) [] t × Told p h limit t.log)
+  pub begins : (s : State) → Opens p h s → begin_cost (harts p) ≤ limit 0
+      → Leads p h limit s (λ t. Ready p h hi 0 0 (begin_cost (harts p)) [] t × Told p h limit t.log)
   begins s opens room =
       keeps_after
       (takes_map (λ t g. g) (λ t g. (ready t g.0.0.0 g.0.0.1 g.0.1 g.2, g.1))
-      (takes_told (world_of p h) (world-low p h (formed-sizes formed)) (Told p h limit) (told-drop p h limit) (λ t g. (steady t g.0.1 g.1).told) (record { regs = opens.regs; mem = small }) (takes_count (takes_since runs))))
+      (takes_told (world_of p h) (world-low p h (formed-sizes formed)) (Told p h limit) (told-drop p h limit)
+      (λ t g. (steady t g.0.1 g.1).told) (record { regs = opens.regs; mem = small })
+      (takes_count (takes_since runs))))
       (λ t g. keeps_now g)
     where
       runs : Takes (world_of p h) (Within text_base hi (IsCalm h)) (Begun s) (begin_cost (harts p)) s
-      runs = takes_more _ (omega arith) (pass s opens.number h 0 (omega arith) s (record { pc = opens.pc ∙ sym site.first; regs = λ r n. refl; mem = refl }))
+      runs = takes_more _ (omega arith) (pass s opens.number h 0 (omega arith) s
+          (record { pc = opens.pc ∙ sym site.first; regs = λ r n. refl; mem = refl }))
 
       small : (a : ℕ) → IsTrue ((world_of p h).own a) → s.mem a < 2 ^ 64
       small a o = subst (λ (v : ℕ). v < 2 ^ 64) (sym (opens.mem a)) (image-few p formed a)
@@ -125,15 +154,28 @@ module _ (p : Program) (formed : Formed p) (fit : MasksFit p.cases p.masks) (h :
         told = record { order = (whole_way p, refl); story = tt; pace = λ q. omega arith };
       }
 
-      steady : (t : State) → (since : Since (Does text_base hi (IsCalm h)) s t) → length t.log ≤ length s.log + begin_cost (harts p) → Steady p h limit 0 0 (begin_cost (harts p)) [] t.log
+      steady : (t : State) → (since : Since (Does text_base hi (IsCalm h)) s t)
+          → length t.log ≤ length s.log + begin_cost (harts p) → Steady p h limit 0 0 (begin_cost (harts p)) [] t.log
       steady t since few' =
-          let short : length since.entries ≤ begin_cost (harts p) = omega (arith, ap length since.log, length-append since.entries s.log) in
-          let r = steady-part p formed fit h number limit text_base hi clear 0 0 0 (begin_cost (harts p)) [] since.entries [] (omega arith) short (omega arith) since.each start in
+          let short : length since.entries ≤ begin_cost (harts p) =
+          omega (arith, ap length since.log, length-append since.entries s.log) in
+          let r = steady-part p formed fit h number limit text_base hi clear 0 0 0 (begin_cost (harts p)) []
+          since.entries [] (omega arith) short (omega arith) since.each start in
           let log : t.log ≡ since.entries ++ [] = since.log ∙ ap (λ (l : List Entry). since.entries ++ l) opens.log in
           subst (Steady p h limit 0 0 (begin_cost (harts p)) []) (sym log)
-          (record { phase = r.phase; way = r.way; silent = r.silent; judged = r.judged; unjudged = r.unjudged; few = omega (arith, r.few); told = r.told })
+          (record {
+            phase = r.phase;
+            way = r.way;
+            silent = r.silent;
+            judged = r.judged;
+            unjudged = r.unjudged;
+            few = omega (arith, r.few);
+            told = r.told;
+          })
 
-      ready : (t : State) → Begun s t → (since : Since (Does text_base hi (IsCalm h)) s t) → length t.log ≤ length s.log + begin_cost (harts p) → Small (world_of p h) t → Ready p h hi 0 0 (begin_cost (harts p)) [] t
+      ready : (t : State) → Begun s t → (since : Since (Does text_base hi (IsCalm h)) s t)
+          → length t.log ≤ length s.log + begin_cost (harts p) → Small (world_of p h) t
+          → Ready p h hi 0 0 (begin_cost (harts p)) [] t
       ready t b since few' m =
           let a = steady t since few' in
           record {
@@ -155,4 +197,5 @@ module _ (p : Program) (formed : Formed p) (fit : MasksFit p.cases p.masks) (h :
           }
 
 pub gates-lead : (p : Program) → GatesLead p
-gates-lead p formed fit h number base far site clear limit s opens room = begins p formed fit h number base far site clear limit s opens room
+gates-lead p formed fit h number base far site clear limit s opens room =
+    begins p formed fit h number base far site clear limit s opens room

@@ -1,5 +1,6 @@
 -- A built text has the barrier of each hart behind its halt mark.
-use Rattle.std.proofs.Common.{◌≡◌, inr, ℕ, suc, ◌+◌, ◌*◌, ◌<◌, ◌≤◌, [], ◌∷◌, ◌++◌, length, refl, ◌∙◌, subst, arith, length-append}
+use Rattle.std.proofs.Common.{◌≡◌, inr, ℕ, suc, ◌+◌, ◌*◌, ◌<◌, ◌≤◌, [], ◌∷◌, ◌++◌, length, refl, ◌∙◌, subst, arith}
+use Rattle.std.proofs.Common.{length-append}
 use Rattle.std.specs.Prelude.{slice_index_or}
 use Rattle.tm_plan_cases.specs.declared.program.Program.{Program}
 use Rattle.tm_plan_map.specs.Map.{text_base}
@@ -19,7 +20,9 @@ use Rattle.tm_pass_steps.specs.Sites.{BarrierSite}
 use Rattle.tm_pass_steps.specs.Building.{BarrierIsPlaced}
 use Rattle.tm_pass_steps.proofs.Placing.{IsOutside, stands-code}
 
-module _ (p : Program) (is : IsBuilt p) (some : (h c : ℕ) → h < harts p → c < case_count p → 1 ≤ length (slice_index_or (streams_of p.cases h) c [])) (h : ℕ) (number : h < harts p) (fits : AllFit (barrier h (harts p))) where
+module _ (p : Program) (is : IsBuilt p) (some : (h c : ℕ) → h < harts p → c < case_count p
+    → 1 ≤ length (slice_index_or (streams_of p.cases h) c [])) (h : ℕ) (number : h < harts p)
+    (fits : AllFit (barrier h (harts p))) where
   abbrev C : ℕ
   C = case_count p
 
@@ -33,11 +36,18 @@ module _ (p : Program) (is : IsBuilt p) (some : (h c : ℕ) → h < harts p → 
   ends-low : (d : ℕ) → d < C → end_of p h d < halt_of p h
   ends-low d l =
       let s = spread p (blocks_of p.cases) is some in
-      omega (arith, s.end h d number l, head-up p (base_of (blocks_of p.cases) p.cases) (head_of (blocks_of p.cases) p.cases) s h (suc d) C number (omega arith) (omega arith), s.halt h number)
+      omega (
+        arith,
+        s.end h d number l,
+        head-up p (base_of (blocks_of p.cases) p.cases)
+            (head_of (blocks_of p.cases) p.cases) s h (suc d) C number (omega arith) (omega arith),
+        s.halt h number,
+      )
 
   outside : (j : ℕ) → IsOutside p h (text_base + 4 * (first + j))
   outside j = (
-    stream-none p h (text_base + 4 * (first + j)) (λ d l. inside-false p h d (text_base + 4 * (first + j)) (inr (let e = entry-is in let m = ends-low d l in omega arith))),
+    stream-none p h (text_base + 4 * (first + j)) (λ d l. inside-false p h d (text_base + 4 * (first + j))
+        (inr (let e = entry-is in let m = ends-low d l in omega arith))),
     (λ z. let e = entry-is in omega arith),
   )
 
@@ -45,11 +55,15 @@ module _ (p : Program) (is : IsBuilt p) (some : (h c : ℕ) → h < harts p → 
   code =
       subst (λ (a : ℕ). At (support_at p h) a (barrier h (harts p))) entry-is
       (stands-code p h (barrier h (harts p)) first fits
-      (stands-right p.text (0x0000006F ∷ []) (words_of (barrier h (harts p))) (head p (blocks_of p.cases) is some h C) first refl (rest-at p (blocks_of p.cases) is some h number)) (λ j l. outside j))
+      (stands-right p.text (0x0000006F ∷ []) (words_of (barrier h (harts p))) (head p (blocks_of p.cases) is some h C)
+      first refl (rest-at p (blocks_of p.cases) is some h number)) (λ j l. outside j))
 
   long : length (barrier h (harts p)) ≡ length (meet h (harts p)) + 2
   unfolding barrier
-  long = length-append (meet h (harts p) ++ (fence ∷ [])) (go_to 1 ∷ []) ∙ omega (arith, length-append (meet h (harts p)) (fence ∷ []))
+  long = length-append (meet h (harts p) ++ (fence ∷ [])) (go_to 1 ∷ []) ∙ omega (
+    arith,
+    length-append (meet h (harts p)) (fence ∷ []),
+  )
 
   pub site : BarrierSite p h (halt_of p h + 4)
   site = record {

@@ -1,5 +1,7 @@
 -- The words that collect do so as the hart's way asks for it.
-use Rattle.std.proofs.Common.{◌≡◌, ◌≢◌, ◌⊎◌, inl, inr, ℕ, zero, suc, ◌+◌, ◌*◌, ◌%◌, ◌^◌, ◌<◌, ◌≤◌, Bool, true, false, ◌&&◌, ◌||◌, eq-eqb, ne_eqb, nat_lt, List, [], ◌∷◌, ◌++◌, length, map, Option, None, Some, refl, sym, ap, ◌∙◌, subst, arith, append-nil, append_assoc}
+use Rattle.std.proofs.Common.{◌≡◌, ◌≢◌, ◌⊎◌, inl, inr, ℕ, ◌+◌, ◌*◌, ◌%◌, ◌^◌, ◌<◌, ◌≤◌, Bool, true, false}
+use Rattle.std.proofs.Common.{◌&&◌, ◌||◌, eq-eqb, ne_eqb, nat_lt, List, [], ◌∷◌, ◌++◌, length, Option, None}
+use Rattle.std.proofs.Common.{Some, refl, sym, ap, ◌∙◌, subst, arith, append-nil, append_assoc}
 use Rattle.std.specs.Prelude.{slice_index, slice_index_or, IsTrue, IfSome, if◌then◌else◌}
 use Rattle.std.proofs.lemmas.Bool.Decides.{nat_tests}
 use Rattle.std.proofs.lemmas.Grind.{get_or_default_zero}
@@ -9,7 +11,7 @@ use Rattle.tm_table.specs.declared.state.Access.TheVariants.{Quiet, Read, Write}
 use Rattle.tm_plan_cases.specs.declared.program.Program.{Program}
 use Rattle.tm_plan_map.specs.Map.{private_at, private_size, save_at, guest_base, guest_end, verdict_at, windows_base}
 use Rattle.tm_plan_cases.specs.Collected.{owned}
-use Rattle.tm_base.specs.Lists.{any, count_from}
+use Rattle.tm_base.specs.Lists.{any}
 use Rattle.tm_plan_cases.specs.Shaped.{MasksFit}
 use Rattle.tm_world.specs.Lists.{or_else}
 use Rattle.tm_world.specs.Place.{harts, case_count, passes, exit_of, byte_of}
@@ -19,7 +21,7 @@ use Rattle.tm_world.specs.Marks.{Mark}
 use Rattle.tm_world.specs.Course.{round_before, reads_in, writes_in}
 use Rattle.tm_world.specs.Verdict.{saved}
 use Rattle.tm_runs.specs.Machine.{State, Entry, Table, MayAccess}
-use Rattle.tm_runs.specs.Runs.{Takes, Within, Newest, Does, Each, Since, At}
+use Rattle.tm_runs.specs.Runs.{Takes, Within, Does, Each, Since, At}
 use Rattle.tm_runs.specs.World.{world_of, support_at, is_fixed_dword}
 use Rattle.tm_runs.proofs.Compose.{keeps_map, takes_map, takes_then, takes_more}
 use Rattle.tm_runs.proofs.Places.{fixed-place, guest-true}
@@ -27,10 +29,10 @@ use Rattle.tm_runs.proofs.Worlds.{private-dword, own-private}
 use Rattle.tm_legal.proofs.Formed.{formed-sizes}
 use Rattle.tm_legal.specs.Tame.{Formed}
 use Rattle.tm_blocks_base.specs.Laws.{Uses, with_access, accesses}
-use Rattle.tm_blocks_move.specs.Laws.{Move, Moves, Among, line_moves, moved_accesses}
+use Rattle.tm_blocks_move.specs.Laws.{Move, Moves, Among, moved_accesses}
 use Rattle.tm_blocks_move.specs.Lines.{collect_all, collect_moves}
 use Rattle.tm_plan_owned.specs.Lines.{line_dwords}
-use Rattle.tm_blocks_move.specs.Runs.{In, UsesMoves, HasDone, all_collected}
+use Rattle.tm_blocks_move.specs.Runs.{UsesMoves, HasDone, all_collected}
 use Rattle.tm_blocks_move.proofs.Collecting.{collect_all_runs}
 use Rattle.tm_blocks_move.proofs.Once.{owned-rises}
 use Rattle.tm_blocks_move.proofs.Places.{fits_in}
@@ -49,77 +51,19 @@ use Rattle.tm_pass_way.proofs.Waiting.{phase-all, now-all}
 use Rattle.tm_pass_steps.specs.Gathering.{PassIsCollected, collect_cost}
 use Rattle.tm_pass_steps.proofs.Aim.{Aimed, aim-runs}
 use Rattle.tm_pass_steps.proofs.Mine.{Mine, mine}
-use Rattle.tm_pass_steps.proofs.Mixed.{off, halts, starts, one-more, left-through, far, start-steady, mixed-part, roomier}
+use Rattle.tm_pass_steps.proofs.Mixed.{off, halts, starts, one-more, left-through, far, start-steady, mixed-part}
+use Rattle.tm_pass_steps.proofs.Mixed.{roomier}
 use Rattle.tm_pass_steps.proofs.Setting.{all-among, accesses-append}
-use Rattle.tm_pass_steps.proofs.Sources.{Rises, rises-row, line-collects, collect-both, first_access, first-append, got-off, first-is, value-is, AreFirst, first-both, collect-first}
+use Rattle.tm_pass_steps.proofs.Sources.{Rises, rises-row, first_access, first-append}
+use Rattle.tm_pass_steps.proofs.Sources.{got-off, first-is, value-is, AreFirst, first-both, collect-first}
+use Rattle.tm_pass_steps.proofs.Gathered.{placed, among-row, index-row, index-behind, index-behind, index-behind}
+use Rattle.tm_pass_steps.proofs.Gathered.{length-row, all-moves, any-access, first-tail, reads-self, widen, newest-to}
 
--- ---- lists
-
-placed : (xs : List ℕ) (q : ℕ) (m : Move) → In m (collect_moves xs q) → Among m.0 xs × (q ≤ m.1) × (m.1 + 8 ≤ q + 8 * length xs)
-placed [] q m i = absurd i
-placed (x ∷ xs) q m (inl e) = (inl (ap (λ (k : Move). k.0) e), (let z = ap (λ (k : Move). k.1) e in omega arith), (let z = ap (λ (k : Move). k.1) e in omega arith))
-placed (x ∷ xs) q m (inr i) = let r = placed xs (q + 8) m i in (inr r.0, (let z = r.1 in omega arith), (let z = r.2 in omega arith))
-
-among-row : (n p j a : ℕ) (xs : List ℕ) → Among a (map (λ i. p + 8 * i) (count_from j n) ++ xs) → (a + 8 ≤ p + 8 * (j + n)) ⊎ Among a xs
-among-row zero p j a xs i = inr i
-among-row (suc n) p j a xs (inl e) = inl (omega arith)
-among-row (suc n) p j a xs (inr i) = by (among-row n p (suc j) a xs i)
-  where
-    by : (a + 8 ≤ p + 8 * (suc j + n)) ⊎ Among a xs → (a + 8 ≤ p + 8 * (j + suc n)) ⊎ Among a xs
-    by (inl l) = inl (omega arith)
-    by (inr k) = inr k
-
-index-row : (n p j i : ℕ) (xs : List ℕ) → i < n → slice_index (map (λ i. p + 8 * i) (count_from j n) ++ xs) i ≡ p + 8 * (j + i)
-index-row zero p j i xs l = absurd (omega arith)
-index-row (suc n) p j zero xs l = omega arith
-index-row (suc n) p j (suc i) xs l = index-row n p (suc j) i xs (omega arith) ∙ omega arith
-
-index-behind : (n p j i : ℕ) (xs : List ℕ) → slice_index (map (λ i. p + 8 * i) (count_from j n) ++ xs) (n + i) ≡ slice_index xs i
-index-behind zero p j i xs = let e : 0 + i ≡ i = omega arith in ap (slice_index xs) e
-index-behind (suc n) p j i xs = let e : suc n + i ≡ suc (n + i) = omega arith in ap (slice_index (map (λ i. p + 8 * i) (count_from j (suc n)) ++ xs)) e ∙ index-behind n p (suc j) i xs
-
-length-row : (n p j : ℕ) (xs : List ℕ) → length (map (λ i. p + 8 * i) (count_from j n) ++ xs) ≡ n + length xs
-length-row zero p j xs = omega arith
-length-row (suc n) p j xs = let r = length-row n p (suc j) xs in let e : length (map (λ i. p + 8 * i) (count_from j (suc n)) ++ xs) ≡ suc (length (map (λ i. p + 8 * i) (count_from (suc j) n) ++ xs)) = refl in omega arith
-
-all-moves : (n b save : ℕ) (dwords : List ℕ) → line_moves b save n ++ collect_moves dwords (save + 8 * n) ≡ collect_moves (line_dwords b n ++ dwords) save
-all-moves n b save dwords =
-    let e : save + 8 * 0 ≡ save = omega arith in
-    let rows = line_dwords b n in
-    let long : length rows ≡ n = ap length (sym (append-nil rows)) ∙ (length-row n b 0 [] ∙ omega arith) in
-    ap (λ (ms : List Move). ms ++ collect_moves dwords (save + 8 * n)) (line-collects n b save 0 ∙ ap (collect_moves rows) e)
-    ∙ (ap (λ (k : ℕ). collect_moves rows save ++ collect_moves dwords (save + 8 * k)) (sym long) ∙ collect-both rows dwords save)
-
-any-access : (a : ℕ) (es : List Entry) → any (λ (t : Entry). reads_in a 8 t.access) es ≡ any (reads_in a 8) (accesses es)
-any-access a [] = refl
-any-access a (e ∷ es) = by e.access (any-access a es)
-  where
-    by : (x : Access) → any (λ (t : Entry). reads_in a 8 t.access) es ≡ any (reads_in a 8) (accesses es) → (reads_in a 8 x || any (λ (t : Entry). reads_in a 8 t.access) es) ≡ any (reads_in a 8) (with_access x (accesses es))
-    by Quiet r = r
-    by (Read b n v) r = ap (λ (t : Bool). reads_in a 8 (Read b n v) || t) r
-    by (Write b n v) r = ap (λ (t : Bool). reads_in a 8 (Write b n v) || t) r
-
-first-tail : (dwords : List ℕ) (e : Entry) (es : List Entry) → AreFirst dwords [] (accesses (e ∷ es)) → AreFirst dwords [] (accesses es)
-first-tail dwords e es f = by e.access f
-  where
-    by : (x : Access) → AreFirst dwords [] (with_access x (accesses es)) → AreFirst dwords [] (accesses es)
-    by Quiet g = g
-    by (Read b n v) g = g.1
-    by (Write b n v) g = g.1
-
-reads-self : (a v : ℕ) → reads_in a 8 (Read a 8 v) ≡ true
-reads-self a v = grind (arith, nat_tests)
-
-widen : (lo mid hi : ℕ) (A : Access → Type 0) → lo ≤ mid → (log : List Entry) → Newest (Does mid hi A) log → Newest (Does lo hi A) log
-widen lo mid hi A l [] h = tt
-widen lo mid hi A l (e ∷ es) h = record { from = omega (arith, h.from); below = h.below; least = omega (arith, h.least); most = h.most; access = h.access }
-
-newest-to : (lo hi : ℕ) (A B : Access → Type 0) → ((x : Access) → A x → B x) → (log : List Entry) → Newest (Does lo hi A) log → Newest (Does lo hi B) log
-newest-to lo hi A B f [] h = tt
-newest-to lo hi A B f (e ∷ es) h = record { from = h.from; below = h.below; least = h.least; most = h.most; access = f e.access h.access }
-
-module _ (p : Program) (formed : Formed p) (fit : MasksFit p.cases p.masks) (h : ℕ) (number : h < harts p) (lo : ℕ) (code-aim : At (support_at p h) lo aim) (code : At (support_at p h) (lo + 24) (collect_all p.cases h)) (clear : Clear p h lo (lo + 24 + 4 * length (collect_all p.cases h)))
-    (limit : ℕ → ℕ) (q d k : ℕ) (ms : List Mark) (pass : k < passes p) (room : collect_cost (length (owned p.cases h)) ≤ limit q) where
+module _ (p : Program) (formed : Formed p) (fit : MasksFit p.cases p.masks) (h : ℕ) (number : h < harts p) (lo : ℕ)
+    (code-aim : At (support_at p h) lo aim) (code : At (support_at p h) (lo + 24) (collect_all p.cases h))
+    (clear : Clear p h lo (lo + 24 + 4 * length (collect_all p.cases h)))
+    (limit : ℕ → ℕ) (q d k : ℕ) (ms : List Mark) (pass : k < passes p) (room : collect_cost (length (owned p.cases h))
+    ≤ limit q) where
   abbrev exit : ℕ
   exit = exit_of p h
 
@@ -181,7 +125,8 @@ module _ (p : Program) (formed : Formed p) (fit : MasksFit p.cases p.masks) (h :
 
   sources-rise : Rises b sources
   unfolding sources
-  sources-rise = rises-row 30 b 0 b windows_base dwords b-even (omega arith) (let z = (b-guest 240 (omega arith)).0 in omega arith) (owned-rises p.cases h)
+  sources-rise = rises-row 30 b 0 b windows_base dwords b-even (omega arith) (let z = (b-guest 240 (omega arith)).0 in
+      omega arith) (owned-rises p.cases h)
 
   source-of : (a : ℕ) → Among a sources → IsBelow a ⊎ Among a dwords
   unfolding sources
@@ -209,8 +154,10 @@ module _ (p : Program) (formed : Formed p) (fit : MasksFit p.cases p.masks) (h :
 
   uses-of : (x : Access) → UsesMoves (collect_moves sources save) x → Takes-in x
   uses-of Quiet u = tt
-  uses-of (Read a width v) u = let r = placed sources save u.1.0 u.1.1 in (u.0, subst (λ (y : ℕ). IsBelow y ⊎ Among y dwords) u.1.2 (source-of u.1.0.0 r.0))
-  uses-of (Write a width v) u = let r = placed sources save u.1.0 u.1.1 in (u.0, subst (IsOwn h) u.1.2 (in-area u.1.0.1 r.1 r.2))
+  uses-of (Read a width v) u = let r = placed sources save u.1.0 u.1.1 in
+      (u.0, subst (λ (y : ℕ). IsBelow y ⊎ Among y dwords) u.1.2 (source-of u.1.0.0 r.0))
+  uses-of (Write a width v) u = let r = placed sources save u.1.0 u.1.1 in
+      (u.0, subst (IsOwn h) u.1.2 (in-area u.1.0.1 r.1 r.2))
 
   own-cell : IsTrue ((world_of p h).own (b + 264))
   unfolding private_size
@@ -218,7 +165,11 @@ module _ (p : Program) (formed : Formed p) (fit : MasksFit p.cases p.masks) (h :
 
   may-cell : MayAccess (world_of p h) (b + 264)
   unfolding guest_base guest_end
-  may-cell = (let e = b-even in omega arith, let g = b-guest 264 (omega arith) in guest-true (b + 264) (omega (arith, g.1)) (omega (arith, g.2)))
+  may-cell = (
+    let e = b-even in omega arith,
+    let g = b-guest 264 (omega arith) in
+        guest-true (b + 264) (omega (arith, g.1)) (omega (arith, g.2)),
+  )
 
   save-same : save ≡ save_at h k
   unfolding save
@@ -245,39 +196,66 @@ module _ (p : Program) (formed : Formed p) (fit : MasksFit p.cases p.masks) (h :
       by (Write a w v) f u = not-reports p formed fit h number x h e l number (subst (IsCalm h) (sym f) u)
       by (Read a w v) f u = ap (writes_in (verdict_at x h) 8) f
 
-  fact : (es base : List Entry) (e : Entry) → Acts e → now_in exit (es ++ base) ≡ es → any (signals_in h) (now_in exit (es ++ base)) ≡ false → AreFirst dwords [] (accesses (e ∷ es)) → Fact p h (es ++ base) e
+  fact : (es base : List Entry) (e : Entry) → Acts e → now_in exit (es ++ base) ≡ es
+      → any (signals_in h) (now_in exit (es ++ base)) ≡ false → AreFirst dwords [] (accesses (e ∷ es))
+      → Fact p h (es ++ base) e
   fact es base e a now silent first = by e.access refl a.access first
     where
       calm : IsCalm h e.access → Fact p h (es ++ base) e
       calm u =
-          calm-fact p formed fit h number (es ++ base) e (record { from = off p formed fit h number limit lo hi clear Takes-in e a; start = starts p formed fit h number limit lo hi clear Takes-in e a; halt = halts p formed fit h number limit lo hi clear Takes-in e a; access = u }) silent
+          calm-fact p formed fit h number (es ++ base) e
+          (record {
+            from = off p formed fit h number limit lo hi clear Takes-in e a;
+            start = starts p formed fit h number limit lo hi clear Takes-in e a;
+            halt =
+                halts p formed fit h number limit lo hi clear Takes-in e a;
+            access = u;
+          }) silent
 
-      collects : (x v : ℕ) → e.access ≡ Read x 8 v → Among x dwords → AreFirst dwords [] (Read x 8 v ∷ accesses es) → Fact p h (es ++ base) e
+      collects : (x v : ℕ) → e.access ≡ Read x 8 v → Among x dwords → AreFirst dwords [] (Read x 8 v ∷ accesses es)
+          → Fact p h (es ++ base) e
       collects x v f i first =
-          collect-fact p formed fit h number (es ++ base) e x v (record { from = off p formed fit h number limit lo hi clear Takes-in e a; start = starts p formed fit h number limit lo hi clear Takes-in e a; halt = halts p formed fit h number limit lo hi clear Takes-in e a })
-          f (mine-of x i).even (ap (any (λ (t : Entry). reads_in x 8 t.access)) now ∙ (any-access x es ∙ (ap (any (reads_in x 8)) (sym (append-nil (accesses es))) ∙ first.0 x i (reads-self x v)))) silent
+          collect-fact p formed fit h number (es ++ base) e x v
+          (record {
+            from = off p formed fit h number limit lo hi clear Takes-in e a;
+            start = starts p formed fit h number limit lo hi clear Takes-in e a;
+            halt =
+                halts p formed fit h number limit lo hi clear Takes-in e a;
+          })
+          f (mine-of x i).even (ap (any (λ (t : Entry). reads_in x 8 t.access)) now ∙
+          (any-access x es ∙ (ap (any (reads_in x 8)) (sym (append-nil (accesses es))) ∙ first.0 x i
+          (reads-self x v)))) silent
 
-      by : (y : Access) → e.access ≡ y → Takes-in y → AreFirst dwords [] (with_access y (accesses es)) → Fact p h (es ++ base) e
+      by : (y : Access) → e.access ≡ y → Takes-in y → AreFirst dwords [] (with_access y (accesses es))
+          → Fact p h (es ++ base) e
       by Quiet f u g = calm (subst (IsCalm h) (sym f) tt)
       by (Write x w v) f u g = calm (subst (IsCalm h) (sym f) u)
       by (Read x w v) f u g = by-read u.1
         where
           by-read : IsBelow x ⊎ Among x dwords → Fact p h (es ++ base) e
           by-read (inl l) = calm (subst (IsCalm h) (sym f) (u.0, l))
-          by-read (inr i) = collects x v (f ∙ ap (λ (z : ℕ). Read x z v) u.0) i (subst (λ (z : ℕ). AreFirst dwords [] (Read x z v ∷ accesses es)) u.0 g)
+          by-read (inr i) = collects x v (f ∙ ap (λ (z : ℕ). Read x z v) u.0) i
+              (subst (λ (z : ℕ). AreFirst dwords [] (Read x z v ∷ accesses es)) u.0 g)
 
   -- all entries so far
-  steady-all : (es base : List Entry) → Each Acts es → length es ≤ n → phase_in exit base ≡ q → now_in exit base ≡ [] → AreFirst dwords [] (accesses es) → Steady p h limit q d 0 ms base → Steady p h limit q d (length es) ms (es ++ base)
+  steady-all : (es base : List Entry) → Each Acts es → length es ≤ n → phase_in exit base ≡ q → now_in exit base ≡ []
+      → AreFirst dwords [] (accesses es) → Steady p h limit q d 0 ms base
+      → Steady p h limit q d (length es) ms (es ++ base)
   steady-all [] base each l phase now first s = s
   steady-all (e ∷ es) base each l phase now first s =
       let r = steady-all es base each.1 (omega arith) phase now (first-tail dwords e es first) s in
-      let here : now_in exit (es ++ base) ≡ es = now-all p formed fit h number q base phase es (far p formed fit h number limit lo hi clear Takes-in es each.1) ∙ (ap (λ (l : List Entry). es ++ l) now ∙ append-nil es) in
-      one-more p formed fit h number limit lo hi clear Takes-in q d (length es) ms (es ++ base) e each.0 (fact es base e each.0 here r.silent first) (still e each.0.access) (λ x m. mute x e m each.0.access) (omega arith) r
+      let here : now_in exit (es ++ base) ≡ es =
+      now-all p formed fit h number q base phase es (far p formed fit h number limit lo hi clear Takes-in es each.1)
+      ∙ (ap (λ (l : List Entry). es ++ l) now ∙ append-nil es) in
+      one-more p formed fit h number limit lo hi clear Takes-in q d (length es) ms (es ++ base) e each.0
+      (fact es base e each.0 here r.silent first) (still e each.0.access) (λ x m. mute x e m each.0.access)
+      (omega arith) r
 
   -- ---- what is read
 
   abbrev Read-off : ℕ → List Entry → Type 0
-  Read-off r base = (es : List Entry) → Each Acts es → (phase_in exit base ≡ q) → (x : ℕ) → r ≢ q → read_in p h r x (es ++ base) ≡ read_in p h r x base
+  Read-off r base = (es : List Entry) → Each Acts es → (phase_in exit base ≡ q) → (x : ℕ) → r ≢ q
+      → read_in p h r x (es ++ base) ≡ read_in p h r x base
 
   or-none : (o : Option ℕ) → or_else o None ≡ o
   or-none None = refl
@@ -286,139 +264,173 @@ module _ (p : Program) (formed : Formed p) (fit : MasksFit p.cases p.masks) (h :
   other-phase : (r : ℕ) (base : List Entry) → Read-off r base
   other-phase r base [] each phase x ne = refl
   other-phase r base (e ∷ es) each phase x ne =
-      ap (λ (t : Bool). or_else (read_in p h r x (es ++ base)) (if t then got e.access x else None)) (ne_eqb (phase_in exit (es ++ base)) r (λ z. ne (sym z ∙ phase-all p formed fit h number q base phase es (far p formed fit h number limit lo hi clear Takes-in es each.1))))
+      ap (λ (t : Bool). or_else (read_in p h r x (es ++ base)) (if t then got e.access x else None))
+      (ne_eqb (phase_in exit (es ++ base)) r (λ z.
+      ne (sym z ∙ phase-all p formed fit h number q base phase es
+      (far p formed fit h number limit lo hi clear Takes-in es each.1))))
       ∙ (or-none (read_in p h r x (es ++ base)) ∙ other-phase r base es each.1 phase x ne)
 
   or-assoc : (a c e : Option ℕ) → or_else (or_else a c) e ≡ or_else a (or_else c e)
   or-assoc None c e = refl
   or-assoc (Some x) c e = refl
 
-  first-with : (x : ℕ) (a : Access) (xs : List Access) → first_access x (with_access a xs) ≡ or_else (first_access x xs) (got a x)
+  first-with : (x : ℕ) (a : Access) (xs : List Access) → first_access x (with_access a xs)
+      ≡ or_else (first_access x xs) (got a x)
   first-with x Quiet xs = sym (or-none (first_access x xs))
   first-with x (Read y w v) xs = refl
   first-with x (Write y w v) xs = refl
 
-  this-phase : (base es : List Entry) → Each Acts es → phase_in exit base ≡ q → (x : ℕ) → read_in p h q x (es ++ base) ≡ or_else (read_in p h q x base) (first_access x (accesses es))
+  this-phase : (base es : List Entry) → Each Acts es → phase_in exit base ≡ q → (x : ℕ) → read_in p h q x (es ++ base)
+      ≡ or_else (read_in p h q x base) (first_access x (accesses es))
   this-phase base [] each phase x = sym (or-none (read_in p h q x base))
   this-phase base (e ∷ es) each phase x =
-      ap (λ (t : Bool). or_else (read_in p h q x (es ++ base)) (if t then got e.access x else None)) (eq-eqb (phase_in exit (es ++ base)) q (phase-all p formed fit h number q base phase es (far p formed fit h number limit lo hi clear Takes-in es each.1)))
+      ap (λ (t : Bool). or_else (read_in p h q x (es ++ base)) (if t then got e.access x else None))
+      (eq-eqb (phase_in exit (es ++ base)) q (phase-all p formed fit h number q base phase es
+      (far p formed fit h number limit lo hi clear Takes-in es each.1)))
       ∙ (ap (λ (o : Option ℕ). or_else o (got e.access x)) (this-phase base es each.1 phase x)
-      ∙ (or-assoc (read_in p h q x base) (first_access x (accesses es)) (got e.access x) ∙ ap (or_else (read_in p h q x base)) (sym (first-with x e.access (accesses es)))))
+      ∙ (or-assoc (read_in p h q x base) (first_access x (accesses es)) (got e.access x) ∙ ap
+      (or_else (read_in p h q x base)) (sym (first-with x e.access (accesses es)))))
 
   -- ---- what is left
 
-  module _ (s u t : State) (hold : Hold p h lo q d 0 ms s) (counter : s.mem (private_at h + 264) ≡ k) (now : now_in exit s.log ≡ []) (told : Told p h limit s.log)
-      (aimed : Aimed b k s u) (done : HasDone (world_of p h) (collect_all p.cases h) (collect_moves sources save) u t) where
-    abbrev vs : List ℕ
-    vs = done.moved.values
+  module _ (s u t : State) (hold : Hold p h lo q d 0 ms s) (counter : s.mem (private_at h + 264)
+      ≡ k) (now : now_in exit s.log ≡ []) (told : Told p h limit s.log)
+      (aimed : Aimed b k s u) (done : HasDone (world_of p h) (collect_all p.cases h) (collect_moves sources save) u t)
+    where
+      abbrev vs : List ℕ
+      vs = done.moved.values
 
-    abbrev made : List Access
-    made = moved_accesses (collect_moves sources save) vs
+      abbrev made : List Access
+      made = moved_accesses (collect_moves sources save) vs
 
-    moves-of : Moves (world_of p h) u.mem (collect_moves sources save) vs
-    moves-of = done.moved.moves
+      moves-of : Moves (world_of p h) u.mem (collect_moves sources save) vs
+      moves-of = done.moved.moves
 
-    mem-other : (a : ℕ) → (a < save) ⊎ (save + 8 * length sources ≤ a) → t.mem a ≡ s.mem a
-    mem-other a l =
-        ap (λ (f : Table). f a) done.moved.mem
-        ∙ (moved-other (world_of p h) (collect_moves sources save) vs u.mem a moves-of (λ m i z. by m l (placed sources save m i) z) ∙ ap (λ (f : Table). f a) aimed.mem)
-      where
-        by : (m : Move) → (a < save) ⊎ (save + 8 * length sources ≤ a) → Among m.0 sources × (save ≤ m.1) × (m.1 + 8 ≤ save + 8 * length sources) → a ≡ m.1 → ⊥
-        by m (inl l) r z = let x = r.1 in omega arith
-        by m (inr l) r z = let x = r.2 in omega arith
+      mem-other : (a : ℕ) → (a < save) ⊎ (save + 8 * length sources ≤ a) → t.mem a ≡ s.mem a
+      mem-other a l =
+          ap (λ (f : Table). f a) done.moved.mem
+          ∙ (moved-other (world_of p h) (collect_moves sources save) vs u.mem a moves-of
+          (λ m i z. by m l (placed sources save m i) z) ∙ ap (λ (f : Table). f a) aimed.mem)
+        where
+          by : (m : Move) → (a < save) ⊎ (save + 8 * length sources ≤ a) → Among m.0 sources × (save ≤ m.1)
+              × (m.1 + 8 ≤ save + 8 * length sources) → a ≡ m.1 → ⊥
+          by m (inl l) r z = let x = r.1 in omega arith
+          by m (inr l) r z = let x = r.2 in omega arith
 
-    low-other : (i : ℕ) → i < 0x1000 → t.mem (b + i) ≡ s.mem (b + i)
-    low-other i l = mem-other (b + i) (inl (let e = save-is in omega arith))
+      low-other : (i : ℕ) → i < 0x1000 → t.mem (b + i) ≡ s.mem (b + i)
+      low-other i l = mem-other (b + i) (inl (let e = save-is in omega arith))
 
-    fixed-other : (a : ℕ) → is_fixed_dword p a ≡ true → t.mem a ≡ s.mem a
-    fixed-other a e = mem-other a (inl (let f = fixed-place p a (formed-sizes formed) e in let z = (b-guest 0 (omega arith)).1 in let g = save-is in omega arith))
+      fixed-other : (a : ℕ) → is_fixed_dword p a ≡ true → t.mem a ≡ s.mem a
+      fixed-other a e = mem-other a (inl (let f = fixed-place p a (formed-sizes formed) e in
+          let z = (b-guest 0 (omega arith)).1 in let g = save-is in omega arith))
 
-    leaves : LeavesTo p h hi s t
-    leaves = record {
-      pc = done.pc ∙ omega (arith, aimed.pc, hold.pc);
-      base = done.moved.regs 31 (λ z. omega arith) (λ z. omega arith) (λ z. omega arith) (λ z. omega arith) ∙ aimed.regs 31 (λ z. omega arith) (λ z. omega arith);
-      exits = low-other 256 (omega arith);
-      fixed = fixed-other;
-    }
-
-    saved-at : (j : ℕ) → j < 30 + length dwords → t.mem (save + 8 * j) ≡ slice_index vs j
-    saved-at j l = ap (λ (f : Table). f (save + 8 * j)) done.moved.mem ∙ collected-at (world_of p h) sources vs save u.mem moves-of j (let e = sources-long in omega arith)
-
-    own-dword : (i : ℕ) → i < 30 → IsTrue ((world_of p h).own (b + 8 * i))
-    unfolding private_size
-    own-dword i l = own-private p h (b + 8 * i) (private-dword h (b + 8 * i) (omega arith) (omega arith))
-
-    dword-is : (i : ℕ) → i < 30 → t.mem (save + 8 * i) ≡ s.mem (b + 8 * i)
-    dword-is i l =
-        let e = source-low i l in
-        saved-at i (omega arith)
-        ∙ (value-is (world_of p h) sources vs save u.mem moves-of i (let z = sources-long in omega arith) (subst (λ (a : ℕ). IsTrue ((world_of p h).own a)) (sym e) (own-dword i l)) (let z = save-is in omega arith)
-        ∙ (ap u.mem e ∙ ap (λ (f : Table). f (b + 8 * i)) aimed.mem))
-
-    area-is : (j i : ℕ) → j < k → i < saved p h → t.mem (save_at h j + 8 * i) ≡ s.mem (save_at h j + 8 * i)
-    unfolding save_at
-    area-is j i l m = mem-other (b + 0x1000 + 0x2000 * j + 8 * i) (inl (let z = saves-few p h in let e = save-is in omega arith))
-
-    module _ (since : Since Acts s t) where
-      abbrev es : List Entry
-      es = since.entries
-
-      own-accesses : accesses es ≡ made ++ (Read (b + 264) 8 aimed.value ∷ [])
-      own-accesses =
-          append_cancel_right (accesses es) (made ++ (Read (b + 264) 8 aimed.value ∷ [])) (accesses s.log)
-          (sym (accesses-append es s.log) ∙ (ap accesses (sym since.log) ∙ (done.moved.accesses ∙ (ap (λ (l : List Access). made ++ l) aimed.accesses ∙ sym (append_assoc made (Read (b + 264) 8 aimed.value ∷ []) (accesses s.log))))))
-
-      off-cell : (a : ℕ) → Among a dwords → any (reads_in a 8) (Read (b + 264) 8 aimed.value ∷ []) ≡ false
-      off-cell a i = let m = (mine-of a i).low in let z = (b-guest 264 (omega arith)).0 in let e : (nat_lt (b + 264) (a + 8) && nat_lt a (b + 264 + 8)) ≡ false = grind (arith, nat_tests) in ap (λ (x : Bool). x || false) e
-
-      firsts : AreFirst dwords [] (accesses es)
-      firsts =
-          subst (AreFirst dwords []) (sym own-accesses)
-          (first-both dwords [] made (Read (b + 264) 8 aimed.value ∷ [])
-          (collect-first (world_of p h) dwords (λ a i. (mine-of a i).even) sources vs b save u.mem (Read (b + 264) 8 aimed.value ∷ []) moves-of sources-rise (λ a i l. off-cell a i)) ((λ a i e. refl), tt))
-
-      steady : length es ≤ n → Steady p h limit q d n ms t.log
-      steady short =
-          subst (Steady p h limit q d n ms) (sym since.log)
-          (roomier p formed fit h number limit lo hi clear Takes-in q d (length es) n ms (es ++ s.log) short
-          (steady-all es s.log since.each short hold.phase now firsts (start-steady p formed fit h number limit lo hi clear Takes-in hold told)))
-
-      first-of : (j i : ℕ) → j < length dwords → i < 8 → first_access (slice_index dwords j + i) (accesses es) ≡ Some (byte_of (slice_index vs (30 + j)) i)
-      first-of j i l m =
-          let x = slice_index dwords j + i in
-          let low : windows_base ≤ x = let z = (mine p.cases h j 0 l).low in omega arith in
-          ap (first_access x) own-accesses
-          ∙ (first-append x made (Read (b + 264) 8 aimed.value ∷ [])
-          ∙ (ap (λ (o : Option ℕ). or_else (or_else None o) (first_access x made)) (got-off (b + 264) aimed.value x (inr (let z = (b-guest 264 (omega arith)).0 in omega arith)))
-          ∙ (ap (λ (y : ℕ). first_access (y + i) made) (sym (source-high j))
-          ∙ first-is (world_of p h) sources vs b save u.mem moves-of sources-rise (30 + j) i (let e = sources-long in omega arith) m)))
-
-      collects : CollectsTo p h k q s t
-      unfolding save
-      collects = record {
-        left = λ x r l. ap (left_in p h x r) since.log ∙ left-through p formed fit h number limit lo hi clear Takes-in x r l es s.log since.each;
-        others = λ r x ne. ap (read_in p h r x) since.log ∙ other-phase r s.log es since.each hold.phase x ne;
-        read = λ j i l m.
-            let x = slice_index dwords j + i in
-            ap (read_in p h q x) since.log
-            ∙ (this-phase s.log es since.each hold.phase x
-            ∙ ap (or_else (read_in p h q x s.log)) (first-of j i l m ∙ ap (λ (v : ℕ). Some (byte_of v i)) (sym (saved-at (30 + j) (omega arith)))));
-        dwords = dword-is;
-        area = area-is;
-        counter = low-other 264 (omega arith);
+      leaves : LeavesTo p h hi s t
+      leaves = record {
+        pc = done.pc ∙ omega (arith, aimed.pc, hold.pc);
+        base = done.moved.regs 31 (λ z. omega arith) (λ z. omega arith) (λ z. omega arith) (λ z. omega arith) ∙ aimed.regs
+            31 (λ z. omega arith) (λ z. omega arith);
+        exits = low-other 256 (omega arith);
+        fixed = fixed-other;
       }
 
-      gathered : Gathered p h (now_in exit t.log)
-      gathered j x l =
-          let e : slice_index_or dwords j x ≡ slice_index dwords j = get_or_default_zero dwords j x l in
-          let a = slice_index dwords j in
-          let none : read_in p h q (a + 0) s.log ≡ None = read-none p h q (a + 0) s.log (sym (ap (λ (r : ℕ). steps_in exit r s.log) hold.phase) ∙ now) in
-          let value = byte_of (t.mem (save_at h k + 8 * (30 + j))) 0 in
-          let plain : a ≡ a + 0 = omega arith in
-          let has : read_in p h q a t.log ≡ Some value = ap (λ (y : ℕ). read_in p h q y t.log) plain ∙ (collects.read j 0 l (omega arith) ∙ ap (λ (o : Option ℕ). or_else o (Some value)) none) in
-          let phase : phase_in exit t.log ≡ q = ap (phase_in exit) since.log ∙ phase-all p formed fit h number q s.log hold.phase es (far p formed fit h number limit lo hi clear Takes-in es since.each) in
-          subst (λ (y : ℕ). any (λ (f : Entry). reads_in y 8 f.access) (now_in exit t.log) ≡ true) (sym e)
-          (subst (λ (r : ℕ). any (λ (f : Entry). reads_in a 8 f.access) (steps_in exit r t.log) ≡ true) (sym phase) (read-any p h q a value t.log has))
+      saved-at : (j : ℕ) → j < 30 + length dwords → t.mem (save + 8 * j) ≡ slice_index vs j
+      saved-at j l = ap (λ (f : Table). f (save + 8 * j)) done.moved.mem ∙ collected-at (world_of p h) sources vs save
+          u.mem moves-of j (let e = sources-long in omega arith)
+
+      own-dword : (i : ℕ) → i < 30 → IsTrue ((world_of p h).own (b + 8 * i))
+      unfolding private_size
+      own-dword i l = own-private p h (b + 8 * i) (private-dword h (b + 8 * i) (omega arith) (omega arith))
+
+      dword-is : (i : ℕ) → i < 30 → t.mem (save + 8 * i) ≡ s.mem (b + 8 * i)
+      dword-is i l =
+          let e = source-low i l in
+          saved-at i (omega arith)
+          ∙ (value-is (world_of p h) sources vs save u.mem moves-of i (let z = sources-long in
+          omega arith) (subst (λ (a : ℕ). IsTrue ((world_of p h).own a)) (sym e) (own-dword i l)) (let z = save-is in
+          omega arith)
+          ∙ (ap u.mem e ∙ ap (λ (f : Table). f (b + 8 * i)) aimed.mem))
+
+      area-is : (j i : ℕ) → j < k → i < saved p h → t.mem (save_at h j + 8 * i) ≡ s.mem (save_at h j + 8 * i)
+      unfolding save_at
+      area-is j i l m = mem-other (b + 0x1000 + 0x2000 * j + 8 * i) (inl (let z = saves-few p h in let e = save-is in
+          omega arith))
+
+      module _ (since : Since Acts s t) where
+        abbrev es : List Entry
+        es = since.entries
+
+        own-accesses : accesses es ≡ made ++ (Read (b + 264) 8 aimed.value ∷ [])
+        own-accesses =
+            append_cancel_right (accesses es) (made ++ (Read (b + 264) 8 aimed.value ∷ [])) (accesses s.log)
+            (sym (accesses-append es s.log) ∙ (ap accesses (sym since.log) ∙
+            (done.moved.accesses ∙ (ap (λ (l : List Access). made ++ l) aimed.accesses ∙ sym
+            (append_assoc made (Read (b + 264) 8 aimed.value ∷ []) (accesses s.log))))))
+
+        off-cell : (a : ℕ) → Among a dwords → any (reads_in a 8) (Read (b + 264) 8 aimed.value ∷ []) ≡ false
+        off-cell a i = let m = (mine-of a i).low in let z = (b-guest 264 (omega arith)).0 in
+            let e : (nat_lt (b + 264) (a + 8) && nat_lt a (b + 264 + 8)) ≡ false = grind (arith, nat_tests) in
+            ap (λ (x : Bool). x || false) e
+
+        firsts : AreFirst dwords [] (accesses es)
+        firsts =
+            subst (AreFirst dwords []) (sym own-accesses)
+            (first-both dwords [] made (Read (b + 264) 8 aimed.value ∷ [])
+            (collect-first (world_of p h) dwords (λ a i. (mine-of a i).even) sources vs b save u.mem
+            (Read (b + 264) 8 aimed.value ∷ []) moves-of sources-rise (λ a i l. off-cell a i)) ((λ a i e. refl), tt))
+
+        steady : length es ≤ n → Steady p h limit q d n ms t.log
+        steady short =
+            subst (Steady p h limit q d n ms) (sym since.log)
+            (roomier p formed fit h number limit lo hi clear Takes-in q d (length es) n ms (es ++ s.log) short
+            (steady-all es s.log since.each short hold.phase now firsts
+            (start-steady p formed fit h number limit lo hi clear Takes-in hold told)))
+
+        first-of : (j i : ℕ) → j < length dwords → i < 8 → first_access (slice_index dwords j + i) (accesses es)
+            ≡ Some (byte_of (slice_index vs (30 + j)) i)
+        first-of j i l m =
+            let x = slice_index dwords j + i in
+            let low : windows_base ≤ x = let z = (mine p.cases h j 0 l).low in omega arith in
+            ap (first_access x) own-accesses
+            ∙ (first-append x made (Read (b + 264) 8 aimed.value ∷ [])
+            ∙ (ap (λ (o : Option ℕ). or_else (or_else None o) (first_access x made))
+            (got-off (b + 264) aimed.value x (inr (let z = (b-guest 264 (omega arith)).0 in omega arith)))
+            ∙ (ap (λ (y : ℕ). first_access (y + i) made) (sym (source-high j))
+            ∙ first-is (world_of p h) sources vs b save u.mem moves-of sources-rise (30 + j) i (let e = sources-long in
+            omega arith) m)))
+
+        collects : CollectsTo p h k q s t
+        unfolding save
+        collects = record {
+          left = λ x r l. ap (left_in p h x r) since.log ∙ left-through p formed fit h number limit lo hi clear Takes-in x
+              r l es s.log since.each;
+          others = λ r x ne. ap (read_in p h r x) since.log ∙ other-phase r s.log es since.each hold.phase x ne;
+          read = λ j i l m.
+              let x = slice_index dwords j + i in
+              ap (read_in p h q x) since.log
+              ∙ (this-phase s.log es since.each hold.phase x
+              ∙ ap (or_else (read_in p h q x s.log))
+              (first-of j i l m ∙ ap (λ (v : ℕ). Some (byte_of v i)) (sym (saved-at (30 + j) (omega arith)))));
+          dwords = dword-is;
+          area = area-is;
+          counter = low-other 264 (omega arith);
+        }
+
+        gathered : Gathered p h (now_in exit t.log)
+        gathered j x l =
+            let e : slice_index_or dwords j x ≡ slice_index dwords j = get_or_default_zero dwords j x l in
+            let a = slice_index dwords j in
+            let none : read_in p h q (a + 0) s.log ≡ None =
+            read-none p h q (a + 0) s.log (sym (ap (λ (r : ℕ). steps_in exit r s.log) hold.phase) ∙ now) in
+            let value = byte_of (t.mem (save_at h k + 8 * (30 + j))) 0 in
+            let plain : a ≡ a + 0 = omega arith in
+            let has : read_in p h q a t.log ≡ Some value =
+            ap (λ (y : ℕ). read_in p h q y t.log) plain ∙
+            (collects.read j 0 l (omega arith) ∙ ap (λ (o : Option ℕ). or_else o (Some value)) none) in
+            let phase : phase_in exit t.log ≡ q = ap (phase_in exit) since.log ∙ phase-all p formed fit h number q s.log
+            hold.phase es (far p formed fit h number limit lo hi clear Takes-in es since.each) in
+            subst (λ (y : ℕ). any (λ (f : Entry). reads_in y 8 f.access) (now_in exit t.log) ≡ true) (sym e)
+            (subst (λ (r : ℕ). any (λ (f : Entry). reads_in a 8 f.access) (steps_in exit r t.log)
+            ≡ true) (sym phase) (read-any p h q a value t.log has))
 
   some-all : {P : Type 0} (o : Option ℕ) → P → IfSome o (λ x. P)
   some-all None g = tt
@@ -430,12 +442,21 @@ module _ (p : Program) (formed : Formed p) (fit : MasksFit p.cases p.masks) (h :
     pub aimed : Aimed b k s mid
     pub done : HasDone (world_of p h) (collect_all p.cases h) (collect_moves sources save) mid t
 
-  pub collect-part : (s : State) → Hold p h lo q d 0 ms s → s.mem (private_at h + 264) ≡ k → now_in exit s.log ≡ [] → Told p h limit s.log
+  pub collect-part : (s : State) → Hold p h lo q d 0 ms s → s.mem (private_at h + 264) ≡ k → now_in exit s.log ≡ []
+      → Told p h limit s.log
       → Leads p h limit s (λ t. Ready p h hi q d n ms t × CollectsTo p h k q s t × Told p h limit t.log)
   collect-part s hold counter now told =
-      keeps_map (λ t g. g) (λ t g. (subst (λ (x : ℕ). Ready p h hi q d x ms t) plain g.2, collects s g.0.mid t hold counter now told g.0.aimed g.0.done g.1, g.3))
+      keeps_map (λ t g. g) (λ t g. (
+        subst (λ (x : ℕ). Ready p h hi q d x ms t) plain g.2,
+        collects s g.0.mid t hold counter now told g.0.aimed g.0.done g.1,
+        g.3,
+      ))
       (mixed-part p formed fit h number limit lo hi clear Takes-in {Q = Behind s} {n = n} q d 0 hi ms s hold runs
-      (λ t g since short. (subst (λ (x : ℕ). Steady p h limit q d x ms t.log) (sym plain) (steady s g.mid t hold counter now told g.aimed g.done since short), some-all (round_before p q) (gathered s g.mid t hold counter now told g.aimed g.done since)))
+      (λ t g since short. (
+        subst (λ (x : ℕ). Steady p h limit q d x ms t.log) (sym plain)
+            (steady s g.mid t hold counter now told g.aimed g.done since short),
+        some-all (round_before p q) (gathered s g.mid t hold counter now told g.aimed g.done since),
+      ))
       (λ t g. leaves s g.mid t hold counter now told g.aimed g.done))
     where
       plain : 0 + n ≡ n
@@ -443,19 +464,33 @@ module _ (p : Program) (formed : Formed p) (fit : MasksFit p.cases p.masks) (h :
 
       aims : Takes (world_of p h) (Within lo hi Takes-in) (Aimed b k s) 6 s
       aims =
-          aim-runs (world_of p h) s b k lo hi (λ a. IsBelow a ⊎ Among a dwords) (IsOwn h) hold.base (let z = b-few in omega arith) counter few-pass own-cell may-cell (inl ((b-guest 264 (omega arith)).0)) (sym hold.pc) (omega (arith, hold.pc))
+          aim-runs (world_of p h) s b k lo hi (λ a. IsBelow a ⊎ Among a dwords) (IsOwn h) hold.base (let z = b-few in
+          omega arith) counter few-pass own-cell may-cell (inl ((b-guest 264 (omega arith)).0)) (sym hold.pc)
+          (omega (arith, hold.pc))
           (subst (λ (a : ℕ). At (support_at p h) a aim) (sym hold.pc) code-aim)
 
-      collecting : (u : State) → Aimed b k s u → Takes (world_of p h) (Within lo hi Takes-in) (Behind s) (97 + 4 * length dwords) u
+      collecting : (u : State) → Aimed b k s u → Takes (world_of p h) (Within lo hi Takes-in) (Behind s)
+          (97 + 4 * length dwords) u
       collecting u a =
           let pc : u.pc ≡ lo + 24 = omega (arith, a.pc, hold.pc) in
-          let law = collect_all_runs p.cases h (world_of p h) u b (save_at h k) formed.program.cases number (a.regs 31 (λ z. omega arith) (λ z. omega arith) ∙ hold.base) (a.save ∙ (sym save-is ∙ save-same)) save-few ((fits_in p h (formed-sizes formed) formed.program.cases number).collect k few-pass) (subst (λ (x : ℕ). At (support_at p h) x (collect_all p.cases h)) (sym pc) code) in
-          let moved = subst (λ (m : List Move). Takes (world_of p h) (Within u.pc (u.pc + 4 * length (collect_all p.cases h)) (UsesMoves m)) (HasDone (world_of p h) (collect_all p.cases h) m u) (97 + 4 * length dwords) u) moves-are law in
-          takes_map (λ t g. newest-to lo hi (UsesMoves (collect_moves sources save)) Takes-in uses-of t.log (widen lo (lo + 24) hi (UsesMoves (collect_moves sources save)) (omega arith) t.log g)) (λ t g. record { mid = u; aimed = a; done = g })
-          (subst (λ (x : ℕ). Takes (world_of p h) (Within x (x + 4 * length (collect_all p.cases h)) (UsesMoves (collect_moves sources save))) (HasDone (world_of p h) (collect_all p.cases h) (collect_moves sources save) u) (97 + 4 * length dwords) u) pc moved)
+          let law = collect_all_runs p.cases h (world_of p h) u b (save_at h k) formed.program.cases number
+          (a.regs 31 (λ z. omega arith) (λ z. omega arith) ∙ hold.base) (a.save ∙ (sym save-is ∙ save-same))
+          save-few ((fits_in p h (formed-sizes formed) formed.program.cases number).collect k few-pass)
+          (subst (λ (x : ℕ). At (support_at p h) x (collect_all p.cases h)) (sym pc) code) in
+          let moved = subst (λ (m : List Move). Takes (world_of p h)
+          (Within u.pc (u.pc + 4 * length (collect_all p.cases h)) (UsesMoves m))
+          (HasDone (world_of p h) (collect_all p.cases h) m u) (97 + 4 * length dwords) u) moves-are law in
+          takes_map (λ t g. newest-to lo hi (UsesMoves (collect_moves sources save)) Takes-in uses-of t.log
+          (widen lo (lo + 24) hi (UsesMoves (collect_moves sources save)) (omega arith) t.log g))
+          (λ t g. record { mid = u; aimed = a; done = g })
+          (subst (λ (x : ℕ). Takes (world_of p h) (Within x (x + 4 * length (collect_all p.cases h))
+          (UsesMoves (collect_moves sources save)))
+          (HasDone (world_of p h) (collect_all p.cases h) (collect_moves sources save) u) (97 + 4 * length dwords)
+          u) pc moved)
 
       runs : Takes (world_of p h) (Within lo hi Takes-in) (Behind s) n s
       runs = takes_more n (omega arith) (takes_then aims collecting)
 
 pub pass-collected : (p : Program) → PassIsCollected p
-pass-collected p formed fit h number lo code-aim code clear limit q d k ms s pass room hold counter now told = collect-part p formed fit h number lo code-aim code clear limit q d k ms pass room s hold counter now told
+pass-collected p formed fit h number lo code-aim code clear limit q d k ms s pass room hold counter now told =
+    collect-part p formed fit h number lo code-aim code clear limit q d k ms pass room s hold counter now told

@@ -1,5 +1,7 @@
 -- The words that compare the passes of a case judge it, as the hart's way asks for it.
-use Rattle.std.proofs.Common.{◌≡◌, ◌⊎◌, inl, inr, ℕ, zero, suc, ◌+◌, ◌-◌, ◌*◌, ◌%◌, ◌^◌, ◌<◌, ◌≤◌, Bool, true, false, ◌==◌, eqb-true, List, [], ◌∷◌, ◌++◌, length, Some, refl, sym, ap, ◌∙◌, subst, arith, append-nil}
+use Rattle.std.proofs.Common.{◌≡◌, ◌⊎◌, inl, inr, ℕ, zero, suc, ◌+◌, ◌-◌, ◌*◌, ◌%◌, ◌^◌, ◌<◌, ◌≤◌, Bool, true, false}
+use Rattle.std.proofs.Common.{◌==◌, eqb-true, List, [], ◌∷◌, ◌++◌, length, Some, refl, sym, ap, ◌∙◌, subst, arith}
+use Rattle.std.proofs.Common.{append-nil}
 use Rattle.std.specs.Prelude.{All, slice_get, slice_index, IsTrue, if◌then◌else◌}
 use Rattle.tm_table.specs.declared.state.Access.{Access}
 use Rattle.tm_table.specs.declared.state.Access.TheVariants.{Quiet, Read, Write}
@@ -48,12 +50,15 @@ below-windows h l = omega arith
 some-same : {a b : CaseMask} → Some a ≡ Some b → a ≡ b
 some-same e = cc
 
-mask-at : (P : CaseMask → Type 0) (xs : List CaseMask) → All P xs → (k : ℕ) (x : CaseMask) → slice_get xs k ≡ Some x → P x
+mask-at : (P : CaseMask → Type 0) (xs : List CaseMask) → All P xs → (k : ℕ) (x : CaseMask) → slice_get xs k ≡ Some x
+    → P x
 mask-at P [] h k x e = cc
 mask-at P (y ∷ ys) h zero x e = subst P (some-same e) (h 0 y (omega arith))
 mask-at P (y ∷ ys) h (suc k) x e = mask-at P ys (λ j d l. h (suc j) d (omega arith)) k x e
 
-module _ (p : Program) (formed : Formed p) (fit : MasksFit p.cases p.masks) (h : ℕ) (number : h < harts p) (c lo last masks bytes : ℕ) (m : CaseMask) (here : c < case_count p) (mask : slice_get p.masks.cases c ≡ Some m) (site : CompareSite p m h c lo last masks bytes) (limit : ℕ → ℕ) (o : ℕ) (s : State) where
+module _ (p : Program) (formed : Formed p) (fit : MasksFit p.cases p.masks) (h : ℕ) (number : h < harts p)
+    (c lo last masks bytes : ℕ) (m : CaseMask) (here : c < case_count p) (mask : slice_get p.masks.cases c
+    ≡ Some m) (site : CompareSite p m h c lo last masks bytes) (limit : ℕ → ℕ) (o : ℕ) (s : State) where
   abbrev q : ℕ
   q = phase_at p (suc c) 0
 
@@ -88,7 +93,8 @@ module _ (p : Program) (formed : Formed p) (fit : MasksFit p.cases p.masks) (h :
   own-below a e = by (or-cases (is_private_dword h a) (is_fixed_dword p a) e)
     where
       by : (is_private_dword h a ≡ true) ⊎ (is_fixed_dword p a ≡ true) → a + 8 ≤ 2162688000
-      by (inl x) = let r = within-parts (private_at h) private_size (a + 7) (private-bytes h a 7 x (omega arith)) in let l = below-windows h few in omega (arith, r.1)
+      by (inl x) = let r = within-parts (private_at h) private_size (a + 7) (private-bytes h a 7 x (omega arith)) in
+          let l = below-windows h few in omega (arith, r.1)
       by (inr x) = let f = fixed-place p a (formed-sizes formed) x in omega arith
 
   calm : (x : Access) → Uses (λ a. IsTrue ((world_of p h).own a)) Nowhere x → IsCalm h x
@@ -102,8 +108,12 @@ module _ (p : Program) (formed : Formed p) (fit : MasksFit p.cases p.masks) (h :
       by : (b : Bool) → (suc c == case_count p) ≡ b → IsFront (ms ++ (if b then Halt ∷ [] else [])) (whole_way p)
       by true e =
           let same : suc c ≡ case_count p = eqb-true (suc c) (case_count p) e in
-          let whole : way_to p (case_count p) 0 ++ (Halt ∷ []) ≡ whole_way p = ap (λ (l : List Mark). l ++ (Halt ∷ [])) (append-nil _) in
-          ([], sym whole ∙ (ap (λ (k : ℕ). way_to p k 0 ++ (Halt ∷ [])) (sym same) ∙ sym (append-nil (ms ++ (Halt ∷ [])))))
+          let whole : way_to p (case_count p) 0 ++ (Halt ∷ []) ≡ whole_way p =
+          ap (λ (l : List Mark). l ++ (Halt ∷ [])) (append-nil _) in (
+            [],
+            sym whole ∙ (ap (λ (k : ℕ). way_to p k 0 ++ (Halt ∷ [])) (sym same) ∙ sym
+                (append-nil (ms ++ (Halt ∷ [])))),
+          )
       by false e = subst (λ (l : List Mark). IsFront l (whole_way p)) (way ∙ sym (append-nil ms)) told.order
 
   module _ (ready : Ready p h lo q c o ms s) where
@@ -113,8 +123,13 @@ module _ (p : Program) (formed : Formed p) (fit : MasksFit p.cases p.masks) (h :
     has : HasMasks p m h s.mem masks bytes
     has = record {
       registers = value-at masks site.fixed ∙ site.has.registers;
-      fits = λ j l. subst (λ (v : ℕ). v < 2 ^ 64) (sym (value-at (bytes + (slice_index (owned p.cases h) j - windows_base)) (site.each j l))) (site.has.fits j l);
-      dwords = λ j i l n. ap (λ (v : ℕ). byte_of v i) (value-at (bytes + (slice_index (owned p.cases h) j - windows_base)) (site.each j l)) ∙ site.has.dwords j i l n;
+      fits = λ j l.
+          subst (λ (v : ℕ). v < 2 ^ 64)
+          (sym (value-at (bytes + (slice_index (owned p.cases h) j - windows_base)) (site.each j l)))
+          (site.has.fits j l);
+      dwords = λ j i l n. ap (λ (v : ℕ). byte_of v i)
+          (value-at (bytes + (slice_index (owned p.cases h) j - windows_base)) (site.each j l)) ∙ site.has.dwords j i l
+          n;
     }
 
     shaped : IsShapedMask p.cases m
@@ -123,12 +138,28 @@ module _ (p : Program) (formed : Formed p) (fit : MasksFit p.cases p.masks) (h :
     number-is : IsFound p m h s.mem (verdict_of_all s.mem p.cases h (save_at h 0) masks bytes)
     number-is = comparison-finds p formed h m shaped s.mem masks bytes has
 
-    compares : (u : State) → HasVerdictOfAll p.cases h (save_at h 0) masks bytes cell s u → Since (Does s.pc (s.pc + 4 * length code) (Uses (λ a. IsTrue ((world_of p h).own a)) Nowhere)) s u → ComparesTo p h c m lo last (last + 4) s (written (sd 8 0 7) cell u)
+    compares : (u : State) → HasVerdictOfAll p.cases h (save_at h 0) masks bytes cell s u
+        → Since (Does s.pc (s.pc + 4 * length code) (Uses (λ a. IsTrue ((world_of p h).own a)) Nowhere)) s u
+        → ComparesTo p h c m lo last (last + 4) s (written (sd 8 0 7) cell u)
     compares u g since = record {
       entries = since.entries;
-      last = record { pc = u.pc; next = u.pc + 4; word = word_of (sd 8 0 7); access = Write cell 8 (get u.regs 8); regs = get u.regs };
-      log = ap (λ (l : List Entry). record { pc = u.pc; next = u.pc + 4; word = word_of (sd 8 0 7); access = Write cell 8 (get u.regs 8); regs = get u.regs } ∷ l) since.log;
-      each = each-to s.pc (s.pc + 4 * length code) lo last (Uses (λ a. IsTrue ((world_of p h).own a)) Nowhere) (IsCalm h) (omega (arith, ready.hold.pc)) (omega (arith, ready.hold.pc, site.long)) calm since.entries since.each;
+      last = record {
+        pc = u.pc;
+        next = u.pc + 4;
+        word = word_of (sd 8 0 7);
+        access = Write cell 8 (get u.regs 8);
+        regs = get u.regs;
+      };
+      log = ap (λ (l : List Entry). record {
+        pc = u.pc;
+        next = u.pc + 4;
+        word = word_of (sd 8 0 7);
+        access = Write cell 8 (get u.regs 8);
+        regs = get u.regs;
+      } ∷ l) since.log;
+      each = each-to s.pc (s.pc + 4 * length code) lo last (Uses (λ a. IsTrue ((world_of p h).own a)) Nowhere)
+          (IsCalm h) (omega (arith, ready.hold.pc)) (omega (arith, ready.hold.pc, site.long)) calm since.entries
+          since.each;
       from = omega (arith, g.pc, ready.hold.pc, site.long);
       to = omega (arith, g.pc, ready.hold.pc, site.long);
       value = get u.regs 8;
@@ -137,20 +168,29 @@ module _ (p : Program) (formed : Formed p) (fit : MasksFit p.cases p.masks) (h :
       leaves = record {
         pc = omega (arith, g.pc, ready.hold.pc, site.long);
         base = g.regs 31 (omega arith);
-        exits = put_other u.mem cell (get u.regs 8) (private_at h + 256) (λ z. let a = cell-place.3 in omega arith) ∙ ap (λ (f : Table). f (private_at h + 256)) g.mem;
-        fixed = λ a e. put_other u.mem cell (get u.regs 8) a (λ z. let f = fixed-place p a (formed-sizes formed) e in let b = cell-place.0 in omega arith) ∙ ap (λ (f : Table). f a) g.mem;
+        exits = put_other u.mem cell (get u.regs 8) (private_at h + 256) (λ z. let a = cell-place.3 in
+            omega arith) ∙ ap (λ (f : Table). f (private_at h + 256)) g.mem;
+        fixed = λ a e. put_other u.mem cell (get u.regs 8) a (λ z. let f = fixed-place p a (formed-sizes formed) e in
+            let b = cell-place.0 in omega arith) ∙ ap (λ (f : Table). f a) g.mem;
       };
     }
 
-    runs : Takes (world_of p h) (λ t. Unit {0}) (ComparesTo p h c m lo last (last + 4) s) (compare_cost (passes p) (length (owned p.cases h))) s
+    runs : Takes (world_of p h) (λ t. Unit {0}) (ComparesTo p h c m lo last (last + 4) s)
+        (compare_cost (passes p) (length (owned p.cases h))) s
     runs =
-        let law = compare_all_runs p.cases h (save_at h 0) masks bytes cell (world_of p h) s formed.program.cases number (let a = cell-place.1 in omega arith) site.takes (subst (λ (a : ℕ). At (support_at p h) a code) (sym ready.hold.pc) site.code) in
+        let law = compare_all_runs p.cases h (save_at h 0) masks bytes cell (world_of p h) s formed.program.cases number
+        (let a = cell-place.1 in omega arith) site.takes
+        (subst (λ (a : ℕ). At (support_at p h) a code) (sym ready.hold.pc) site.code) in
         takes_more _ (omega arith)
         (takes_then {k = 1} (takes_map (λ t g. tt) (λ t g. g) (takes_since law)) (λ u g.
-        step_sd {w = world_of p h} cell refl (ap (support_at p h) (omega (arith, g.0.pc, ready.hold.pc, site.long)) ∙ site.store.0) (omega (arith, g.0.place, cell-place.1)) cell-may cell-free tt (Now (compares u g.0 g.1))))
+        step_sd {w = world_of p h} cell refl (ap (support_at p h) (omega (arith, g.0.pc, ready.hold.pc, site.long)) ∙
+        site.store.0) (omega (arith, g.0.place, cell-place.1)) cell-may cell-free tt (Now (compares u g.0 g.1))))
 
 pub case-judged : (p : Program) → CaseIsJudged p
 case-judged p formed fit h number c lo last masks bytes m here mask site limit o s room ready passed told =
-    compare-part p formed fit h number limit c lo last (last + 4) (compare_cost (passes p) (length (owned p.cases h))) o m here mask site.clear room (let x = site.long in omega arith) site.off site.starts site.halts (mark_behind p c) site.marks
-    (front p formed fit h number c lo last masks bytes m here mask site limit o s told ready.hold.way) (case-behind p c here (let k = formed.program.cases.passes in omega arith)) s ready passed told
+    compare-part p formed fit h number limit c lo last (last + 4) (compare_cost (passes p) (length (owned p.cases h))) o
+    m here mask site.clear room (let x = site.long in omega arith) site.off site.starts site.halts (mark_behind p c)
+    site.marks
+    (front p formed fit h number c lo last masks bytes m here mask site limit o s told ready.hold.way)
+    (case-behind p c here (let k = formed.program.cases.passes in omega arith)) s ready passed told
     (runs p formed fit h number c lo last masks bytes m here mask site limit o s ready)

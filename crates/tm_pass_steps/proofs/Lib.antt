@@ -3,11 +3,13 @@ pub mod Barring
 pub mod Beginning
 pub mod Building
 pub mod Collecting
+pub mod Gathered
 pub mod Counting
 pub mod Entering
 pub mod Found
 pub mod Judging
 pub mod Meet
+pub mod Cells
 pub mod Mine
 pub mod Mixed
 pub mod Placed

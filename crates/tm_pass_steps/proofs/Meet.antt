@@ -1,8 +1,10 @@
 -- A call of the barrier leads a hart into its next phase.
-use Rattle.std.proofs.Common.{◌≡◌, ◌≢◌, ◌⊎◌, inl, inr, ℕ, suc, ◌+◌, ◌-◌, ◌*◌, ◌^◌, ◌<◌, ◌≤◌, Bool, true, false, true≢false, ◌&&◌, ◌||◌, not, ◌==◌, ne_eqb, eq-eqb, List, [], ◌∷◌, ◌++◌, length, Option, None, Some, refl, sym, ap, ap₂, ◌∙◌, subst, arith, length-append}
-use Rattle.std.specs.Prelude.{slice_index, slice_index_or, IfSome, if◌then◌else◌, nat_eq}
+use Rattle.std.proofs.Common.{◌≡◌, ◌≢◌, ◌⊎◌, inl, inr, ℕ, suc, ◌+◌, ◌-◌, ◌*◌, ◌^◌, ◌<◌, ◌≤◌, Bool, true, false}
+use Rattle.std.proofs.Common.{◌&&◌, ◌||◌, not, ◌==◌, List, [], ◌∷◌, ◌++◌, length, Option}
+use Rattle.std.proofs.Common.{None, Some, refl, sym, ap, ap₂, ◌∙◌, subst, arith, length-append}
+use Rattle.std.specs.Prelude.{slice_index, slice_index_or, IfSome, if◌then◌else◌}
 use Rattle.tm_table.specs.declared.state.Access.{Access}
-use Rattle.tm_table.specs.declared.state.Access.TheVariants.{Quiet, Read, Write}
+use Rattle.tm_table.specs.declared.state.Access.TheVariants.{Quiet}
 use Rattle.tm_table.specs.Words.{word_of}
 use Rattle.tm_plan_cases.specs.declared.program.Program.{Program}
 use Rattle.tm_plan_map.specs.Map.{flag_at, private_at, save_at, windows_base, verdict_at}
@@ -10,17 +12,15 @@ use Rattle.tm_plan_cases.specs.Collected.{owned}
 use Rattle.tm_base.specs.Lists.{any}
 use Rattle.tm_plan_cases.specs.Shaped.{MasksFit}
 use Rattle.tm_world.specs.Lists.{or_else, IsFront}
-use Rattle.tm_world.specs.Place.{harts, case_count, passes, start_of, end_of, exit_of, inside, byte_of}
-use Rattle.tm_world.specs.Run.{got}
+use Rattle.tm_world.specs.Place.{harts, case_count, start_of, end_of, exit_of, inside}
 use Rattle.tm_world.specs.Writers.{case_of_phase}
 use Rattle.tm_world.specs.Marks.{Mark, Exit, arrivals, whole_way}
 use Rattle.tm_world.specs.Course.{last_phase, round_before, reads_in}
-use Rattle.tm_runs.specs.Machine.{State, Entry, Table, put, get}
+use Rattle.tm_runs.specs.Machine.{State, Entry, Table, get}
 use Rattle.tm_runs.specs.Runs.{Keeps, Takes, Now, At, Each, Does}
 use Rattle.tm_runs.specs.World.{world_of, is_fixed_dword, support_at}
 use Rattle.tm_runs.specs.Course.{trail}
 use Rattle.tm_runs.proofs.Arrivals.{quiet-off, arrivals-none, arrivals-exit, inside-false}
-use Rattle.tm_runs.proofs.Bytes.{within-false}
 use Rattle.tm_runs.proofs.Compose.{keeps_after, keeps_then, keeps_map, keeps_now, takes_map}
 use Rattle.tm_runs.proofs.Places.{or-right}
 use Rattle.tm_runs.proofs.Steps.{step_jal, jumped}
@@ -48,56 +48,15 @@ use Rattle.tm_pass_way.proofs.Hopping.{hop-part}
 use Rattle.tm_pass_way.proofs.Joining.{same-then}
 use Rattle.tm_pass_steps.specs.Sites.{BarrierSite, CallSite}
 use Rattle.tm_pass_steps.specs.Meeting.{CallMeets, meet_cost}
-use Rattle.tm_pass_steps.proofs.Barring.{keeping-here, passes as passes-of, phase-there, now-there, trail-same, few-there, told-there, uses, low, set-one}
+use Rattle.tm_pass_steps.proofs.Barring.{keeping-here, passes as passes-of, phase-there, now-there, trail-same}
+use Rattle.tm_pass_steps.proofs.Barring.{few-there, told-there, uses, low, set-one}
+use Rattle.tm_pass_steps.proofs.Cells.{two-other, two-first, two-small, no, got-none, got-none, some-map, cells-apart}
+use Rattle.tm_pass_steps.proofs.Cells.{memo-apart, area-high, few-phases}
 
--- ---- a table with a value at two places
-
-two-other : (f : Table) (c g v a : ℕ) → a ≢ c → a ≢ g → put (put f c v) g v a ≡ f a
-two-other f c g v a n m =
-    ap (λ (b : Bool). if b then v else put f c v a) (ne_eqb a g m) ∙ ap (λ (b : Bool). if b then v else f a) (ne_eqb a c n)
-
-two-first : (f : Table) (c g v : ℕ) → c ≢ g → put (put f c v) g v c ≡ v
-two-first f c g v n =
-    ap (λ (b : Bool). if b then v else put f c v c) (ne_eqb c g n) ∙ ap (λ (b : Bool). if b then v else f c) (eq-eqb c c refl)
-
-two-small : (f : Table) (c g v a : ℕ) → f a < 2 ^ 64 → v < 2 ^ 64 → put (put f c v) g v a < 2 ^ 64
-two-small f c g v a small l = by (nat_eq a g) (nat_eq a c)
-  where
-    by : (x y : Bool) → (if x then v else (if y then v else f a)) < 2 ^ 64
-    by true y = l
-    by false true = l
-    by false false = small
-
-no : {A : Type 0} {b : Bool} → b ≡ false → b ≡ true → A
-no e f = absurd (true≢false (sym f ∙ e))
-
-got-none : (W : ℕ → Type 0) (x : Access) (b : ℕ) → windows_base ≤ b → Uses IsBelow W x → got x b ≡ None
-got-none W Quiet b l u = refl
-got-none W (Write addr width v) b l u = refl
-got-none W (Read addr width v) b l u = ap (λ (t : Bool). if t then Some (byte_of v (b - addr)) else None) (within-false addr width b (inr (let w = u.0 in let m = u.1 in omega arith)))
-
-some-map : {P Q : ℕ → Type 0} (o : Option ℕ) → ((x : ℕ) → P x → Q x) → IfSome o P → IfSome o Q
-some-map None f s = s
-some-map (Some x) f s = f x s
-
-cells-apart : (h : ℕ) → h < 16 → private_at h + 256 ≢ flag_at h
-cells-apart h l z = let f = flag-low h h l in omega arith
-
--- the dwords of the private area that parts hand on
-memo-apart : (h i : ℕ) → i < 30 → private_at h + 8 * i ≢ private_at h + 256
-memo-apart h i l z = omega arith
-
-area-high : (h k i : ℕ) → private_at h + 4096 ≤ save_at h k + 8 * i
-unfolding save_at
-area-high h k i = omega arith
-
-few-phases : (p : Program) → Formed p → last_phase p < 4096
-few-phases p formed = let a = formed.program.cases.count in let b = formed.program.cases.passes in product (case_count p) (passes p) (omega arith) (omega arith)
-  where
-    product : (C K : ℕ) → C ≤ 32 → K ≤ 8 → 2 * (C * K) < 4096
-    product C K l m = let x : C * K ≤ 32 * K = grind arith in omega arith
-
-module _ (p : Program) (formed : Formed p) (fit : MasksFit p.cases p.masks) (h : ℕ) (number : h < harts p) (limit : ℕ → ℕ) (entry : ℕ) (site : BarrierSite p h entry) (place link : ℕ) (from : CallSite p h entry place link) (q c o : ℕ) (ms : List Mark) (few : c ≤ case_count p) (before : q < last_phase p) (room : o + meet_cost (harts p) ≤ limit q) (front : IsFront (ms ++ Exit ∷ []) (whole_way p)) where
+module _ (p : Program) (formed : Formed p) (fit : MasksFit p.cases p.masks) (h : ℕ) (number : h < harts p) (limit : ℕ
+    → ℕ) (entry : ℕ) (site : BarrierSite p h entry) (place link : ℕ) (from : CallSite p h entry place link) (q c o : ℕ)
+    (ms : List Mark) (few : c ≤ case_count p) (before : q < last_phase p) (room : o + meet_cost (harts p) ≤ limit q)
+    (front : IsFront (ms ++ Exit ∷ []) (whole_way p)) where
   abbrev exit : ℕ
   exit = exit_of p h
 
@@ -121,19 +80,25 @@ module _ (p : Program) (formed : Formed p) (fit : MasksFit p.cases p.masks) (h :
 
   -- ---- entries outside streams that read below the windows
 
-  left-one : (d r : ℕ) (e : Entry) (past : List Entry) → inside p h d e.pc ≡ false → left_in p h d r (e ∷ past) ≡ left_in p h d r past
+  left-one : (d r : ℕ) (e : Entry) (past : List Entry) → inside p h d e.pc ≡ false → left_in p h d r (e ∷ past)
+      ≡ left_in p h d r past
   left-one d r e past i =
-      ap (λ (b : Bool). or_else (left_in p h d r past) (if (phase_in exit past == r) && (b && not (inside p h d e.next)) then Some e.regs else None)) i
-      ∙ (ap (λ (x : Option Table). or_else (left_in p h d r past) x) (by (phase_in exit past == r)) ∙ or-none (left_in p h d r past))
+      ap (λ (b : Bool). or_else (left_in p h d r past) (if (phase_in exit past == r) && (b && not (inside p h d e.next))
+      then Some e.regs else None)) i
+      ∙ (ap (λ (x : Option Table). or_else (left_in p h d r past) x) (by (phase_in exit past == r)) ∙ or-none
+      (left_in p h d r past))
     where
       by : (b : Bool) → ◌≡◌ {A = Option Table} (if b && false then Some e.regs else None) None
       by true = refl
       by false = refl
 
-  read-one : (r b : ℕ) (e : Entry) (past : List Entry) → windows_base ≤ b → Uses IsBelow (Signals h) e.access → read_in p h r b (e ∷ past) ≡ read_in p h r b past
+  read-one : (r b : ℕ) (e : Entry) (past : List Entry) → windows_base ≤ b → Uses IsBelow (Signals h) e.access
+      → read_in p h r b (e ∷ past) ≡ read_in p h r b past
   read-one r b e past l u =
-      ap (λ (x : Option ℕ). or_else (read_in p h r b past) (if phase_in exit past == r then x else None)) (got-none (Signals h) e.access b l u)
-      ∙ (ap (λ (x : Option ℕ). or_else (read_in p h r b past) x) (none-either (phase_in exit past == r)) ∙ or-none (read_in p h r b past))
+      ap (λ (x : Option ℕ). or_else (read_in p h r b past) (if phase_in exit past == r then x else None))
+      (got-none (Signals h) e.access b l u)
+      ∙ (ap (λ (x : Option ℕ). or_else (read_in p h r b past) x) (none-either (phase_in exit past == r)) ∙ or-none
+      (read_in p h r b past))
 
   abbrev Bars : Entry → Type 0
   Bars = Does entry hi (Meets h n cell)
@@ -144,29 +109,39 @@ module _ (p : Program) (formed : Formed p) (fit : MasksFit p.cases p.masks) (h :
   beyond : (d a : ℕ) → d < case_count p → entry ≤ a → inside p h d a ≡ false
   beyond d a l m = inside-false p h d a (inr (omega (arith, site.streams d l)))
 
-  left-all : (d r : ℕ) → d < case_count p → (es base : List Entry) → Each Bars es → left_in p h d r (es ++ base) ≡ left_in p h d r base
+  left-all : (d r : ℕ) → d < case_count p → (es base : List Entry) → Each Bars es → left_in p h d r (es ++ base)
+      ≡ left_in p h d r base
   left-all d r l [] base each = refl
-  left-all d r l (e ∷ es) base each = left-one d r e (es ++ base) (beyond d e.pc l each.0.from) ∙ left-all d r l es base each.1
+  left-all d r l (e ∷ es) base each = left-one d r e (es ++ base) (beyond d e.pc l each.0.from) ∙ left-all d r l es base
+      each.1
 
-  read-all : (r b : ℕ) → windows_base ≤ b → (es base : List Entry) → Each Bars es → read_in p h r b (es ++ base) ≡ read_in p h r b base
+  read-all : (r b : ℕ) → windows_base ≤ b → (es base : List Entry) → Each Bars es → read_in p h r b (es ++ base)
+      ≡ read_in p h r b base
   read-all r b l [] base each = refl
-  read-all r b l (e ∷ es) base each = read-one r b e (es ++ base) l (uses-here e.access each.0.access) ∙ read-all r b l es base each.1
+  read-all r b l (e ∷ es) base each = read-one r b e (es ++ base) l (uses-here e.access each.0.access) ∙ read-all r b l
+      es base each.1
 
   -- none of these reports
   mute : (d : ℕ) (e : Entry) → d < case_count p → Bars e → reports d h e ≡ false
-  mute d e l b = let a = formed.program.cases.count in writes-none h (verdict_at d h) 8 e.access (flags-below h d h few-hart) (inl (verdict-low d h h (omega arith) few-hart)) (uses-here e.access b.access)
+  mute d e l b = let a = formed.program.cases.count in
+      writes-none h (verdict_at d h) 8 e.access (flags-below h d h few-hart)
+      (inl (verdict-low d h h (omega arith) few-hart)) (uses-here e.access b.access)
 
   judged-all : (d : ℕ) → (es base : List Entry) → any (reports d h) base ≡ true → any (reports d h) (es ++ base) ≡ true
   judged-all d [] base e = e
   judged-all d (x ∷ es) base e = or-right (reports d h x) (any (reports d h) (es ++ base)) (judged-all d es base e)
 
-  unjudged-all : (d : ℕ) → d < case_count p → (es base : List Entry) → Each Bars es → any (reports d h) base ≡ false → any (reports d h) (es ++ base) ≡ false
+  unjudged-all : (d : ℕ) → d < case_count p → (es base : List Entry) → Each Bars es → any (reports d h) base ≡ false
+      → any (reports d h) (es ++ base) ≡ false
   unjudged-all d l [] base each e = e
-  unjudged-all d l (x ∷ es) base each e = ap₂ (λ (a b : Bool). a || b) (mute d x l each.0) (unjudged-all d l es base each.1 e)
+  unjudged-all d l (x ∷ es) base each e =
+      ap₂ (λ (a b : Bool). a || b) (mute d x l each.0) (unjudged-all d l es base each.1 e)
 
   gathered-all : (es xs : List Entry) → Gathered p h xs → Gathered p h (es ++ xs)
   gathered-all [] xs g = g
-  gathered-all (e ∷ es) xs g = λ k x l. or-right (reads_in (slice_index_or (owned p.cases h) k x) 8 e.access) (any (λ (t : Entry). reads_in (slice_index_or (owned p.cases h) k x) 8 t.access) (es ++ xs)) (gathered-all es xs g k x l)
+  gathered-all (e ∷ es) xs g = λ k x l. or-right (reads_in (slice_index_or (owned p.cases h) k x) 8 e.access)
+      (any (λ (t : Entry). reads_in (slice_index_or (owned p.cases h) k x) 8 t.access) (es ++ xs))
+      (gathered-all es xs g k x l)
 
   -- ---- where the hart comes back
 
@@ -182,8 +157,10 @@ module _ (p : Program) (formed : Formed p) (fit : MasksFit p.cases p.masks) (h :
 
   -- ---- from the barrier's first word on
 
-  module _ (s : State) (back : get s.regs 1 ≡ link) (ready : Ready p h entry q c (o + 1) ms s) (told : Told p h limit s.log)
-      (ended : IfSome (case_of_phase p q) (λ d. any (λ (e : Entry). e.next == end_of p h d) (now_in exit s.log) ≡ true)) (set : IfSome (case_of_phase p (suc q)) (λ d. AreSet p h d (now_in exit s.log))) where
+  module _ (s : State) (back : get s.regs 1 ≡ link) (ready : Ready p h entry q c (o + 1) ms s)
+      (told : Told p h limit s.log)
+      (ended : IfSome (case_of_phase p q) (λ d. any (λ (e : Entry). e.next == end_of p h d) (now_in exit s.log) ≡ true))
+      (set : IfSome (case_of_phase p (suc q)) (λ d. AreSet p h d (now_in exit s.log))) where
     abbrev hold : Hold p h entry q c (o + 1) ms s
     hold = ready.hold
 
@@ -191,7 +168,8 @@ module _ (p : Program) (formed : Formed p) (fit : MasksFit p.cases p.masks) (h :
     base = s.log
 
     abbrev End : State → Type 0
-    End t = Hold p h link (suc q) c 0 (ms ++ Exit ∷ []) t × Same p h s t × (now_in exit t.log ≡ []) × Told p h limit t.log
+    End t = Hold p h link (suc q) c 0 (ms ++ Exit ∷ []) t × Same p h s t × (now_in exit t.log ≡ [])
+        × Told p h limit t.log
 
     abbrev Tells : State → Type 0
     Tells t = Told p h limit t.log
@@ -202,14 +180,19 @@ module _ (p : Program) (formed : Formed p) (fit : MasksFit p.cases p.masks) (h :
     runs : Keeps (world_of p h) (Barred entry hi h n cell (q + 1) s) (HasMet entry hi h n cell (q + 1) s) s
     unfolding barrier
     runs =
-        let code = at_front (support_at p h) entry (meet h n) (fence ∷ []) (at_front (support_at p h) entry (meet h n ++ (fence ∷ [])) (go_to 1 ∷ []) site.code) in
+        let code = at_front (support_at p h) entry (meet h n) (fence ∷ [])
+        (at_front (support_at p h) entry (meet h n ++ (fence ∷ [])) (go_to 1 ∷ []) site.code) in
         let m : s.mem cell + 1 ≡ q + 1 = omega (arith, hold.exits) in
-        let law = meet_runs h n (world_of p h) s cell meeting (omega (arith, hold.base)) (omega (arith, small, hold.exits)) (subst (λ (a : ℕ). At (support_at p h) a (meet h n)) (sym hold.pc) code) in
+        let law = meet_runs h n (world_of p h) s cell meeting (omega (arith, hold.base))
+        (omega (arith, small, hold.exits)) (subst (λ (a : ℕ). At (support_at p h) a (meet h n)) (sym hold.pc) code)
+        in
         subst (λ (x : ℕ). Keeps (world_of p h) (Barred entry hi h n cell x s) (HasMet entry hi h n cell x s) s) m
-        (subst (λ (a : ℕ). Keeps (world_of p h) (Barred a (a + 4 * length (meet h n)) h n cell (s.mem cell + 1) s) (HasMet a (a + 4 * length (meet h n)) h n cell (s.mem cell + 1) s) s) hold.pc law)
+        (subst (λ (a : ℕ). Keeps (world_of p h) (Barred a (a + 4 * length (meet h n)) h n cell (s.mem cell + 1) s)
+        (HasMet a (a + 4 * length (meet h n)) h n cell (s.mem cell + 1) s) s) hold.pc law)
 
     so-far : (t : State) → Barred entry hi h n cell (q + 1) s t → Told p h limit t.log
-    so-far t g = subst (Told p h limit) (sym g.log) (told-there p formed fit h number limit entry site q base hold.phase hold.silent before ended set g.entries (o + 1) g.each g.story g.work hold.few (omega arith) told)
+    so-far t g = subst (Told p h limit) (sym g.log) (told-there p formed fit h number limit entry site q base hold.phase
+        hold.silent before ended set g.entries (o + 1) g.each g.story g.work hold.few (omega arith) told)
 
     -- ---- from the last fence on
 
@@ -239,28 +222,36 @@ module _ (p : Program) (formed : Formed p) (fit : MasksFit p.cases p.masks) (h :
       off-exit z = omega (arith, here)
 
       pass : PassesBarrier p h q base es
-      pass = passes-of p formed fit h number limit entry site q base hold.phase hold.silent before ended set es told.story m.barred.each m.barred.story
+      pass = passes-of p formed fit h number limit entry site q base hold.phase hold.silent before ended set es
+          told.story m.barred.each m.barred.story
 
       phase0 : phase_in exit log0 ≡ q
-      phase0 = phase-there p formed fit h number limit entry site q base hold.phase hold.silent before ended set es m.barred.each
+      phase0 = phase-there p formed fit h number limit entry site q base hold.phase hold.silent before ended set es
+          m.barred.each
 
       now0 : now_in exit log0 ≡ es ++ now_in exit base
-      now0 = now-there p formed fit h number limit entry site q base hold.phase hold.silent before ended set es m.barred.each
+      now0 = now-there p formed fit h number limit entry site q base hold.phase hold.silent before ended set es
+          m.barred.each
 
       told0 : Told p h limit log0
       told0 = subst (Told p h limit) m.barred.log (so-far u m.barred)
 
       few0 : work_in p h q log0 ≤ o + 1 + 7 + 2 * n
-      few0 = few-there p formed fit h number limit entry site q base hold.phase hold.silent before ended set es (o + 1) m.barred.each m.barred.story m.barred.work hold.few
+      few0 = few-there p formed fit h number limit entry site q base hold.phase hold.silent before ended set es (o + 1)
+          m.barred.each m.barred.story m.barred.work hold.few
 
       fact1 : Fact p h log0 last
-      fact1 = barrier-fact p formed fit h number log0 last (keeping-here p h log0 last (pass.fence last refl off-exit)) tt (λ d l z. omega (arith, z, here, link-off, site.streams d l, site.some d l, m.pc)) (λ z. omega (arith, z, here, m.pc, site.halt)) (λ z. absurd (off-exit z)) (λ z. no refl z)
+      fact1 = barrier-fact p formed fit h number log0 last (keeping-here p h log0 last (pass.fence last refl off-exit))
+          tt (λ d l z. omega (arith, z, here, link-off, site.streams d l, site.some d l, m.pc))
+          (λ z. omega (arith, z, here, m.pc, site.halt)) (λ z. absurd (off-exit z)) (λ z. no refl z)
 
       marks1 : arrivals p h u.pc (u.pc + 4) ≡ Exit ∷ []
-      marks1 = arrivals-exit p h u.pc (u.pc + 4) (λ d l. quiet-off p h u.pc (u.pc + 4) d (site.some d l) (inr (omega (arith, site.streams d l, m.pc)))) here (λ z. omega (arith, z, m.pc, site.halt))
+      marks1 = arrivals-exit p h u.pc (u.pc + 4) (λ d l. quiet-off p h u.pc (u.pc + 4) d (site.some d l)
+          (inr (omega (arith, site.streams d l, m.pc)))) here (λ z. omega (arith, z, m.pc, site.halt))
 
       way1 : trail (arrivals p h) (last ∷ log0) ≡ ms ++ Exit ∷ []
-      way1 = ap₂ (λ (x y : List Mark). x ++ y) (trail-same p formed fit h number limit entry site q base hold.phase hold.silent before ended set es m.barred.each ∙ hold.way) marks1
+      way1 = ap₂ (λ (x y : List Mark). x ++ y) (trail-same p formed fit h number limit entry site q base hold.phase
+          hold.silent before ended set es m.barred.each ∙ hold.way) marks1
 
       abbrev work1 : ℕ
       work1 = o + 1 + 7 + 2 * n
@@ -284,11 +275,14 @@ module _ (p : Program) (formed : Formed p) (fit : MasksFit p.cases p.masks) (h :
       gathered1 : IfSome (round_before p (phase_in exit (last ∷ log0))) (λ d. Gathered p h (now_in exit (last ∷ log0)))
       gathered1 =
           subst (λ (k : ℕ). IfSome (round_before p k) (λ d. Gathered p h (now_in exit (last ∷ log0)))) (sym phase1)
-          (some-map (round_before p q) (λ d g. subst (Gathered p h) (sym now1) (gathered-all (last ∷ es) (now_in exit base) g)) ready.gathered)
+          (some-map (round_before p q) (λ d g. subst (Gathered p h) (sym now1)
+          (gathered-all (last ∷ es) (now_in exit base) g)) ready.gathered)
 
       fact2 : Fact p h (last ∷ log0) way-back
       fact2 =
-          barrier-fact p formed fit h number (last ∷ log0) way-back (keeping-here p h (last ∷ log0) way-back (pass.back way-back last refl refl off-exit m.signalled m.met)) tt
+          barrier-fact p formed fit h number (last ∷ log0) way-back
+          (keeping-here p h (last ∷ log0) way-back (pass.back way-back last refl refl off-exit m.signalled m.met))
+          tt
           (λ d l z. by d l z (link-start d l)) (λ z. omega (arith, z, from.before)) (λ z. gathered1) (λ z. no refl z)
         where
           by : (d : ℕ) → d < case_count p → link ≡ start_of p h d → (link < start_of p h d) ⊎ (end_of p h d < link) → ⊥
@@ -296,12 +290,16 @@ module _ (p : Program) (formed : Formed p) (fit : MasksFit p.cases p.masks) (h :
           by d l z (inr x) = let k = site.some d l in omega arith
 
       marks2 : arrivals p h (u.pc + 4) link ≡ []
-      marks2 = arrivals-none p h (u.pc + 4) link (λ d l. quiet-off p h (u.pc + 4) link d (site.some d l) (link-start d l)) (λ z. omega (arith, z, link-off)) (λ z. omega (arith, z, from.before))
+      marks2 = arrivals-none p h (u.pc + 4) link (λ d l. quiet-off p h (u.pc + 4) link d (site.some d l)
+          (link-start d l)) (λ z. omega (arith, z, link-off)) (λ z. omega (arith, z, from.before))
 
-      steady2 : Steady p h limit (suc q) c 0 (ms ++ Exit ∷ []) (way-back ∷ last ∷ log0) × (now_in exit (way-back ∷ last ∷ log0) ≡ [])
+      steady2 : Steady p h limit (suc q) c 0 (ms ++ Exit ∷ []) (way-back ∷ last ∷ log0)
+          × (now_in exit (way-back ∷ last ∷ log0) ≡ [])
       steady2 =
-          steady-exit p formed fit h number limit q c (suc work1) (ms ++ Exit ∷ []) (last ∷ log0) way-back here fact2 marks2 (λ d l. refl) (omega arith) phase1 way1
-          (λ d l. judged-all d (last ∷ es) base (hold.judged d l)) (λ d l k. unjudged-all d k es base m.barred.each (hold.unjudged d l k)) paced1.0 told1
+          steady-exit p formed fit h number limit q c (suc work1) (ms ++ Exit ∷ []) (last ∷ log0) way-back here fact2
+          marks2 (λ d l. refl) (omega arith) phase1 way1
+          (λ d l. judged-all d (last ∷ es) base (hold.judged d l))
+          (λ d l k. unjudged-all d k es base m.barred.each (hold.unjudged d l k)) paced1.0 told1
 
       log-is : r.log ≡ way-back ∷ last ∷ log0
       log-is = ap (λ (l : List Entry). way-back ∷ last ∷ l) m.barred.log
@@ -320,11 +318,15 @@ module _ (p : Program) (formed : Formed p) (fit : MasksFit p.cases p.masks) (h :
           let b = steady2.0 in
           record {
             pc = refl;
-            base = get_put_zero u.regs (f.pc + 4) 31 ∙ (m.regs 31 (λ z. omega arith) (λ z. omega arith) (λ z. omega arith) ∙ hold.base);
-            exits = ap (λ (t : Table). t cell) m.mem ∙ (two-first s.mem cell (flag_at h) (q + 1) (cells-apart h few-hart) ∙ omega arith);
-            fixed = λ a e. mem-other a (not-fixed a cell e meeting.free) (not-fixed a (flag_at h) e meeting.writable) ∙ hold.fixed a e;
+            base = get_put_zero u.regs (f.pc + 4) 31 ∙
+                (m.regs 31 (λ z. omega arith) (λ z. omega arith) (λ z. omega arith) ∙ hold.base);
+            exits = ap (λ (t : Table). t cell) m.mem ∙
+                (two-first s.mem cell (flag_at h) (q + 1) (cells-apart h few-hart) ∙ omega arith);
+            fixed = λ a e. mem-other a (not-fixed a cell e meeting.free) (not-fixed a (flag_at h) e meeting.writable) ∙
+                hold.fixed a e;
             regs = λ x. let e = get_put_zero u.regs (f.pc + 4) x in let k = m.fits hold.regs x in omega arith;
-            mem = λ a e. subst (λ (v : ℕ). v < 2 ^ 64) (sym (ap (λ (t : Table). t a) m.mem)) (two-small s.mem cell (flag_at h) (q + 1) a (hold.mem a e) small);
+            mem = λ a e. subst (λ (v : ℕ). v < 2 ^ 64) (sym (ap (λ (t : Table). t a) m.mem))
+                (two-small s.mem cell (flag_at h) (q + 1) a (hold.mem a e) small);
             phase = ap (phase_in exit) log-is ∙ b.phase;
             way = ap (trail (arrivals p h)) log-is ∙ b.way;
             silent = ap (λ (l : List Entry). any (signals_in h) (now_in exit l)) log-is ∙ b.silent;
@@ -335,15 +337,19 @@ module _ (p : Program) (formed : Formed p) (fit : MasksFit p.cases p.masks) (h :
 
       same : Same p h s r
       same = record {
-        left = λ d k l. ap (left_in p h d k) log-is ∙ (left-one d k way-back (last ∷ log0) (beyond d (u.pc + 4) l (omega (arith, m.pc))) ∙ (left-one d k last log0 (beyond d u.pc l (omega (arith, m.pc))) ∙ left-all d k l es base m.barred.each));
+        left = λ d k l. ap (left_in p h d k) log-is ∙
+            (left-one d k way-back (last ∷ log0) (beyond d (u.pc + 4) l (omega (arith, m.pc))) ∙
+            (left-one d k last log0 (beyond d u.pc l (omega (arith, m.pc))) ∙ left-all d k l es base m.barred.each));
         read = λ k j i l x.
             let b = slice_index (owned p.cases h) j + i in
             let high : windows_base ≤ b = let z = owned-above p h j 0 l in omega arith in
-            ap (read_in p h k b) log-is ∙ (read-one k b way-back (last ∷ log0) high tt ∙ (read-one k b last log0 high tt ∙ read-all k b high es base m.barred.each));
+            ap (read_in p h k b) log-is ∙ (read-one k b way-back (last ∷ log0) high tt ∙
+            (read-one k b last log0 high tt ∙ read-all k b high es base m.barred.each));
         memos = record {
           registers = λ i l. high-other (private_at h + 8 * i) (omega arith) (memo-apart h i l);
           counter = high-other (private_at h + 264) (omega arith) (λ z. omega arith);
-          area = λ k i l x. let a = area-high h k i in high-other (save_at h k + 8 * i) (omega arith) (λ z. omega arith);
+          area = λ k i l x. let a = area-high h k i in
+              high-other (save_at h k + 8 * i) (omega arith) (λ z. omega arith);
         };
       }
 
@@ -352,12 +358,18 @@ module _ (p : Program) (formed : Formed p) (fit : MasksFit p.cases p.masks) (h :
 
       returns : At (support_at p h) f.pc (go_to 1 ∷ []) → Keeps (world_of p h) Tells End f
       returns code =
-          keeps_after (takes_map (λ x e. subst Tells (sym e) end.3) (λ x e. e) (return_runs (world_of p h) f link code (m.regs 1 (λ z. omega arith) (λ z. omega arith) (λ z. omega arith) ∙ back) from.even (omega (arith, from.next, place-low))))
+          keeps_after (takes_map (λ x e. subst Tells (sym e) end.3) (λ x e. e)
+          (return_runs (world_of p h) f link code
+          (m.regs 1 (λ z. omega arith) (λ z. omega arith) (λ z. omega arith) ∙ back) from.even
+          (omega (arith, from.next, place-low))))
           (λ x e. keeps_now (subst End (sym e) end))
 
-      pub from-fence : At (support_at p h) u.pc (fence ∷ []) → At (support_at p h) f.pc (go_to 1 ∷ []) → Keeps (world_of p h) Tells End u
+      pub from-fence : At (support_at p h) u.pc (fence ∷ []) → At (support_at p h) f.pc (go_to 1 ∷ [])
+          → Keeps (world_of p h) Tells End u
       from-fence code next =
-          keeps_after (takes_map (λ x e. subst Tells (sym e) (subst (Told p h limit) (ap (λ (l : List Entry). last ∷ l) (sym m.barred.log)) told1)) (λ x e. e) (fence_runs (world_of p h) u code))
+          keeps_after (takes_map (λ x e. subst Tells (sym e)
+          (subst (Told p h limit) (ap (λ (l : List Entry). last ∷ l) (sym m.barred.log)) told1)) (λ x e. e)
+          (fence_runs (world_of p h) u code))
           (λ x e. subst (Keeps (world_of p h) Tells End) (sym e) (returns next))
 
     pub barrier-part : Keeps (world_of p h) Tells End s
@@ -368,7 +380,8 @@ module _ (p : Program) (formed : Formed p) (fit : MasksFit p.cases p.masks) (h :
         let long : length (body ++ (fence ∷ [])) ≡ length body + 1 = length-append body (fence ∷ []) in
         keeps_then (keeps_map (λ t g. so-far t g) (λ t g. g) runs) (λ u m.
         from-fence u m (at_next (support_at p h) entry u.pc body (fence ∷ []) (length body) refl m.pc code)
-        (at_next (support_at p h) entry (u.pc + 4) (body ++ (fence ∷ [])) (go_to 1 ∷ []) (length body + 1) long (omega (arith, m.pc)) site.code))
+        (at_next (support_at p h) entry (u.pc + 4) (body ++ (fence ∷ [])) (go_to 1 ∷ []) (length body + 1) long
+        (omega (arith, m.pc)) site.code))
 
   -- ---- the call
 
@@ -380,7 +393,8 @@ module _ (p : Program) (formed : Formed p) (fit : MasksFit p.cases p.masks) (h :
     halt = inl (omega (arith, from.next, from.before));
   }
     where
-      by : (d : ℕ) → (link < start_of p h d) ⊎ (end_of p h d ≤ place) → (place < start_of p h d) ⊎ (end_of p h d ≤ place)
+      by : (d : ℕ) → (link < start_of p h d) ⊎ (end_of p h d ≤ place) → (place < start_of p h d)
+          ⊎ (end_of p h d ≤ place)
       by d (inl x) = inl (omega (arith, from.next))
       by d (inr x) = inr x
 
@@ -388,13 +402,24 @@ module _ (p : Program) (formed : Formed p) (fit : MasksFit p.cases p.masks) (h :
   place-off z = omega (arith, link-off, from.next)
 
   pub call-part : (s : State) → Ready p h place q c o ms s
-      → IfSome (case_of_phase p q) (λ d. any (λ (e : Entry). e.next == end_of p h d) (now_in exit s.log) ≡ true) → IfSome (case_of_phase p (suc q)) (λ d. AreSet p h d (now_in exit s.log)) → Told p h limit s.log
-      → Leads p h limit s (λ t. Hold p h link (suc q) c 0 (ms ++ Exit ∷ []) t × Same p h s t × (now_in exit t.log ≡ []) × Told p h limit t.log)
+      → IfSome (case_of_phase p q) (λ d. any (λ (e : Entry). e.next == end_of p h d) (now_in exit s.log) ≡ true)
+      → IfSome (case_of_phase p (suc q)) (λ d. AreSet p h d (now_in exit s.log)) → Told p h limit s.log
+      → Leads p h limit s (λ t. Hold p h link (suc q) c 0 (ms ++ Exit ∷ []) t × Same p h s t × (now_in exit t.log ≡ [])
+      × Told p h limit t.log)
   call-part s ready ended set told =
-      keeps_then (hop-part p formed fit h number limit place place entry clear place-off (omega arith) clear.streams (λ d l z. omega (arith, z, site.streams d l, site.some d l)) (λ z. omega (arith, z, site.halt)) marks q c o 1 ms few (omega arith) {Q = λ t. t ≡ there} s ready told takes) (λ t g.
-      subst (Keeps (world_of p h) (λ x. Told p h limit x.log) (λ x. Hold p h link (suc q) c 0 (ms ++ Exit ∷ []) x × Same p h s x × (now_in exit x.log ≡ []) × Told p h limit x.log)) (sym g.0)
-      (keeps_map (λ x y. y) (λ x y. (y.0, same-then (same (subst (λ (x : State). Recalls p h s x) g.0 g.2)) y.1, y.2, y.3))
-      (barrier-part there link-there (subst (λ (x : State). Ready p h entry q c (o + 1) ms x) g.0 g.1) (subst (λ (x : State). Told p h limit x.log) g.0 g.3) ended-there set-there)))
+      keeps_then (hop-part p formed fit h number limit place place entry clear place-off (omega arith) clear.streams
+      (λ d l z. omega (arith, z, site.streams d l, site.some d l)) (λ z. omega (arith, z, site.halt)) marks q c o 1
+      ms few (omega arith) {Q = λ t. t ≡ there} s ready told takes) (λ t g.
+      subst (Keeps (world_of p h) (λ x. Told p h limit x.log) (λ x. Hold p h link (suc q) c 0 (ms ++ Exit ∷ []) x
+      × Same p h s x × (now_in exit x.log ≡ []) × Told p h limit x.log)) (sym g.0)
+      (keeps_map (λ x y. y) (λ x y. (
+        y.0,
+        same-then (same (subst (λ (x : State). Recalls p h s x) g.0 g.2)) y.1,
+        y.2,
+        y.3,
+      ))
+      (barrier-part there link-there (subst (λ (x : State). Ready p h entry q c (o + 1) ms x) g.0 g.1)
+      (subst (λ (x : State). Told p h limit x.log) g.0 g.3) ended-there set-there)))
     where
       there : State
       there = jumped (call from.far) entry s
@@ -403,7 +428,8 @@ module _ (p : Program) (formed : Formed p) (fit : MasksFit p.cases p.masks) (h :
       jal = record { pc = s.pc; next = entry; word = word_of (call from.far); access = Quiet; regs = get there.regs }
 
       marks : arrivals p h place entry ≡ []
-      marks = arrivals-none p h place entry (λ d l. quiet-off p h place entry d (site.some d l) (inr (site.streams d l))) (λ z. omega (arith, z, site.exit)) (λ z. omega (arith, z, site.halt))
+      marks = arrivals-none p h place entry (λ d l. quiet-off p h place entry d (site.some d l)
+          (inr (site.streams d l))) (λ z. omega (arith, z, site.exit)) (λ z. omega (arith, z, site.halt))
 
       hops : HopsTo p h place place entry s there
       hops = record {
@@ -418,7 +444,8 @@ module _ (p : Program) (formed : Formed p) (fit : MasksFit p.cases p.masks) (h :
       }
 
       takes : Takes (world_of p h) (λ t. Unit {0}) (λ t. HopsTo p h place place entry s t × (t ≡ there)) 1 s
-      takes = step_jal {w = world_of p h} entry refl (ap (support_at p h) ready.hold.pc ∙ from.code) (omega (arith, ready.hold.pc, from.reach)) tt (Now (hops, refl))
+      takes = step_jal {w = world_of p h} entry refl (ap (support_at p h) ready.hold.pc ∙ from.code)
+          (omega (arith, ready.hold.pc, from.reach)) tt (Now (hops, refl))
 
       link-there : get there.regs 1 ≡ link
       link-there = omega (arith, ready.hold.pc, from.next)
@@ -426,15 +453,25 @@ module _ (p : Program) (formed : Formed p) (fit : MasksFit p.cases p.masks) (h :
       now : now_in exit (jal ∷ s.log) ≡ jal ∷ now_in exit s.log
       now = now-stays p formed fit h number s.log jal (λ z. place-off (sym ready.hold.pc ∙ z))
 
-      ended-there : IfSome (case_of_phase p q) (λ d. any (λ (e : Entry). e.next == end_of p h d) (now_in exit (jal ∷ s.log)) ≡ true)
-      ended-there = some-map (case_of_phase p q) (λ d g. ap (any (λ (e : Entry). e.next == end_of p h d)) now ∙ or-right (jal.next == end_of p h d) (any (λ (e : Entry). e.next == end_of p h d) (now_in exit s.log)) g) ended
+      ended-there : IfSome (case_of_phase p q) (λ d.
+          any (λ (e : Entry). e.next == end_of p h d) (now_in exit (jal ∷ s.log)) ≡ true)
+      ended-there =
+          some-map (case_of_phase p q) (λ d g. ap (any (λ (e : Entry). e.next == end_of p h d)) now ∙ or-right (jal.next
+          == end_of p h d) (any (λ (e : Entry). e.next == end_of p h d) (now_in exit s.log)) g) ended
 
       set-there : IfSome (case_of_phase p (suc q)) (λ d. AreSet p h d (now_in exit (jal ∷ s.log)))
-      set-there = some-map (case_of_phase p (suc q)) (λ d g. subst (AreSet p h d) (sym now) (set-one p h d jal (now_in exit s.log) few-hart tt g)) set
+      set-there = some-map (case_of_phase p (suc q))
+          (λ d g. subst (AreSet p h d) (sym now) (set-one p h d jal (now_in exit s.log) few-hart tt g)) set
 
       same : Recalls p h s there → Same p h s there
-      same a = record { left = a.left; read = a.read; memos = record { registers = λ i l. refl; counter = refl; area = λ k i l m. refl } }
+      same a = record {
+        left = a.left;
+        read = a.read;
+        memos = record { registers = λ i l. refl; counter = refl; area = λ k i l m. refl };
+      }
 
 pub call-meets : (p : Program) → CallMeets p
-call-meets p formed fit h number entry place link site from limit q c o ms s few before room front ready ended set told =
-    call-part p formed fit h number limit entry site place link from q c o ms few before room front s ready ended set told
+call-meets p formed fit h number entry place link site from limit q c o ms s few before room front ready ended set
+    told =
+    call-part p formed fit h number limit entry site place link from q c o ms few before room front s ready ended set
+    told

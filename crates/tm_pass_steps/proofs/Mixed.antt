@@ -1,5 +1,7 @@
 -- A part that comes to no mark, whatever its accesses are.
-use Rattle.std.proofs.Common.{◌≡◌, ◌≢◌, ◌⊎◌, inl, inr, ℕ, suc, ◌+◌, ◌-◌, ◌<◌, ◌≤◌, Bool, true, false, ◌&&◌, not, ◌==◌, List, [], ◌∷◌, ◌++◌, length, Option, None, Some, refl, sym, ap, ◌∙◌, subst, arith, append-nil, length-append}
+use Rattle.std.proofs.Common.{◌≡◌, ◌≢◌, ◌⊎◌, inl, inr, ℕ, suc, ◌+◌, ◌-◌, ◌<◌, ◌≤◌, Bool, true, false, ◌&&◌, not, ◌==◌}
+use Rattle.std.proofs.Common.{List, [], ◌∷◌, ◌++◌, length, Option, None, Some, refl, sym, ap, ◌∙◌, subst, arith}
+use Rattle.std.proofs.Common.{append-nil, length-append}
 use Rattle.std.specs.Prelude.{slice_index_or, IfSome, if◌then◌else◌}
 use Rattle.tm_table.specs.declared.state.Access.{Access}
 use Rattle.tm_table.specs.declared.state.Access.TheVariants.{Quiet, Read, Write}
@@ -36,18 +38,29 @@ use Rattle.tm_pass_way.proofs.Steady.{steady-more}
 pub got-none : (W : ℕ → Type 0) (x : Access) (b : ℕ) → windows_base ≤ b → Uses IsBelow W x → got x b ≡ None
 got-none W Quiet b l u = refl
 got-none W (Write addr width v) b l u = refl
-got-none W (Read addr width v) b l u = ap (λ (t : Bool). if t then Some (byte_of v (b - addr)) else None) (within-false addr width b (inr (let w = u.0 in let m = u.1 in omega arith)))
+got-none W (Read addr width v) b l u = ap (λ (t : Bool). if t then Some (byte_of v (b - addr))
+    else None) (within-false addr width b (inr (let w = u.0 in let m = u.1 in omega arith)))
 
-pub gathered-more : (p : Program) (h : ℕ) (o : Option ℕ) (e : Entry) (es : List Entry) → IfSome o (λ d. Gathered p h es) → IfSome o (λ d. Gathered p h (e ∷ es))
+pub gathered-more : (p : Program) (h : ℕ) (o : Option ℕ) (e : Entry) (es : List Entry) → IfSome o (λ d. Gathered p h es)
+    → IfSome o (λ d. Gathered p h (e ∷ es))
 gathered-more p h None e es g = tt
-gathered-more p h (Some d) e es g = λ k x l. or-right (reads_in (slice_index_or (owned p.cases h) k x) 8 e.access) (any (λ (t : Entry). reads_in (slice_index_or (owned p.cases h) k x) 8 t.access) es) (g k x l)
+gathered-more p h (Some d) e es g = λ k x l. or-right (reads_in (slice_index_or (owned p.cases h) k x) 8 e.access)
+    (any (λ (t : Entry). reads_in (slice_index_or (owned p.cases h) k x) 8 t.access) es) (g k x l)
 
 -- a step may be told to have another access that is allowed
-pub newest-map : (lo hi : ℕ) (A B : Access → Type 0) → ((x : Access) → A x → B x) → (log : List Entry) → Newest (Does lo hi A) log → Newest (Does lo hi B) log
+pub newest-map : (lo hi : ℕ) (A B : Access → Type 0) → ((x : Access) → A x → B x) → (log : List Entry)
+    → Newest (Does lo hi A) log → Newest (Does lo hi B) log
 newest-map lo hi A B f [] h = tt
-newest-map lo hi A B f (e ∷ es) h = record { from = h.from; below = h.below; least = h.least; most = h.most; access = f e.access h.access }
+newest-map lo hi A B f (e ∷ es) h = record {
+  from = h.from;
+  below = h.below;
+  least = h.least;
+  most = h.most;
+  access = f e.access h.access;
+}
 
-module _ (p : Program) (formed : Formed p) (fit : MasksFit p.cases p.masks) (h : ℕ) (number : h < harts p) (limit : ℕ → ℕ) (lo hi : ℕ) (clear : Clear p h lo hi) (A : Access → Type 0) where
+module _ (p : Program) (formed : Formed p) (fit : MasksFit p.cases p.masks) (h : ℕ) (number : h < harts p) (limit : ℕ
+    → ℕ) (lo hi : ℕ) (clear : Clear p h lo hi) (A : Access → Type 0) where
   abbrev exit : ℕ
   exit = exit_of p h
 
@@ -72,7 +85,9 @@ module _ (p : Program) (formed : Formed p) (fit : MasksFit p.cases p.masks) (h :
       by (inr x) = omega (arith, z, a.least, clear.some d l)
 
   unmarked : (e : Entry) → Acts e → arrivals p h e.pc e.next ≡ []
-  unmarked e a = arrivals-none p h e.pc e.next (λ d l. quiet-off p h e.pc e.next d (clear.some d l) (by d (clear.streams d l))) (apart exit e a clear.exit).1 (halts e a)
+  unmarked e a =
+      arrivals-none p h e.pc e.next (λ d l. quiet-off p h e.pc e.next d (clear.some d l) (by d (clear.streams d l)))
+      (apart exit e a clear.exit).1 (halts e a)
     where
       by : (d : ℕ) → (hi < start_of p h d) ⊎ (end_of p h d ≤ lo) → (e.next < start_of p h d) ⊎ (end_of p h d < e.next)
       by d (inl x) = inl (omega (arith, a.most))
@@ -85,49 +100,75 @@ module _ (p : Program) (formed : Formed p) (fit : MasksFit p.cases p.masks) (h :
       by (inl x) = inl (omega (arith, a.below))
       by (inr x) = inr (omega (arith, a.from))
 
-  pub left-through : (d r : ℕ) → d < case_count p → (es past : List Entry) → Each Acts es → left_in p h d r (es ++ past) ≡ left_in p h d r past
+  pub left-through : (d r : ℕ) → d < case_count p → (es past : List Entry) → Each Acts es → left_in p h d r (es ++ past)
+      ≡ left_in p h d r past
   left-through d r l [] past each = refl
   left-through d r l (e ∷ es) past each =
-      ap (λ (b : Bool). or_else (left_in p h d r (es ++ past)) (if (phase_in exit (es ++ past) == r) && (b && not (inside p h d e.next)) then Some e.regs else None)) (outside d e l each.0)
-      ∙ (ap (λ (x : Option Table). or_else (left_in p h d r (es ++ past)) x) (by (phase_in exit (es ++ past) == r)) ∙ (or-none (left_in p h d r (es ++ past)) ∙ left-through d r l es past each.1))
+      ap (λ (b : Bool). or_else (left_in p h d r (es ++ past)) (if (phase_in exit (es ++ past) == r)
+      && (b && not (inside p h d e.next)) then Some e.regs else None)) (outside d e l each.0)
+      ∙ (ap (λ (x : Option Table). or_else (left_in p h d r (es ++ past)) x) (by (phase_in exit (es ++ past) == r)) ∙
+      (or-none (left_in p h d r (es ++ past)) ∙ left-through d r l es past each.1))
     where
       by : (b : Bool) → ◌≡◌ {A = Option Table} (if b && false then Some e.regs else None) None
       by true = refl
       by false = refl
 
-  pub read-through : (W : ℕ → Type 0) → ((x : Access) → A x → Uses IsBelow W x) → (r b : ℕ) → windows_base ≤ b → (es past : List Entry) → Each Acts es → read_in p h r b (es ++ past) ≡ read_in p h r b past
+  pub read-through : (W : ℕ → Type 0) → ((x : Access) → A x → Uses IsBelow W x) → (r b : ℕ) → windows_base ≤ b
+      → (es past : List Entry) → Each Acts es → read_in p h r b (es ++ past) ≡ read_in p h r b past
   read-through W low r b l [] past each = refl
   read-through W low r b l (e ∷ es) past each =
-      ap (λ (x : Option ℕ). or_else (read_in p h r b (es ++ past)) (if phase_in exit (es ++ past) == r then x else None)) (got-none W e.access b l (low e.access each.0.access))
-      ∙ (ap (λ (x : Option ℕ). or_else (read_in p h r b (es ++ past)) x) (none-either (phase_in exit (es ++ past) == r)) ∙ (or-none (read_in p h r b (es ++ past)) ∙ read-through W low r b l es past each.1))
+      ap (λ (x : Option ℕ). or_else (read_in p h r b (es ++ past)) (if phase_in exit (es ++ past) == r then x
+      else None)) (got-none W e.access b l (low e.access each.0.access))
+      ∙ (ap (λ (x : Option ℕ). or_else (read_in p h r b (es ++ past)) x) (none-either (phase_in exit (es ++ past) == r))
+      ∙ (or-none (read_in p h r b (es ++ past)) ∙ read-through W low r b l es past each.1))
 
   -- one entry more
-  pub one-more : (q c o : ℕ) (ms : List Mark) (past : List Entry) (e : Entry) → Acts e → Fact p h past e → signals_in h e ≡ false → ((d : ℕ) → d < case_count p → reports d h e ≡ false) → suc o ≤ limit q → Steady p h limit q c o ms past → Steady p h limit q c (suc o) ms (e ∷ past)
+  pub one-more : (q c o : ℕ) (ms : List Mark) (past : List Entry) (e : Entry) → Acts e → Fact p h past e
+      → signals_in h e ≡ false → ((d : ℕ) → d < case_count p → reports d h e ≡ false) → suc o ≤ limit q
+      → Steady p h limit q c o ms past → Steady p h limit q c (suc o) ms (e ∷ past)
   one-more q c o ms past e a fact still mute room s =
       subst (λ (ls : List Mark). Steady p h limit q c (suc o) ls (e ∷ past)) (append-nil ms)
-      (steady-more p formed fit h number limit q c o ms [] past e (off e a) fact (unmarked e a) (subst (λ (ls : List Mark). IsFront ls (whole_way p)) (s.way ∙ sym (append-nil ms)) s.told.order) still mute room s)
+      (steady-more p formed fit h number limit q c o ms [] past e (off e a) fact (unmarked e a)
+      (subst (λ (ls : List Mark). IsFront ls (whole_way p)) (s.way ∙ sym (append-nil ms)) s.told.order) still mute
+      room s)
 
   pub far : (es : List Entry) → Each Acts es → Each (λ (e : Entry). e.pc ≢ exit) es
   far [] each = tt
   far (e ∷ es) each = (off e each.0, far es each.1)
 
-  pub start-steady : {q c o place : ℕ} {ms : List Mark} {s : State} → Hold p h place q c o ms s → Told p h limit s.log → Steady p h limit q c o ms s.log
-  start-steady hold told = record { phase = hold.phase; way = hold.way; silent = hold.silent; judged = hold.judged; unjudged = hold.unjudged; few = hold.few; told = told }
+  pub start-steady : {q c o place : ℕ} {ms : List Mark} {s : State} → Hold p h place q c o ms s → Told p h limit s.log
+      → Steady p h limit q c o ms s.log
+  start-steady hold told = record {
+    phase = hold.phase;
+    way = hold.way;
+    silent = hold.silent;
+    judged = hold.judged;
+    unjudged = hold.unjudged;
+    few = hold.few;
+    told = told;
+  }
 
   -- What is told at the part's end gives the part of the way.
-  pub mixed-part : {Q : State → Type 0} {n : ℕ} (q c o place : ℕ) (ms : List Mark) (s : State) → Hold p h lo q c o ms s → Takes (world_of p h) (Within lo hi A) Q n s
-      → ((t : State) → Q t → (since : Since Acts s t) → length since.entries ≤ n → Steady p h limit q c (o + n) ms t.log × IfSome (round_before p q) (λ d. Gathered p h (now_in exit t.log)))
-      → ((t : State) → Q t → LeavesTo p h place s t) → Leads p h limit s (λ t. Q t × Since Acts s t × Ready p h place q c (o + n) ms t × Told p h limit t.log)
+  pub mixed-part : {Q : State → Type 0} {n : ℕ} (q c o place : ℕ) (ms : List Mark) (s : State) → Hold p h lo q c o ms s
+      → Takes (world_of p h) (Within lo hi A) Q n s
+      → ((t : State) → Q t → (since : Since Acts s t) → length since.entries ≤ n → Steady p h limit q c (o + n) ms t.log
+      × IfSome (round_before p q) (λ d. Gathered p h (now_in exit t.log)))
+      → ((t : State) → Q t → LeavesTo p h place s t)
+      → Leads p h limit s (λ t. Q t × Since Acts s t × Ready p h place q c (o + n) ms t × Told p h limit t.log)
   mixed-part {Q = Q} {n = n} q c o place ms s hold runs tells leaves =
       keeps_after
       (takes_map (λ t g. g) (λ t g. (g.0.0.0, g.0.0.1, behind t g.0.0.0 g.0.0.1 g.0.1 g.2, g.1))
-      (takes_told (world_of p h) (world-low p h (formed-sizes formed)) (Told p h limit) (told-drop p h limit) (λ t g. (steady t g.0.0 g.0.1 g.1).0.told) (record { regs = hold.regs; mem = hold.mem }) (takes_count (takes_since runs))))
+      (takes_told (world_of p h) (world-low p h (formed-sizes formed)) (Told p h limit) (told-drop p h limit)
+      (λ t g. (steady t g.0.0 g.0.1 g.1).0.told) (record { regs = hold.regs; mem = hold.mem })
+      (takes_count (takes_since runs))))
       (λ t g. keeps_now g)
     where
-      steady : (t : State) → Q t → Since Acts s t → length t.log ≤ length s.log + n → Steady p h limit q c (o + n) ms t.log × IfSome (round_before p q) (λ d. Gathered p h (now_in exit t.log))
+      steady : (t : State) → Q t → Since Acts s t → length t.log ≤ length s.log + n
+          → Steady p h limit q c (o + n) ms t.log × IfSome (round_before p q) (λ d. Gathered p h (now_in exit t.log))
       steady t x since few = tells t x since (omega (arith, ap length since.log, length-append since.entries s.log))
 
-      behind : (t : State) → Q t → Since Acts s t → length t.log ≤ length s.log + n → Small (world_of p h) t → Ready p h place q c (o + n) ms t
+      behind : (t : State) → Q t → Since Acts s t → length t.log ≤ length s.log + n → Small (world_of p h) t
+          → Ready p h place q c (o + n) ms t
       behind t x since few m =
           let a = steady t x since few in
           let b = leaves t x in
@@ -150,5 +191,14 @@ module _ (p : Program) (formed : Formed p) (fit : MasksFit p.cases p.masks) (h :
           }
 
   -- more room for work
-  pub roomier : (q c o k : ℕ) (ms : List Mark) (log : List Entry) → o ≤ k → Steady p h limit q c o ms log → Steady p h limit q c k ms log
-  roomier q c o k ms log l s = record { phase = s.phase; way = s.way; silent = s.silent; judged = s.judged; unjudged = s.unjudged; few = omega (arith, s.few); told = s.told }
+  pub roomier : (q c o k : ℕ) (ms : List Mark) (log : List Entry) → o ≤ k → Steady p h limit q c o ms log
+      → Steady p h limit q c k ms log
+  roomier q c o k ms log l s = record {
+    phase = s.phase;
+    way = s.way;
+    silent = s.silent;
+    judged = s.judged;
+    unjudged = s.unjudged;
+    few = omega (arith, s.few);
+    told = s.told;
+  }

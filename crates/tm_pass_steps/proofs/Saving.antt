@@ -1,5 +1,6 @@
 -- The words that save the registers do so as the hart's way asks for it.
-use Rattle.std.proofs.Common.{◌≡◌, ◌≢◌, ℕ, zero, suc, ◌+◌, ◌*◌, ◌%◌, ◌^◌, ◌<◌, ◌≤◌, Bool, true, List, ◌++◌, length, map, Option, None, refl, sym, ap, ◌∙◌, subst, arith}
+use Rattle.std.proofs.Common.{◌≡◌, ◌≢◌, ℕ, zero, suc, ◌+◌, ◌*◌, ◌%◌, ◌^◌, ◌<◌, ◌≤◌, Bool, true, List, ◌++◌, length}
+use Rattle.std.proofs.Common.{map, Option, None, refl, sym, ap, ◌∙◌, subst, arith}
 use Rattle.std.specs.Prelude.{slice_index, IfSome}
 use Rattle.tm_table.specs.declared.state.Access.{Access}
 use Rattle.tm_table.specs.declared.state.Access.TheVariants.{Quiet, Read, Write}
@@ -35,9 +36,11 @@ use Rattle.tm_pass_steps.proofs.Mixed.{newest-map, start-steady, mixed-part, roo
 index-of : (g : ℕ → ℕ) (n j i : ℕ) → i < n → slice_index (map g (count_from j n)) i ≡ g (j + i)
 index-of g zero j i l = absurd (omega arith)
 index-of g (suc n) j zero l = let e : j ≡ j + 0 = omega arith in ap g e
-index-of g (suc n) j (suc i) l = let e : suc j + i ≡ j + suc i = omega arith in index-of g n (suc j) i (omega arith) ∙ ap g e
+index-of g (suc n) j (suc i) l = let e : suc j + i ≡ j + suc i = omega arith in
+    index-of g n (suc j) i (omega arith) ∙ ap g e
 
-private-places : (h i : ℕ) → h < 16 → i < 30 → (private_at h % 8 ≡ 0) × (0x80C00000 ≤ private_at h + 8 * i) × (private_at h + 8 * i + 8 ≤ 0x81000000)
+private-places : (h i : ℕ) → h < 16 → i < 30 → (private_at h % 8 ≡ 0) × (0x80C00000 ≤ private_at h + 8 * i)
+    × (private_at h + 8 * i + 8 ≤ 0x81000000)
 unfolding private_at
 private-places h i l m = (omega arith, omega arith, omega arith)
 
@@ -55,7 +58,8 @@ plain i = omega arith
 length-first : (s : State) → length (first_registers s) ≡ 30
 length-first s = refl
 
-module _ (p : Program) (formed : Formed p) (fit : MasksFit p.cases p.masks) (h : ℕ) (number : h < harts p) (lo : ℕ) (code : At (support_at p h) lo save_registers) (clear : Clear p h lo (lo + 120)) (limit : ℕ → ℕ) where
+module _ (p : Program) (formed : Formed p) (fit : MasksFit p.cases p.masks) (h : ℕ) (number : h < harts p) (lo : ℕ)
+    (code : At (support_at p h) lo save_registers) (clear : Clear p h lo (lo + 120)) (limit : ℕ → ℕ) where
   abbrev exit : ℕ
   exit = exit_of p h
 
@@ -69,7 +73,8 @@ module _ (p : Program) (formed : Formed p) (fit : MasksFit p.cases p.masks) (h :
   unfolding private_size
   calm Quiet u = tt
   calm (Read a width v) u = absurd u.1
-  calm (Write a width v) u = (u.0, ((let i = u.1.is in omega arith), (let i = u.1.is in let l = u.1.below in omega arith)))
+  calm (Write a width v) u =
+      (u.0, ((let i = u.1.is in omega arith), (let i = u.1.is in let l = u.1.below in omega arith)))
 
   usable : Usable (world_of p h) b 30
   unfolding guest_base guest_end
@@ -84,14 +89,16 @@ module _ (p : Program) (formed : Formed p) (fit : MasksFit p.cases p.masks) (h :
 
   module _ (q c o : ℕ) (ms : List Mark) (s : State) (hold : Hold p h lo q c o ms s) where
     mem-other : (t : State) → HasSaved b s t → (a : ℕ) → ((i : ℕ) → i < 30 → a ≢ b + 8 * i) → t.mem a ≡ s.mem a
-    mem-other t g a n = ap (λ (f : Table). f a) g.mem ∙ stored-other (first_registers s) s.mem b 0 a (λ i l m. n i (omega (arith, length-first s)))
+    mem-other t g a n = ap (λ (f : Table). f a) g.mem ∙ stored-other (first_registers s) s.mem b 0 a
+        (λ i l m. n i (omega (arith, length-first s)))
 
     leaves : (t : State) → HasSaved b s t → LeavesTo p h (lo + 120) s t
     leaves t g = record {
       pc = omega (arith, g.pc, hold.pc);
       base = ap (λ (f : Table). get f 31) g.regs;
       exits = mem-other t g (b + 256) (λ i l z. omega arith);
-      fixed = λ a e. mem-other t g a (λ i l z. let f = fixed-place p a (formed-sizes formed) e in let k = (private-places h i few l).1 in omega arith);
+      fixed = λ a e. mem-other t g a (λ i l z. let f = fixed-place p a (formed-sizes formed) e in
+          let k = (private-places h i few l).1 in omega arith);
     }
 
     saves : (t : State) → HasSaved b s t → Since (Does lo (lo + 120) (IsCalm h)) s t → Saves p h s t
@@ -102,33 +109,47 @@ module _ (p : Program) (formed : Formed p) (fit : MasksFit p.cases p.masks) (h :
           read = r.read;
           area = λ j i l m. mem-other t g (save_at h j + 8 * i) (λ k x z. let a = area-above h j i in omega arith);
           counter = mem-other t g (b + 264) (λ i l z. omega arith);
-          saved = λ i l. ap (λ (f : Table). f (b + 8 * i)) g.mem ∙ (stored-at (first_registers s) s.mem b 0 i i (omega arith) (omega (arith, length-first s)) ∙ (index-of (λ k. get s.regs (k + 1)) 30 0 i l ∙ ap (λ (k : ℕ). get s.regs (k + 1)) (plain i)));
+          saved = λ i l. ap (λ (f : Table). f (b + 8 * i)) g.mem ∙
+              (stored-at (first_registers s) s.mem b 0 i i (omega arith) (omega (arith, length-first s)) ∙
+              (index-of (λ k. get s.regs (k + 1)) 30 0 i l ∙ ap (λ (k : ℕ). get s.regs (k + 1)) (plain i)));
         }
 
-    pub saved-part : (test : Entry → Bool) → c ≤ case_count p → round_before p q ≡ None → o + 30 ≤ limit q → any test (now_in exit s.log) ≡ true → Told p h limit s.log
-        → Leads p h limit s (λ t. Hold p h (lo + 120) q c (o + 30) ms t × Saves p h s t × (any test (now_in exit t.log) ≡ true) × Told p h limit t.log)
+    pub saved-part : (test : Entry → Bool) → c ≤ case_count p → round_before p q ≡ None → o + 30 ≤ limit q
+        → any test (now_in exit s.log) ≡ true → Told p h limit s.log
+        → Leads p h limit s (λ t. Hold p h (lo + 120) q c (o + 30) ms t × Saves p h s t
+        × (any test (now_in exit t.log) ≡ true) × Told p h limit t.log)
     saved-part test l odd room ended told =
         keeps_map (λ t g. g) (λ t g. (g.2.hold, saves t g.0 g.1, stays t g.1, g.3))
-        (mixed-part p formed fit h number limit lo (lo + 120) clear (IsCalm h) {n = 30} q c o (lo + 120) ms s hold runs tells leaves)
+        (mixed-part p formed fit h number limit lo (lo + 120) clear (IsCalm h) {n = 30} q c o (lo + 120) ms s hold runs
+        tells leaves)
       where
         stays : (t : State) → Since (Does lo (lo + 120) (IsCalm h)) s t → any test (now_in exit t.log) ≡ true
         stays t since =
             subst (λ (ls : List Entry). any test (now_in exit ls) ≡ true) (sym since.log)
-            (subst (λ (ls : List Entry). any test ls ≡ true) (sym (now-more p formed fit h number limit lo (lo + 120) clear since.entries s.log since.each)) (any-more p formed fit h number limit lo (lo + 120) clear test since.entries (now_in exit s.log) ended))
+            (subst (λ (ls : List Entry). any test ls
+            ≡ true) (sym (now-more p formed fit h number limit lo (lo + 120) clear since.entries s.log since.each))
+            (any-more p formed fit h number limit lo (lo + 120) clear test since.entries (now_in exit s.log) ended))
 
         runs : Takes (world_of p h) (Within lo (lo + 120) (IsCalm h)) (HasSaved b s) 30 s
         runs =
-            let law = save_registers_runs (world_of p h) s b hold.base usable changeable (subst (λ (a : ℕ). At (support_at p h) a save_registers) (sym hold.pc) code) in
+            let law = save_registers_runs (world_of p h) s b hold.base usable changeable
+            (subst (λ (a : ℕ). At (support_at p h) a save_registers) (sym hold.pc) code) in
             takes_map (λ t g. newest-map lo (lo + 120) (Uses Nowhere (Among b 30)) (IsCalm h) calm t.log g) (λ t g. g)
-            (subst (λ (a : ℕ). Takes (world_of p h) (Within a (a + 120) (Uses Nowhere (Among b 30))) (HasSaved b s) 30 s) hold.pc law)
+            (subst (λ (a : ℕ). Takes (world_of p h) (Within a (a + 120) (Uses Nowhere (Among b 30))) (HasSaved b s) 30
+            s) hold.pc law)
 
-        tells : (t : State) → HasSaved b s t → (since : Since (Does lo (lo + 120) (IsCalm h)) s t) → length since.entries ≤ 30 → Steady p h limit q c (o + 30) ms t.log × IfSome (round_before p q) (λ d. Gathered p h (now_in exit t.log))
+        tells : (t : State) → HasSaved b s t → (since : Since (Does lo (lo + 120) (IsCalm h)) s t)
+            → length since.entries ≤ 30 → Steady p h limit q c (o + 30) ms t.log
+            × IfSome (round_before p q) (λ d. Gathered p h (now_in exit t.log))
         tells t g since short = (
           subst (Steady p h limit q c (o + 30) ms) (sym since.log)
-              (roomier p formed fit h number limit lo (lo + 120) clear (IsCalm h) q c (o + length since.entries) (o + 30) ms (since.entries ++ s.log) (omega arith)
-              (steady-part p formed fit h number limit lo (lo + 120) clear q c o 30 ms since.entries s.log l short room since.each (start-steady p formed fit h number limit lo (lo + 120) clear (IsCalm h) hold told))),
+              (roomier p formed fit h number limit lo (lo + 120) clear (IsCalm h) q c (o + length since.entries)
+              (o + 30) ms (since.entries ++ s.log) (omega arith)
+              (steady-part p formed fit h number limit lo (lo + 120) clear q c o 30 ms since.entries s.log l short room
+              since.each (start-steady p formed fit h number limit lo (lo + 120) clear (IsCalm h) hold told))),
           subst (λ (x : Option ℕ). IfSome x (λ d. Gathered p h (now_in exit t.log))) (sym odd) tt,
         )
 
 pub registers-saved : (p : Program) → RegistersAreSaved p
-registers-saved p formed fit h number lo code clear limit q c o ms s test l odd room hold ended told = saved-part p formed fit h number lo code clear limit q c o ms s hold test l odd room ended told
+registers-saved p formed fit h number lo code clear limit q c o ms s test l odd room hold ended told =
+    saved-part p formed fit h number lo code clear limit q c o ms s hold test l odd room ended told

@@ -19,16 +19,46 @@ module _ (w : World) (g n : ℕ) (small : g < 2 ^ 11) (s : State) (at : At w.tex
   after-one r m = get_put_other s.regs 1 g r m
 
   -- another hart goes on behind the last word
-  pub gate-shut : 12 ≤ 8 + n → get s.regs 10 ≢ g → Takes w (Within s.pc (s.pc + 8 + n) IsQuiet) (Passed (s.pc + 8 + n) s) 3 s
+  pub gate-shut : 12 ≤ 8 + n → get s.regs 10 ≢ g
+      → Takes w (Within s.pc (s.pc + 8 + n) IsQuiet) (Passed (s.pc + 8 + n) s) 3 s
   gate-shut far other =
-      step_addi g refl at.0 (omega arith) (record { from = omega arith; below = omega arith; least = omega arith; most = omega arith; access = refl })
-      (step_beq_on refl at.1.0 (λ e. other (sym e)) (record { from = omega arith; below = omega arith; least = omega arith; most = omega arith; access = refl })
-      (step_jal {i = jump n} (s.pc + 8 + n) refl at.1.1.0 (omega arith) (record { from = omega arith; below = omega arith; least = omega arith; most = omega arith; access = refl })
-      (Now (record { pc = refl; regs = λ r m. get_put_zero (put s.regs 1 g) (s.pc + 4 + 4 + 4) r ∙ after-one r m; mem = refl }))))
+      step_addi g refl at.0 (omega arith) (record {
+        from = omega arith;
+        below = omega arith;
+        least = omega arith;
+        most = omega arith;
+        access = refl;
+      })
+      (step_beq_on refl at.1.0 (λ e. other (sym e)) (record {
+        from = omega arith;
+        below = omega arith;
+        least = omega arith;
+        most = omega arith;
+        access = refl;
+      })
+      (step_jal {i = jump n} (s.pc + 8 + n) refl at.1.1.0 (omega arith)
+      (record { from = omega arith; below = omega arith; least = omega arith; most = omega arith; access = refl })
+      (Now (record {
+        pc = refl;
+        regs = λ r m. get_put_zero (put s.regs 1 g) (s.pc + 4 + 4 + 4) r ∙ after-one r m;
+        mem = refl;
+      }))))
 
   -- its own hart goes in
   pub gate-open : get s.regs 10 ≡ g → Takes w (Within s.pc (s.pc + 12) IsQuiet) (Passed (s.pc + 12) s) 2 s
   gate-open own =
-      step_addi g refl at.0 (omega arith) (record { from = omega arith; below = omega arith; least = omega arith; most = omega arith; access = refl })
-      (step_beq_taken (s.pc + 12) refl at.1.0 (sym own) (omega arith) (record { from = omega arith; below = omega arith; least = omega arith; most = omega arith; access = refl })
+      step_addi g refl at.0 (omega arith) (record {
+        from = omega arith;
+        below = omega arith;
+        least = omega arith;
+        most = omega arith;
+        access = refl;
+      })
+      (step_beq_taken (s.pc + 12) refl at.1.0 (sym own) (omega arith) (record {
+        from = omega arith;
+        below = omega arith;
+        least = omega arith;
+        most = omega arith;
+        access = refl;
+      })
       (Now (record { pc = refl; regs = λ r m. after-one r m; mem = refl })))

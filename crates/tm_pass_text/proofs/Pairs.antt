@@ -33,20 +33,28 @@ pub each-append : {A : Type 0} (P : A → Type 0) (xs ys : List A) → Each P xs
 each-append P [] ys a b = b
 each-append P (x ∷ xs) ys a b = (a.0, each-append P xs ys a.1 b)
 
-pairs-append : {A : Type 0} (R : A → A → Type 0) (xs ys : List A) → Each (λ x. Each (R x) ys) xs → Pairs R xs → Pairs R ys → Pairs R (xs ++ ys)
+pairs-append : {A : Type 0} (R : A → A → Type 0) (xs ys : List A) → Each (λ x. Each (R x) ys) xs → Pairs R xs
+    → Pairs R ys → Pairs R (xs ++ ys)
 pairs-append R [] ys c a b = b
 pairs-append R (x ∷ xs) ys c a b = (each-append (R x) xs ys a.0 c.0, pairs-append R xs ys c.1 a.1 b)
 
-pub each-flat : {A : Type 0} (P : A → Type 0) (f : ℕ → List A) (n a : ℕ) → ((c : ℕ) → a ≤ c → c < a + n → Each P (f c)) → Each P (flat_map f (count_from a n))
+pub each-flat : {A : Type 0} (P : A → Type 0) (f : ℕ → List A) (n a : ℕ) → ((c : ℕ) → a ≤ c → c < a + n → Each P (f c))
+    → Each P (flat_map f (count_from a n))
 each-flat P f zero a e = tt
-each-flat P f (suc n) a e = each-append P (f a) (flat_map f (count_from (suc a) n)) (e a (omega arith) (omega arith)) (each-flat P f n (suc a) (λ c l m. e c (omega arith) (omega arith)))
+each-flat P f (suc n) a e = each-append P (f a) (flat_map f (count_from (suc a) n)) (e a (omega arith) (omega arith))
+    (each-flat P f n (suc a) (λ c l m. e c (omega arith) (omega arith)))
 
 -- Each part has its own kind of element, and elements of different parts are related by their kinds.
-pub pairs-flat : {A : Type 0} (R : A → A → Type 0) (In : ℕ → A → Type 0) (f : ℕ → List A) (n a : ℕ) → ((c d : ℕ) (x y : A) → a ≤ c → c < d → d < a + n → In c x → In d y → R x y)
-    → ((c : ℕ) → a ≤ c → c < a + n → Each (In c) (f c)) → ((c : ℕ) → a ≤ c → c < a + n → Pairs R (f c)) → Pairs R (flat_map f (count_from a n))
+pub pairs-flat : {A : Type 0} (R : A → A → Type 0) (In : ℕ → A → Type 0) (f : ℕ → List A) (n a : ℕ)
+    → ((c d : ℕ) (x y : A) → a ≤ c → c < d → d < a + n → In c x → In d y → R x y)
+    → ((c : ℕ) → a ≤ c → c < a + n → Each (In c) (f c)) → ((c : ℕ) → a ≤ c → c < a + n → Pairs R (f c))
+    → Pairs R (flat_map f (count_from a n))
 pairs-flat R In f zero a cross e q = tt
 pairs-flat {A = A} R In f (suc n) a cross e q =
     pairs-append R (f a) (flat_map f (count_from (suc a) n))
-    (each-map {Q = λ x. Each (R x) (flat_map f (count_from (suc a) n))} (λ x i. each-flat (R x) f n (suc a) (λ c l m. each-map (λ y j. cross a c x y (omega arith) l (omega arith) i j) (f c) (e c (omega arith) (omega arith)))) (f a) (e a (omega arith) (omega arith)))
+    (each-map {Q = λ x. Each (R x) (flat_map f (count_from (suc a) n))}
+    (λ x i. each-flat (R x) f n (suc a) (λ c l m. each-map (λ y j. cross a c x y (omega arith) l (omega arith) i j)
+    (f c) (e c (omega arith) (omega arith)))) (f a) (e a (omega arith) (omega arith)))
     (q a (omega arith) (omega arith))
-    (pairs-flat R In f n (suc a) (λ c d x y l m k. cross c d x y (omega arith) m (omega arith)) (λ c l m. e c (omega arith) (omega arith)) (λ c l m. q c (omega arith) (omega arith)))
+    (pairs-flat R In f n (suc a) (λ c d x y l m k. cross c d x y (omega arith) m (omega arith))
+    (λ c l m. e c (omega arith) (omega arith)) (λ c l m. q c (omega arith) (omega arith)))

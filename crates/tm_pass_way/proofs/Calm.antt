@@ -1,5 +1,7 @@
 -- A calm part tells what it should, and leaves what the log told.
-use Rattle.std.proofs.Common.{◌≡◌, ◌≢◌, ◌⊎◌, inl, inr, ℕ, zero, suc, ◌+◌, ◌*◌, ◌/◌, ◌%◌, ◌<◌, ◌≤◌, Bool, true, false, true≢false, ◌&&◌, ◌||◌, nat_lt, ◌==◌, eqb-true, eq-eqb, ne_eqb, List, [], ◌∷◌, ◌++◌, length, Option, None, Some, refl, sym, ap, ap₂, ◌∙◌, subst, arith, append-nil}
+use Rattle.std.proofs.Common.{◌≡◌, ◌≢◌, ◌⊎◌, inl, inr, ℕ, zero, suc, ◌+◌, ◌*◌, ◌/◌, ◌%◌, ◌<◌, ◌≤◌, Bool, true, false}
+use Rattle.std.proofs.Common.{true≢false, ◌&&◌, ◌||◌, nat_lt, ◌==◌, eqb-true, eq-eqb, ne_eqb, List, [], ◌∷◌, ◌++◌}
+use Rattle.std.proofs.Common.{length, Option, None, Some, refl, sym, ap, ap₂, ◌∙◌, subst, arith, append-nil}
 use Rattle.std.specs.Prelude.{slice_get, slice_index, slice_index_or, IsTrue, IsFalse, IfSome, All, map, if◌then◌else◌}
 use Rattle.std.proofs.lemmas.List.Elements.{All-filter, All-map}
 use Rattle.std.proofs.lemmas.Bool.Decides.{nat_tests}
@@ -12,7 +14,8 @@ use Rattle.tm_plan_cases.specs.Collected.{is_declared, declares, owned, window_d
 use Rattle.tm_base.specs.Lists.{any, count_from}
 use Rattle.tm_plan_cases.specs.Shaped.{MasksFit}
 use Rattle.tm_world.specs.Lists.{IsFront}
-use Rattle.tm_world.specs.Place.{harts, case_count, passes, start_of, end_of, exit_of, halt_of, is_private, is_flag, is_verdict, is_window}
+use Rattle.tm_world.specs.Place.{harts, case_count, passes, start_of, end_of, exit_of, halt_of, is_private, is_flag}
+use Rattle.tm_world.specs.Place.{is_verdict, is_window}
 use Rattle.tm_world.specs.Run.{Writes}
 use Rattle.tm_world.specs.Writers.{may_write, may_write_window, stream_in}
 use Rattle.tm_world.specs.Kinds.{stream_at, writes_flag}
@@ -44,7 +47,8 @@ any-none f [] h = refl
 any-none f (x ∷ xs) h = ap₂ (λ (a b : Bool). a || b) (h x) (any-none f xs h)
 
 -- it writes none of the n bytes from a, if they lie below the private area or above
-writes-off : (h a n : ℕ) (x : Access) → (a + n ≤ private_at h) ⊎ (private_at h + private_size ≤ a) → IsCalm h x → writes_in a n x ≡ false
+writes-off : (h a n : ℕ) (x : Access) → (a + n ≤ private_at h) ⊎ (private_at h + private_size ≤ a) → IsCalm h x
+    → writes_in a n x ≡ false
 writes-off h a n Quiet o u = refl
 writes-off h a n (Read addr width v) o u = refl
 writes-off h a n (Write addr width v) (inl o) u = let w = u.0 in let l = u.1 in grind (arith, nat_tests)
@@ -82,11 +86,16 @@ window-high w = omega arith
 
 pub owned-above : (p : Program) (h : ℕ) → All (λ a. windows_base ≤ a) (owned p.cases h)
 unfolding owned window_dwords
-owned-above p h = All-filter (λ a. is_declared p.cases a && (collector p.cases a == h)) (λ a. windows_base ≤ a) (map (λ q. windows_base + 8 * q) (count_from 0 768)) (All-map (λ a. windows_base ≤ a) (λ q. windows_base + 8 * q) (count_from 0 768) (λ k d l. omega arith))
+owned-above p h = All-filter (λ a. is_declared p.cases a && (collector p.cases a == h)) (λ a. windows_base ≤ a)
+    (map (λ q. windows_base + 8 * q) (count_from 0 768))
+    (All-map (λ a. windows_base ≤ a) (λ q. windows_base + 8 * q) (count_from 0 768) (λ k d l. omega arith))
 
 pub undeclared : (p : Program) (b : ℕ) → b < windows_base → is_declared p.cases b ≡ false
 unfolding is_declared
-undeclared p b l = any-none (declares p.cases.line b) p.cases.windows (λ w. within-false (window_at w.number) (w.lines * p.cases.line) b (inl (let m = window-high w.number in omega arith)))
+undeclared p b l =
+    any-none (declares p.cases.line b) p.cases.windows
+    (λ w. within-false (window_at w.number) (w.lines * p.cases.line) b (inl (let m = window-high w.number in
+    omega arith)))
 
 or-left : (b c : Bool) → b ≡ true → (b || c) ≡ true
 or-left b c e = ap (λ (x : Bool). x || c) e
@@ -100,9 +109,11 @@ case-few p (suc q) c some e = by ((q % 2 == 1) && nat_lt (q / 2) (case_count p *
     lt-of true b z = z
     lt-of false b z = absurd (true≢false (sym z))
 
-    by : (b : Bool) → ((q % 2 == 1) && nat_lt (q / 2) (case_count p * passes p)) ≡ b → (if b then Some (q / 2 / passes p) else None) ≡ Some c → c < case_count p
+    by : (b : Bool) → ((q % 2 == 1) && nat_lt (q / 2) (case_count p * passes p)) ≡ b
+        → (if b then Some (q / 2 / passes p) else None) ≡ Some c → c < case_count p
     by true f g =
-        let l : q / 2 < case_count p * passes p = let z = lt-of (q % 2 == 1) (nat_lt (q / 2) (case_count p * passes p)) f in grind (arith, nat_tests) in
+        let l : q / 2 < case_count p * passes p = let z =
+        lt-of (q % 2 == 1) (nat_lt (q / 2) (case_count p * passes p)) f in grind (arith, nat_tests) in
         let m : q / 2 / passes p < case_count p = (div-lt_iff_lt-mul some).1 l in
         let n : q / 2 / passes p ≡ c = cc in
         omega arith
@@ -143,41 +154,57 @@ module _ (p : Program) (formed : Formed p) (fit : MasksFit p.cases p.masks) (h :
     pub halt : e.next ≢ halt_of p h
     pub access : IsCalm h e.access
 
-  pub not-reports : (d g : ℕ) (e : Entry) → d < case_count p → g < harts p → IsCalm h e.access → writes_in (verdict_at d g) 8 e.access ≡ false
-  not-reports d g e l m s = let f = formed.program.cases.count in let k = (formed-sizes formed).harts in writes-off h (verdict_at d g) 8 e.access (inl (verdict-low d g h (omega arith) (omega arith))) s
+  pub not-reports : (d g : ℕ) (e : Entry) → d < case_count p → g < harts p → IsCalm h e.access
+      → writes_in (verdict_at d g) 8 e.access ≡ false
+  not-reports d g e l m s = let f = formed.program.cases.count in let k = (formed-sizes formed).harts in
+      writes-off h (verdict_at d g) 8 e.access (inl (verdict-low d g h (omega arith) (omega arith))) s
 
   pub not-signals : (e : Entry) → IsCalm h e.access → signals_in h e ≡ false
   not-signals e s = flag-off h h e.access (flag-low h h low) s
 
   not-shared : (e : Entry) → IsCalm h e.access → writes_shared p e.access ≡ false
-  not-shared e s = any-none (λ w. writes_in (window_at w.number) (w.lines * p.cases.line) e.access) p.cases.windows (λ w. writes-off h (window_at w.number) (w.lines * p.cases.line) e.access (inr (let m = window-high w.number in let k = private-low h low in omega arith)) s)
+  not-shared e s = any-none (λ w. writes_in (window_at w.number) (w.lines * p.cases.line) e.access) p.cases.windows
+      (λ w. writes-off h (window_at w.number) (w.lines * p.cases.line) e.access (inr (let m = window-high w.number in
+      let k = private-low h low in omega arith)) s)
 
   may-own : (q b : ℕ) → private_at h ≤ b → b < private_at h + private_size → may_write p q h b ≡ true
   may-own q b l m =
       or-right (is_flag h b) (is_verdict p h b || (is_private h b || (is_window b && may_write_window p q h b)))
       (or-right (is_verdict p h b) (is_private h b || (is_window b && may_write_window p q h b))
-      (or-left (is_private h b) (is_window b && may_write_window p q h b) (within-true (private_at h) private_size b l m)))
+      (or-left (is_private h b) (is_window b && may_write_window p q h b)
+      (within-true (private_at h) private_size b l m)))
 
-  writes-own : (q : ℕ) (x : Access) → IsCalm h x → Writes (λ b. IsTrue (may_write p q h b) × (q % 2 ≡ 1 → IsFalse (is_declared p.cases b))) x
+  writes-own : (q : ℕ) (x : Access) → IsCalm h x → Writes (λ b. IsTrue (may_write p q h b)
+      × (q % 2 ≡ 1 → IsFalse (is_declared p.cases b))) x
   writes-own q Quiet u = tt
   writes-own q (Read addr width v) u = tt
   writes-own q (Write addr width v) u = λ i l.
       let w = u.0 in
-      let m = u.1 in
-      (may-own q (addr + i) (omega arith) (omega arith), λ _. undeclared p (addr + i) (let k = private-low h low in omega arith))
+      let m = u.1 in (
+        may-own q (addr + i) (omega arith) (omega arith),
+        λ _. undeclared p (addr + i) (let k = private-low h low in
+            omega arith),
+      )
 
-  -- an entry with a calm access that is neither at the exit mark nor comes to halt, where it enters a stream as it should
+  -- an entry with a calm access that is neither at the exit mark nor comes to halt, where it enters a stream as it
+  -- should
   pub mild-fact : (past : List Entry) (e : Entry) → Mild e → any (signals_in h) (now_in exit past) ≡ false
-      → ((c : ℕ) (stream : Stream) → stream_in p.cases c h ≡ Some stream → IsTrue (comes_to p h (Enter c) e.pc e.next) → (r : ℕ) → 1 ≤ r → r < 32 → e.regs r ≡ slice_index stream.regs r) → Fact p h past e
+      → ((c : ℕ) (stream : Stream) → stream_in p.cases c h ≡ Some stream → IsTrue (comes_to p h (Enter c) e.pc e.next)
+      → (r : ℕ) → 1 ≤ r → r < 32 → e.regs r ≡ slice_index stream.regs r) → Fact p h past e
   mild-fact past e s silent enters = record {
     fresh = enters;
     behind = λ c l g. s.from;
     verdict = λ c g l m f. no (not-reports c g e l m s.access) f;
-    exact = λ c m v f g. no (not-reports c h e (let n = get-short p.masks.cases c m f in omega (arith, fit.count)) number s.access) (ap (writes_in (verdict_at c h) 8) g ∙ covers (verdict_at c h) v);
+    exact = λ c m v f g. no (not-reports c h e (let n = get-short p.masks.cases c m f in
+        omega (arith, fit.count)) number s.access) (ap (writes_in (verdict_at c h) 8) g ∙ covers (verdict_at c h) v);
     halt = λ z. absurd (s.halt z);
     halted = λ z. absurd (s.halt z);
     writes = λ _. writes-own (phase_in exit past) e.access s.access;
-    barrier = record { signal = λ z. no (not-signals e s.access) z; still = λ z. no silent z; leave = λ z. absurd (s.from z) };
+    barrier = record {
+      signal = λ z. no (not-signals e s.access) z;
+      still = λ z. no silent z;
+      leave = λ z. absurd (s.from z);
+    };
     collects = gathers (round_before p (phase_in exit past)) refl;
     sets = λ z. no (not-signals e s.access) z;
   }
@@ -188,46 +215,57 @@ module _ (p : Program) (formed : Formed p) (fit : MasksFit p.cases p.masks) (h :
       gathers : (o : Option ℕ) → round_before p (phase_in exit past) ≡ o → IfSome o (λ c. Gathering p h past e)
       gathers None f = tt
       gathers (Some c) f = record {
-        once = λ k d l z. no (reads-off h (slice_index_or (owned p.cases h) k d) e.access (owned-above p h k d l) s.access) z;
+        once = λ k d l z. no (reads-off h (slice_index_or (owned p.cases h) k d) e.access (owned-above p h k d l)
+            s.access) z;
         before_writes = λ z. no (not-shared e s.access) z;
         before_exit = λ z. absurd (s.from z);
       }
 
-  pub calm-fact : (past : List Entry) (e : Entry) → Still e → any (signals_in h) (now_in exit past) ≡ false → Fact p h past e
+  pub calm-fact : (past : List Entry) (e : Entry) → Still e → any (signals_in h) (now_in exit past) ≡ false
+      → Fact p h past e
   calm-fact past e s silent =
       mild-fact past e (record { from = s.from; halt = s.halt; access = s.access }) silent
-      (λ c stream f g. let r = case-of p.cases c h stream f in absurd (s.start c (get-short p.cases.cases c r.0 r.1) (eqb-true e.next (start_of p h c) (and-left _ _ g))))
+      (λ c stream f g. let r = case-of p.cases c h stream f in
+      absurd (s.start c (get-short p.cases.cases c r.0 r.1) (eqb-true e.next (start_of p h c) (and-left _ _ g))))
 
   -- ---- what a calm entry leaves
 
   pub phase-stays : (past : List Entry) (e : Entry) → e.pc ≢ exit → phase_in exit (e ∷ past) ≡ phase_in exit past
-  phase-stays past e n = ap (λ (b : Bool). if b then suc (phase_in exit past) else phase_in exit past) (ne_eqb e.pc exit n)
+  phase-stays past e n = ap (λ (b : Bool). if b then suc (phase_in exit past) else phase_in exit past)
+      (ne_eqb e.pc exit n)
 
   pub now-stays : (past : List Entry) (e : Entry) → e.pc ≢ exit → now_in exit (e ∷ past) ≡ e ∷ now_in exit past
   now-stays past e n =
       ap (λ (q : ℕ). steps_in exit q (e ∷ past)) (phase-stays past e n)
-      ∙ ap (λ (b : Bool). if b then e ∷ steps_in exit (phase_in exit past) past else steps_in exit (phase_in exit past) past) (eq-eqb (phase_in exit past) (phase_in exit past) refl)
+      ∙ ap (λ (b : Bool). if b then e ∷ steps_in exit (phase_in exit past) past
+      else steps_in exit (phase_in exit past) past) (eq-eqb (phase_in exit past) (phase_in exit past) refl)
 
   outside-more : (o : Option ℕ) (n : ℕ) → one_outside o n ≤ suc n
   outside-more None n = omega arith
   outside-more (Some c) n = omega arith
 
   -- at most one step of work more, in the phase that the hart is in
-  pub work-more : (r : ℕ) (past : List Entry) (e : Entry) → work_in p h r (e ∷ past) ≤ (if phase_in exit past == r then suc (work_in p h r past) else work_in p h r past)
+  pub work-more : (r : ℕ) (past : List Entry) (e : Entry)
+      → work_in p h r (e ∷ past) ≤ (if phase_in exit past == r then suc (work_in p h r past) else work_in p h r past)
   work-more r past e = by (lately_at p h 4 (e ∷ past)) (phase_in exit past == r)
     where
-      by : (a b : Bool) → (if a then work_in p h r past else (if b then one_outside (stream_at p h e.pc) (work_in p h r past) else work_in p h r past)) ≤ (if b then suc (work_in p h r past) else work_in p h r past)
+      by : (a b : Bool)
+          → (if a then work_in p h r past else (if b then one_outside (stream_at p h e.pc) (work_in p h r past)
+          else work_in p h r past)) ≤ (if b then suc (work_in p h r past) else work_in p h r past)
       by true true = omega arith
       by true false = omega arith
       by false true = outside-more (stream_at p h e.pc) (work_in p h r past)
       by false false = omega arith
 
   module _ (limit : ℕ → ℕ) where
-    pub steady-one : (q c o : ℕ) (ms : List Mark) (past : List Entry) (e : Entry) → c ≤ case_count p → Still e → arrivals p h e.pc e.next ≡ [] → suc o ≤ limit q → Steady p h limit q c o ms past → Steady p h limit q c (suc o) ms (e ∷ past)
+    pub steady-one : (q c o : ℕ) (ms : List Mark) (past : List Entry) (e : Entry) → c ≤ case_count p → Still e
+        → arrivals p h e.pc e.next ≡ [] → suc o ≤ limit q → Steady p h limit q c o ms past
+        → Steady p h limit q c (suc o) ms (e ∷ past)
     steady-one q c o ms past e l s mark room a = record {
       phase = phase-stays past e s.from ∙ a.phase;
       way = whole ∙ a.way;
-      silent = ap (any (signals_in h)) (now-stays past e s.from) ∙ ap₂ (λ (x y : Bool). x || y) (not-signals e s.access) a.silent;
+      silent = ap (any (signals_in h)) (now-stays past e s.from) ∙ ap₂ (λ (x y : Bool). x || y) (not-signals e s.access)
+          a.silent;
       judged = λ d m. or-right (reports d h e) (any (reports d h) past) (a.judged d m);
       unjudged = λ d m n. ap₂ (λ (x y : Bool). x || y) (not-reports d h e n number s.access) (a.unjudged d m n);
       few = here q (phase_in exit past == q) (eq-eqb (phase_in exit past) q a.phase);
@@ -242,13 +280,20 @@ module _ (p : Program) (formed : Formed p) (fit : MasksFit p.cases p.masks) (h :
         whole = ap (λ (w : List Mark). trail (arrivals p h) past ++ w) mark ∙ append-nil (trail (arrivals p h) past)
 
         here : (r : ℕ) (b : Bool) → (phase_in exit past == q) ≡ true → work_in p h q (e ∷ past) ≤ suc o
-        here r b f = let m = subst (λ (x : Bool). work_in p h q (e ∷ past) ≤ (if x then suc (work_in p h q past) else work_in p h q past)) f (work-more q past e) in omega (arith, m, a.few)
+        here r b f = let m =
+            subst (λ (x : Bool). work_in p h q (e ∷ past)
+            ≤ (if x then suc (work_in p h q past) else work_in p h q past)) f (work-more q past e) in
+            omega (arith, m, a.few)
 
         each : (r : ℕ) (b : Bool) → (phase_in exit past == r) ≡ b → work_in p h r (e ∷ past) ≤ limit r
         each r true f =
             let same : q ≡ r = sym a.phase ∙ eqb-true (phase_in exit past) r f in
-            subst (λ (x : ℕ). work_in p h x (e ∷ past) ≤ limit x) same (let m = here q true (eq-eqb (phase_in exit past) q a.phase) in omega arith)
-        each r false f = let m = subst (λ (x : Bool). work_in p h r (e ∷ past) ≤ (if x then suc (work_in p h r past) else work_in p h r past)) f (work-more r past e) in omega (arith, m, a.told.pace r)
+            subst (λ (x : ℕ). work_in p h x (e ∷ past) ≤ limit x) same
+            (let m = here q true (eq-eqb (phase_in exit past) q a.phase) in omega arith)
+        each r false f = let m =
+            subst (λ (x : Bool). work_in p h r (e ∷ past)
+            ≤ (if x then suc (work_in p h r past) else work_in p h r past)) f (work-more r past e) in
+            omega (arith, m, a.told.pace r)
 
     -- ---- a calm part
 
@@ -272,15 +317,21 @@ module _ (p : Program) (formed : Formed p) (fit : MasksFit p.cases p.masks) (h :
         access = d.access;
       }
         where
-          starts : (c : ℕ) → c < case_count p → e.next ≡ start_of p h c → (hi < start_of p h c) ⊎ (end_of p h c ≤ lo) → ⊥
+          starts : (c : ℕ) → c < case_count p → e.next ≡ start_of p h c → (hi < start_of p h c) ⊎ (end_of p h c ≤ lo)
+              → ⊥
           starts c l z (inl x) = omega (arith, z, d.most)
           starts c l z (inr x) = omega (arith, z, d.least, clear.some c l)
 
-      pub steady-part : (q c o n : ℕ) (ms : List Mark) (es past : List Entry) → c ≤ case_count p → length es ≤ n → o + n ≤ limit q → Each (Does lo hi (IsCalm h)) es → Steady p h limit q c o ms past → Steady p h limit q c (o + length es) ms (es ++ past)
-      steady-part q c o n ms [] past l few room each a = let e : o ≡ o + 0 = omega arith in subst (λ (k : ℕ). Steady p h limit q c k ms past) e a
+      pub steady-part : (q c o n : ℕ) (ms : List Mark) (es past : List Entry) → c ≤ case_count p → length es ≤ n
+          → o + n ≤ limit q → Each (Does lo hi (IsCalm h)) es → Steady p h limit q c o ms past
+          → Steady p h limit q c (o + length es) ms (es ++ past)
+      steady-part q c o n ms [] past l few room each a = let e : o ≡ o + 0 = omega arith in
+          subst (λ (k : ℕ). Steady p h limit q c k ms past) e a
       steady-part q c o n ms (e ∷ es) past l few room each a =
           let before = steady-part q c o n ms es past l (omega arith) room each.1 a in
           let k : suc (o + length es) ≡ o + suc (length es) = omega arith in
           let d = each.0 in
           subst (λ (k : ℕ). Steady p h limit q c k ms (e ∷ es ++ past)) k
-          (steady-one q c (o + length es) ms (es ++ past) e l (still-of e d) (arrivals-none p h e.pc e.next (unmarked e d) (apart exit e d clear.exit).1 (apart (halt_of p h) e d clear.halt).1) (omega arith) before)
+          (steady-one q c (o + length es) ms (es ++ past) e l (still-of e d)
+          (arrivals-none p h e.pc e.next (unmarked e d) (apart exit e d clear.exit).1
+          (apart (halt_of p h) e d clear.halt).1) (omega arith) before)

@@ -16,10 +16,20 @@ module _ (p : Program) (base : ℕ → ℕ) (head : ℕ → ℕ → ℕ) (s : Sp
 
   -- the streams of two cases
   after-case : (c d : ℕ) → c < d → d < case_count p → end_of p h c < start_of p h d
-  after-case c d l m = omega (arith, s.end h c number (omega arith), up (suc c) d (omega arith) (omega arith), s.start h d number m)
+  after-case c d l m = omega (
+    arith,
+    s.end h c number (omega arith),
+    up (suc c) d (omega arith) (omega arith),
+    s.start h d number m,
+  )
 
   before-halt : (c : ℕ) → c < case_count p → end_of p h c < halt_of p h
-  before-halt c l = omega (arith, s.end h c number l, up (suc c) (case_count p) (omega arith) (omega arith), s.halt h number)
+  before-halt c l = omega (
+    arith,
+    s.end h c number l,
+    up (suc c) (case_count p) (omega arith) (omega arith),
+    s.halt h number,
+  )
 
   pub stream-clear : (c : ℕ) → c < case_count p → StreamClear p h c
   stream-clear c l = record {
@@ -30,7 +40,8 @@ module _ (p : Program) (base : ℕ → ℕ) (head : ℕ → ℕ → ℕ) (s : Sp
     halt = inr (before-halt c l);
   }
     where
-      by : (d : ℕ) → d < case_count p → d ≢ c → (d < c) ⊎ (c ≤ d) → (end_of p h c < start_of p h d) ⊎ (end_of p h d < start_of p h c)
+      by : (d : ℕ) → d < case_count p → d ≢ c → (d < c) ⊎ (c ≤ d) → (end_of p h c < start_of p h d)
+          ⊎ (end_of p h d < start_of p h c)
       by d m n (inl x) = inr (after-case d c x l)
       by d m n (inr x) = inl (after-case c d (omega arith) m)
 
@@ -78,4 +89,8 @@ module _ (p : Program) (base : ℕ → ℕ) (head : ℕ → ℕ → ℕ) (s : Sp
   }
 
   pub halts : (at : Places) → at.head (case_count p) ≡ head h (case_count p) → text_base ≢ halt_of p h → Halts p h at
-  halts at e entry = record { place = e ∙ sym (s.halt h number); outside = λ c l. (all-apart p base head s).halted h c number l; entry = entry }
+  halts at e entry = record {
+    place = e ∙ sym (s.halt h number);
+    outside = λ c l. (all-apart p base head s).halted h c number l;
+    entry = entry;
+  }

@@ -1,5 +1,7 @@
 -- A calm part whose last step leads to another place, at which there is no mark.
-use Rattle.std.proofs.Common.{◌≡◌, ◌≢◌, ◌⊎◌, inl, inr, ℕ, suc, ◌+◌, ◌<◌, ◌≤◌, Bool, true, false, ◌&&◌, not, ◌==◌, List, [], ◌∷◌, ◌++◌, length, Option, None, Some, refl, sym, ap, ap₂, ◌∙◌, subst, arith, length-append}
+use Rattle.std.proofs.Common.{◌≡◌, ◌≢◌, ◌⊎◌, inl, inr, ℕ, suc, ◌+◌, ◌<◌, ◌≤◌, Bool, true, false, ◌&&◌, not, ◌==◌}
+use Rattle.std.proofs.Common.{List, [], ◌∷◌, ◌++◌, length, Option, None, Some, refl, sym, ap, ap₂, ◌∙◌, subst, arith}
+use Rattle.std.proofs.Common.{length-append}
 use Rattle.std.specs.Prelude.{slice_index, slice_index_or, IfSome, if◌then◌else◌}
 use Rattle.tm_plan_cases.specs.declared.program.Program.{Program}
 use Rattle.tm_plan_map.specs.Map.{windows_base}
@@ -27,11 +29,16 @@ use Rattle.tm_runs.proofs.Ahead.{Small, takes_told, world-low}
 use Rattle.tm_pass_way.proofs.Calm.{Still, steady-part, steady-one, now-stays, owned-above}
 use Rattle.tm_pass_way.proofs.Lift.{told-drop, left-same, read-same, got-low, or-none, none-either, gathered-more}
 
-module _ (p : Program) (formed : Formed p) (fit : MasksFit p.cases p.masks) (h : ℕ) (number : h < harts p) (limit : ℕ → ℕ) (lo hi place : ℕ) (clear : Clear p h lo hi) (off : hi ≢ exit_of p h) (some : lo ≤ hi) (beyond : (d : ℕ) → d < case_count p → (hi < start_of p h d) ⊎ (end_of p h d ≤ hi)) (starts : (d : ℕ) → d < case_count p → place ≢ start_of p h d) (halts : place ≢ halt_of p h) (marks : arrivals p h hi place ≡ []) (q c o n : ℕ) (ms : List Mark) (few : c ≤ case_count p) (room : o + n ≤ limit q) where
+module _ (p : Program) (formed : Formed p) (fit : MasksFit p.cases p.masks) (h : ℕ) (number : h < harts p) (limit : ℕ
+    → ℕ) (lo hi place : ℕ) (clear : Clear p h lo hi) (off : hi ≢ exit_of p h) (some : lo ≤ hi) (beyond : (d : ℕ)
+    → d < case_count p → (hi < start_of p h d) ⊎ (end_of p h d ≤ hi)) (starts : (d : ℕ) → d < case_count p
+    → place ≢ start_of p h d) (halts : place ≢ halt_of p h) (marks : arrivals p h hi place
+    ≡ []) (q c o n : ℕ) (ms : List Mark) (few : c ≤ case_count p) (room : o + n ≤ limit q) where
   abbrev exit : ℕ
   exit = exit_of p h
 
-  module _ (s t : State) (ready : Ready p h lo q c o ms s) (told : Told p h limit s.log) (a : HopsTo p h lo hi place s t) (short : length t.log ≤ length s.log + n) where
+  module _ (s t : State) (ready : Ready p h lo q c o ms s) (told : Told p h limit s.log)
+      (a : HopsTo p h lo hi place s t) (short : length t.log ≤ length s.log + n) where
     hold : Hold p h lo q c o ms s
     hold = ready.hold
 
@@ -39,13 +46,28 @@ module _ (p : Program) (formed : Formed p) (fit : MasksFit p.cases p.masks) (h :
     lengths = omega (arith, ap length a.log, length-append a.entries s.log)
 
     still : Still p formed fit h number a.last
-    still = record { from = λ z. off (sym a.from ∙ z); start = λ d l z. starts d l (sym a.to ∙ z); halt = λ z. halts (sym a.to ∙ z); access = a.access }
+    still = record {
+      from = λ z. off (sym a.from ∙ z);
+      start = λ d l z. starts d l (sym a.to ∙ z);
+      halt = λ z. halts (sym a.to ∙ z);
+      access = a.access;
+    }
 
     steady : Steady p h limit q c (suc (o + length a.entries)) ms t.log
     steady =
-        let before = steady-part p formed fit h number limit lo hi clear q c o (length a.entries) ms a.entries s.log few (omega arith) (let l = lengths in omega arith) a.each (record { phase = hold.phase; way = hold.way; silent = hold.silent; judged = hold.judged; unjudged = hold.unjudged; few = hold.few; told = told }) in
+        let before = steady-part p formed fit h number limit lo hi clear q c o (length a.entries) ms a.entries s.log few
+        (omega arith) (let l = lengths in omega arith) a.each (record {
+          phase = hold.phase;
+          way = hold.way;
+          silent = hold.silent;
+          judged = hold.judged;
+          unjudged = hold.unjudged;
+          few = hold.few;
+          told = told;
+        }) in
         subst (λ (l : List Entry). Steady p h limit q c (suc (o + length a.entries)) ms l) (sym a.log)
-        (steady-one p formed fit h number limit q c (o + length a.entries) ms (a.entries ++ s.log) a.last few still (ap₂ (arrivals p h) a.from a.to ∙ marks) (let l = lengths in omega arith) before)
+        (steady-one p formed fit h number limit q c (o + length a.entries) ms (a.entries ++ s.log) a.last few still
+        (ap₂ (arrivals p h) a.from a.to ∙ marks) (let l = lengths in omega arith) before)
 
     outside : (d : ℕ) → d < case_count p → inside p h d a.last.pc ≡ false
     outside d l = inside-false p h d a.last.pc (by (beyond d l))
@@ -58,14 +80,23 @@ module _ (p : Program) (formed : Formed p) (fit : MasksFit p.cases p.masks) (h :
     recalls = record {
       left = λ d r l.
           ap (left_in p h d r) a.log
-          ∙ (ap (λ (b : Bool). or_else (left_in p h d r (a.entries ++ s.log)) (if (phase_in exit (a.entries ++ s.log) == r) && (b && not (inside p h d a.last.next)) then Some a.last.regs else None)) (outside d l)
-          ∙ (ap (λ (o : Option Table). or_else (left_in p h d r (a.entries ++ s.log)) o) (none-and (phase_in exit (a.entries ++ s.log) == r)) ∙ (or-none (left_in p h d r (a.entries ++ s.log)) ∙ left-same p formed fit h number limit lo hi clear d r l a.entries s.log a.each)));
+          ∙ (ap (λ (b : Bool). or_else (left_in p h d r (a.entries ++ s.log))
+          (if (phase_in exit (a.entries ++ s.log) == r) && (b && not (inside p h d a.last.next))
+          then Some a.last.regs else None)) (outside d l)
+          ∙ (ap (λ (o : Option Table). or_else (left_in p h d r (a.entries ++ s.log)) o)
+          (none-and (phase_in exit (a.entries ++ s.log) == r)) ∙
+          (or-none (left_in p h d r (a.entries ++ s.log)) ∙ left-same p formed fit h number limit lo hi clear d r l
+          a.entries s.log a.each)));
       read = λ r j i l m.
           let b = slice_index (owned p.cases h) j + i in
           let high : windows_base ≤ b = let z = owned-above p h j 0 l in omega arith in
           ap (read_in p h r b) a.log
-          ∙ (ap (λ (o : Option ℕ). or_else (read_in p h r b (a.entries ++ s.log)) (if phase_in exit (a.entries ++ s.log) == r then o else None)) (got-low h a.last.access b high a.access)
-          ∙ (ap (λ (o : Option ℕ). or_else (read_in p h r b (a.entries ++ s.log)) o) (none-either (phase_in exit (a.entries ++ s.log) == r)) ∙ (or-none (read_in p h r b (a.entries ++ s.log)) ∙ read-same p formed fit h number limit lo hi clear r b high a.entries s.log a.each)));
+          ∙ (ap (λ (o : Option ℕ). or_else (read_in p h r b (a.entries ++ s.log)) (if phase_in exit (a.entries ++ s.log)
+          == r then o else None)) (got-low h a.last.access b high a.access)
+          ∙ (ap (λ (o : Option ℕ). or_else (read_in p h r b (a.entries ++ s.log)) o)
+          (none-either (phase_in exit (a.entries ++ s.log) == r)) ∙
+          (or-none (read_in p h r b (a.entries ++ s.log)) ∙ read-same p formed fit h number limit lo hi clear r b
+          high a.entries s.log a.each)));
     }
       where
         none-and : (b : Bool) → ◌≡◌ {A = Option Table} (if b && false then Some a.last.regs else None) None
@@ -91,18 +122,32 @@ module _ (p : Program) (formed : Formed p) (fit : MasksFit p.cases p.masks) (h :
             unjudged = b.unjudged;
             few = let l = lengths in omega (arith, b.few);
           };
-          gathered = subst (λ (l : List Entry). IfSome (round_before p q) (λ d. Gathered p h (now_in exit l))) (sym a.log) (subst (λ (l : List Entry). IfSome (round_before p q) (λ d. Gathered p h l)) (sym now) (one-more (round_before p q) (gathered-more p formed fit h number limit lo hi clear (round_before p q) a.entries s.log a.each ready.gathered)));
+          gathered = subst (λ (l : List Entry). IfSome (round_before p q) (λ d. Gathered p h (now_in exit l)))
+              (sym a.log) (subst (λ (l : List Entry). IfSome (round_before p q) (λ d. Gathered p h l)) (sym now)
+              (one-more (round_before p q) (gathered-more p formed fit h number limit lo hi clear (round_before p q)
+              a.entries s.log a.each ready.gathered)));
         }
       where
-        one-more : (x : Option ℕ) → IfSome x (λ d. Gathered p h (now_in exit (a.entries ++ s.log))) → IfSome x (λ d. Gathered p h (a.last ∷ now_in exit (a.entries ++ s.log)))
+        one-more : (x : Option ℕ) → IfSome x (λ d. Gathered p h (now_in exit (a.entries ++ s.log)))
+            → IfSome x (λ d. Gathered p h (a.last ∷ now_in exit (a.entries ++ s.log)))
         one-more None g = g
-        one-more (Some d) g = λ k e l. or-right (reads_in (slice_index_or (owned p.cases h) k e) 8 a.last.access) (any (λ (x : Entry). reads_in (slice_index_or (owned p.cases h) k e) 8 x.access) (now_in exit (a.entries ++ s.log))) (g k e l)
+        one-more (Some d) g = λ k e l. or-right (reads_in (slice_index_or (owned p.cases h) k e) 8 a.last.access)
+            (any (λ (x : Entry). reads_in (slice_index_or (owned p.cases h) k e) 8 x.access)
+            (now_in exit (a.entries ++ s.log))) (g k e l)
 
   -- So it leaves the way where it was, but for the place.
-  pub hop-part : {Q : State → Type 0} (s : State) → Ready p h lo q c o ms s → Told p h limit s.log → Takes (world_of p h) (λ t. Unit {0}) (λ t. HopsTo p h lo hi place s t × Q t) n s
+  pub hop-part : {Q : State → Type 0} (s : State) → Ready p h lo q c o ms s → Told p h limit s.log
+      → Takes (world_of p h) (λ t. Unit {0}) (λ t. HopsTo p h lo hi place s t × Q t) n s
       → Leads p h limit s (λ t. Q t × Ready p h place q c (o + n) ms t × Recalls p h s t × Told p h limit t.log)
   hop-part s ready told runs =
       keeps_after
-      (takes_map (λ t g. g) (λ t g. (g.0.0.1, there s t ready told g.0.0.0 g.0.1 g.2, recalls s t ready told g.0.0.0 g.0.1, g.1))
-      (takes_told (world_of p h) (world-low p h (formed-sizes formed)) (Told p h limit) (told-drop p h limit) (λ t g. (steady s t ready told g.0.0 g.1).told) (record { regs = ready.hold.regs; mem = ready.hold.mem }) (takes_count runs)))
+      (takes_map (λ t g. g) (λ t g. (
+        g.0.0.1,
+        there s t ready told g.0.0.0 g.0.1 g.2,
+        recalls s t ready told g.0.0.0 g.0.1,
+        g.1,
+      ))
+      (takes_told (world_of p h) (world-low p h (formed-sizes formed)) (Told p h limit) (told-drop p h limit)
+      (λ t g. (steady s t ready told g.0.0 g.1).told) (record { regs = ready.hold.regs; mem = ready.hold.mem })
+      (takes_count runs)))
       (λ t g. keeps_now g)

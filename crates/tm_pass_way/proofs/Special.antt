@@ -1,5 +1,8 @@
--- The two entries of support code that calm parts don't have: the one that enters a stream, and the one that writes a verdict.
-use Rattle.std.proofs.Common.{◌≡◌, ◌≢◌, ◌⊎◌, inl, inr, ℕ, zero, suc, ◌+◌, ◌*◌, ◌%◌, ◌<◌, ◌≤◌, Bool, true, false, true≢false, ◌&&◌, ◌||◌, nat_lt, eqb-true, List, [], ◌∷◌, length, Option, None, Some, refl, sym, ap, ◌∙◌, subst, arith}
+-- The two entries of support code that calm parts don't have: the one that enters a stream, and the one that writes a
+-- verdict.
+use Rattle.std.proofs.Common.{◌≡◌, ◌≢◌, ◌⊎◌, inl, inr, ℕ, zero, suc, ◌+◌, ◌*◌, ◌%◌, ◌<◌, ◌≤◌, Bool, true, false}
+use Rattle.std.proofs.Common.{true≢false, ◌&&◌, ◌||◌, nat_lt, eqb-true, List, [], ◌∷◌, length, Option, None, Some}
+use Rattle.std.proofs.Common.{refl, sym, ap, ◌∙◌, subst, arith}
 use Rattle.std.specs.Prelude.{slice_get, slice_index, slice_index_or, IsTrue, IsFalse, IfSome}
 use Rattle.std.proofs.lemmas.Bool.{cases_lt, cases_eq}
 use Rattle.std.proofs.lemmas.Bool.Decides.{nat_tests}
@@ -11,7 +14,8 @@ use Rattle.tm_plan_map.specs.Map.{verdict_at, flag_at, window_at, windows_base, 
 use Rattle.tm_plan_cases.specs.Collected.{is_declared, owned}
 use Rattle.tm_base.specs.Lists.{any, count_from}
 use Rattle.tm_plan_cases.specs.Shaped.{MasksFit}
-use Rattle.tm_world.specs.Place.{harts, case_count, passes, start_of, end_of, exit_of, halt_of, is_private, is_flag, is_verdict, is_window}
+use Rattle.tm_world.specs.Place.{harts, case_count, passes, start_of, end_of, exit_of, halt_of, is_private, is_flag}
+use Rattle.tm_world.specs.Place.{is_verdict, is_window}
 use Rattle.tm_world.specs.Run.{Writes}
 use Rattle.tm_world.specs.Writers.{may_write, may_write_window, stream_in}
 use Rattle.tm_world.specs.Kinds.{writes_flag}
@@ -53,14 +57,16 @@ any-at f (suc n) a c l m e = by (cases_eq a c) (λ k. any-at f n (suc a) c k (om
 -- ---- verdict cells
 
 -- cells that overlap are one
-pub same-cell : (c d g h : ℕ) → g < 16 → h < 16 → (nat_lt (verdict_at c h) (verdict_at d g + 8) && nat_lt (verdict_at d g) (verdict_at c h + 8)) ≡ true → (d ≡ c) × (g ≡ h)
+pub same-cell : (c d g h : ℕ) → g < 16 → h < 16 → (nat_lt (verdict_at c h) (verdict_at d g + 8)
+    && nat_lt (verdict_at d g) (verdict_at c h + 8)) ≡ true → (d ≡ c) × (g ≡ h)
 unfolding verdict_at
 same-cell c d g h l m e =
     let a : 2160070656 + 8 * (16 * c + h) < 2160070656 + 8 * (16 * d + g) + 8 = grind (arith, nat_tests) in
     let b : 2160070656 + 8 * (16 * d + g) < 2160070656 + 8 * (16 * c + h) + 8 = grind (arith, nat_tests) in
     (omega arith, omega arith)
 
-pub cell-covers : (c h : ℕ) → (nat_lt (verdict_at c h) (verdict_at c h + 8) && nat_lt (verdict_at c h) (verdict_at c h + 8)) ≡ true
+pub cell-covers : (c h : ℕ)
+    → (nat_lt (verdict_at c h) (verdict_at c h + 8) && nat_lt (verdict_at c h) (verdict_at c h + 8)) ≡ true
 cell-covers c h = grind (arith, nat_tests)
 
 cell-low : (c h : ℕ) → c < 32 → h < 16 → verdict_at c h + 8 ≤ windows_base
@@ -81,30 +87,40 @@ module _ (p : Program) (formed : Formed p) (fit : MasksFit p.cases p.masks) (h :
   -- ---- entering
 
   -- An entry that comes to stream c's start with the stream's first registers.
-  pub entering-fact : (past : List Entry) (e : Entry) (c : ℕ) → StreamClear p h c → Mild p formed fit h number e → e.next ≡ start_of p h c
-      → ((stream : Stream) → stream_in p.cases c h ≡ Some stream → (r : ℕ) → 1 ≤ r → r < 32 → e.regs r ≡ slice_index stream.regs r)
+  pub entering-fact : (past : List Entry) (e : Entry) (c : ℕ) → StreamClear p h c → Mild p formed fit h number e
+      → e.next ≡ start_of p h c
+      → ((stream : Stream) → stream_in p.cases c h ≡ Some stream → (r : ℕ) → 1 ≤ r → r < 32
+      → e.regs r ≡ slice_index stream.regs r)
       → any (signals_in h) (now_in exit past) ≡ false → Fact p h past e
-  entering-fact past e c clear mild to fresh silent = mild-fact p formed fit h number past e mild silent (λ d stream f g. by d stream f (eqb-true e.next (start_of p h d) (and-left _ _ g)) (cases_eq d c))
+  entering-fact past e c clear mild to fresh silent =
+      mild-fact p formed fit h number past e mild silent
+      (λ d stream f g. by d stream f (eqb-true e.next (start_of p h d) (and-left _ _ g)) (cases_eq d c))
     where
-      off : (d : ℕ) → d < case_count p → e.next ≡ start_of p h d → (end_of p h c < start_of p h d) ⊎ (end_of p h d < start_of p h c) → ⊥
+      off : (d : ℕ) → d < case_count p → e.next ≡ start_of p h d → (end_of p h c < start_of p h d)
+          ⊎ (end_of p h d < start_of p h c) → ⊥
       off d l z (inl x) = let s = clear.some in omega (arith, z, to)
       off d l z (inr x) = let s = clear.rising d l in omega (arith, z, to)
 
-      by : (d : ℕ) (stream : Stream) → stream_in p.cases d h ≡ Some stream → e.next ≡ start_of p h d → (d ≡ c) ⊎ (d ≡ c → ⊥) → (r : ℕ) → 1 ≤ r → r < 32 → e.regs r ≡ slice_index stream.regs r
+      by : (d : ℕ) (stream : Stream) → stream_in p.cases d h ≡ Some stream → e.next ≡ start_of p h d → (d ≡ c)
+          ⊎ (d ≡ c → ⊥) → (r : ℕ) → 1 ≤ r → r < 32 → e.regs r ≡ slice_index stream.regs r
       by d stream f z (inl x) = fresh stream (ap (λ (k : ℕ). stream_in p.cases k h) (sym x) ∙ f)
-      by d stream f z (inr x) = let r = case-of p.cases d h stream f in let l = get-short p.cases.cases d r.0 r.1 in absurd (off d l z (clear.others d l x))
+      by d stream f z (inr x) = let r = case-of p.cases d h stream f in let l = get-short p.cases.cases d r.0 r.1 in
+          absurd (off d l z (clear.others d l x))
 
   -- ---- the verdict
 
   -- the store of a verdict, in the phase behind the last pass of case c, once all of the pass is collected
-  pub verdict-fact : (past : List Entry) (e : Entry) (c v : ℕ) (m : CaseMask) (mem : Table) → c < case_count p → slice_get p.masks.cases c ≡ Some m
-      → e.access ≡ Write (verdict_at c h) 8 v → e.pc ≢ exit → ((d : ℕ) → d < case_count p → e.next ≢ start_of p h d) → (e.next ≡ halt_of p h → suc c ≡ case_count p)
+  pub verdict-fact : (past : List Entry) (e : Entry) (c v : ℕ) (m : CaseMask) (mem : Table) → c < case_count p
+      → slice_get p.masks.cases c ≡ Some m
+      → e.access ≡ Write (verdict_at c h) 8 v → e.pc ≢ exit → ((d : ℕ) → d < case_count p → e.next ≢ start_of p h d)
+      → (e.next ≡ halt_of p h → suc c ≡ case_count p)
       → phase_in exit past ≡ phase_at p (suc c) 0 → any (signals_in h) (now_in exit past) ≡ false
       → ((d : ℕ) → d < c → any (reports d h) past ≡ true) → any (reports c h) past ≡ false
       → Gathered p h (now_in exit past)
       → ((j : ℕ) → j < passes p → PassTold p h c j past mem) → IsFound p m h mem v → Fact p h past e
   verdict-fact past e c v m mem here mask is from starts halts phase silent judged once gathered told finds = record {
-    fresh = λ d stream f g. let r = case-of p.cases d h stream f in absurd (starts d (get-short p.cases.cases d r.0 r.1) (eqb-true e.next (start_of p h d) (and-left _ _ g)));
+    fresh = λ d stream f g. let r = case-of p.cases d h stream f in
+        absurd (starts d (get-short p.cases.cases d r.0 r.1) (eqb-true e.next (start_of p h d) (and-left _ _ g)));
     behind = λ d l g. absurd (starts d l (eqb-true e.next (start_of p h d) (and-left _ _ g)));
     verdict = λ d g l n f.
         let s = same d g n (sym (ap (writes_in (verdict_at d g) 8) is) ∙ f) in (
@@ -118,14 +134,22 @@ module _ (p : Program) (formed : Formed p) (fit : MasksFit p.cases p.masks) (h :
         );
     exact = λ d n u f g.
         let z : Write (verdict_at c h) 8 v ≡ Write (verdict_at d h) 8 u = sym is ∙ g in
-        let s = same d h number (ap (λ (b : ℕ). nat_lt (verdict_at c h) (b + 8) && nat_lt b (verdict_at c h + 8)) (sym (address z)) ∙ cell-covers c h) in
+        let s = same d h number (ap (λ (b : ℕ). nat_lt (verdict_at c h) (b + 8) && nat_lt b (verdict_at c h + 8))
+        (sym (address z)) ∙ cell-covers c h) in
         let f2 : slice_get p.masks.cases c ≡ Some n = ap (slice_get p.masks.cases) (sym s.0) ∙ f in
         let w : m ≡ n = some-same (sym mask ∙ f2) in
-        subst (λ (x : ℕ). IsVerdictIn p n h x past u) (sym s.0) (subst (λ (x : CaseMask). IsVerdictIn p x h c past u) w (subst (λ (x : ℕ). IsVerdictIn p m h c past x) (value z)
+        subst (λ (x : ℕ). IsVerdictIn p n h x past u) (sym s.0) (subst (λ (x : CaseMask). IsVerdictIn p x h c past u) w
+        (subst (λ (x : ℕ). IsVerdictIn p m h c past x) (value z)
         (found-verdict p h c m past mem (let k = formed.program.cases.passes.0 in omega arith) told v finds)));
     halt = λ z d l. by-halt d l (halts z) (cases_lt d c);
-    halted = λ z. subst (λ (es : List Entry). IfSome (round_before p (phase_in exit (e ∷ past))) (λ d. Gathered p h es)) (sym (now-stays p formed fit h number past e from)) (all-more (round_before p (phase_in exit (e ∷ past))));
-    writes = λ _. subst (Writes (λ b. IsTrue (may_write p (phase_in exit past) h b) × (phase_in exit past % 2 ≡ 1 → IsFalse (is_declared p.cases b)))) (sym is) (λ i l. (may-verdict (phase_in exit past) i l, λ _. undeclared p (verdict_at c h + i) (omega (arith, low-cell))));
+    halted = λ z. subst (λ (es : List Entry). IfSome (round_before p (phase_in exit (e ∷ past))) (λ d. Gathered p h es))
+        (sym (now-stays p formed fit h number past e from)) (all-more (round_before p (phase_in exit (e ∷ past))));
+    writes = λ _. subst (Writes (λ b. IsTrue (may_write p (phase_in exit past) h b)
+        × (phase_in exit past % 2 ≡ 1 → IsFalse (is_declared p.cases b)))) (sym is)
+        (λ i l. (
+          may-verdict (phase_in exit past) i l,
+          λ _. undeclared p (verdict_at c h + i) (omega (arith, low-cell)),
+        ));
     barrier = record { signal = λ z. no not-flag z; still = λ z. no silent z; leave = λ z. absurd (from z) };
     collects = gathers (round_before p (phase_in exit past));
     sets = λ z. no not-flag z;
@@ -137,7 +161,8 @@ module _ (p : Program) (formed : Formed p) (fit : MasksFit p.cases p.masks) (h :
       low-cell : verdict_at c h + 8 ≤ windows_base
       low-cell = cell-low c h few.0 few.1
 
-      same : (d g : ℕ) → g < harts p → (nat_lt (verdict_at c h) (verdict_at d g + 8) && nat_lt (verdict_at d g) (verdict_at c h + 8)) ≡ true → (d ≡ c) × (g ≡ h)
+      same : (d g : ℕ) → g < harts p → (nat_lt (verdict_at c h) (verdict_at d g + 8)
+          && nat_lt (verdict_at d g) (verdict_at c h + 8)) ≡ true → (d ≡ c) × (g ≡ h)
       same d g n f = let b = (formed-sizes formed).harts in same-cell c d g h (omega arith) (omega arith) f
 
       some-same : {a b : CaseMask} → Some a ≡ Some b → a ≡ b
@@ -154,24 +179,35 @@ module _ (p : Program) (formed : Formed p) (fit : MasksFit p.cases p.masks) (h :
 
       may-verdict : (q i : ℕ) → i < 8 → may_write p q h (verdict_at c h + i) ≡ true
       may-verdict q i l =
-          or-right (is_flag h (verdict_at c h + i)) (is_verdict p h (verdict_at c h + i) || (is_private h (verdict_at c h + i) || (is_window (verdict_at c h + i) && may_write_window p q h (verdict_at c h + i))))
-          (ap (λ (b : Bool). b || (is_private h (verdict_at c h + i) || (is_window (verdict_at c h + i) && may_write_window p q h (verdict_at c h + i)))) (any-at (λ d. within (verdict_at d h) 8 (verdict_at c h + i)) (case_count p) 0 c (omega arith) (omega arith) (within-true (verdict_at c h) 8 (verdict_at c h + i) (omega arith) (omega arith))))
+          or-right (is_flag h (verdict_at c h + i)) (is_verdict p h (verdict_at c h + i)
+          || (is_private h (verdict_at c h + i)
+          || (is_window (verdict_at c h + i) && may_write_window p q h (verdict_at c h + i))))
+          (ap (λ (b : Bool). b || (is_private h (verdict_at c h + i)
+          || (is_window (verdict_at c h + i) && may_write_window p q h (verdict_at c h + i))))
+          (any-at (λ d. within (verdict_at d h) 8 (verdict_at c h + i)) (case_count p) 0 c (omega arith)
+          (omega arith) (within-true (verdict_at c h) 8 (verdict_at c h + i) (omega arith) (omega arith))))
 
-      by-halt : (d : ℕ) → d < case_count p → suc c ≡ case_count p → (d < c) ⊎ (c ≤ d) → any (reports d h) (e ∷ past) ≡ true
+      by-halt : (d : ℕ) → d < case_count p → suc c ≡ case_count p → (d < c) ⊎ (c ≤ d) → any (reports d h) (e ∷ past)
+          ≡ true
       by-halt d l z (inl x) = or-right (reports d h e) (any (reports d h) past) (judged d x)
       by-halt d l z (inr x) =
           let s : c ≡ d = omega arith in
-          subst (λ (k : ℕ). any (reports k h) (e ∷ past) ≡ true) s (ap (λ (b : Bool). b || any (reports c h) past) (ap (writes_in (verdict_at c h) 8) is ∙ cell-covers c h))
+          subst (λ (k : ℕ). any (reports k h) (e ∷ past) ≡ true) s
+          (ap (λ (b : Bool). b || any (reports c h) past) (ap (writes_in (verdict_at c h) 8) is ∙ cell-covers c h))
 
       not-read : (a : ℕ) → reads_in a 8 e.access ≡ false
       not-read a = ap (reads_in a 8) is
 
       not-shared : writes_shared p e.access ≡ false
-      not-shared = ap (writes_shared p) is ∙ any-none (λ w. writes_in (window_at w.number) (w.lines * p.cases.line) (Write (verdict_at c h) 8 v)) p.cases.windows (λ w. let k = window-high w.number in let n = low-cell in grind (arith, nat_tests))
+      not-shared = ap (writes_shared p) is ∙ any-none
+          (λ w. writes_in (window_at w.number) (w.lines * p.cases.line) (Write (verdict_at c h) 8 v)) p.cases.windows
+          (λ w. let k = window-high w.number in let n = low-cell in grind (arith, nat_tests))
 
       all-more : (o : Option ℕ) → IfSome o (λ d. Gathered p h (e ∷ now_in exit past))
       all-more None = tt
-      all-more (Some d) = λ k x l. or-right (reads_in (slice_index_or (owned p.cases h) k x) 8 e.access) (any (λ (t : Entry). reads_in (slice_index_or (owned p.cases h) k x) 8 t.access) (now_in exit past)) (gathered k x l)
+      all-more (Some d) = λ k x l. or-right (reads_in (slice_index_or (owned p.cases h) k x) 8 e.access)
+          (any (λ (t : Entry). reads_in (slice_index_or (owned p.cases h) k x) 8 t.access) (now_in exit past))
+          (gathered k x l)
 
       gathers : (o : Option ℕ) → IfSome o (λ d. Gathering p h past e)
       gathers None = tt

@@ -1,5 +1,7 @@
 -- A stay in a stream tells what it should.
-use Rattle.std.proofs.Common.{◌≡◌, ◌≢◌, ◌⊎◌, inl, inr, ℕ, zero, suc, ◌+◌, ◌<◌, ◌≤◌, Bool, true, false, true≢false, ◌&&◌, not, ◌==◌, eqb-true, List, [], ◌∷◌, length, Option, None, Some, refl, sym, ap, ◌∙◌, subst, arith}
+use Rattle.std.proofs.Common.{◌≡◌, ◌≢◌, ◌⊎◌, inl, inr, ℕ, zero, suc, ◌+◌, ◌<◌, ◌≤◌, Bool, true, false, true≢false}
+use Rattle.std.proofs.Common.{◌&&◌, not, ◌==◌, eqb-true, List, [], ◌∷◌, length, Option, None, Some, refl, sym, ap}
+use Rattle.std.proofs.Common.{◌∙◌, subst, arith}
 use Rattle.std.specs.Prelude.{slice_get, IsTrue, IfSome, if◌then◌else◌}
 use Rattle.std.proofs.lemmas.Bool.{cases_eq}
 use Rattle.std.proofs.lemmas.Bool.Decides.{nat_tests}
@@ -16,7 +18,8 @@ use Rattle.tm_world.specs.Marks.{Enter, End, comes_to, arrivals}
 use Rattle.tm_world.specs.Course.{writes_in, round_before}
 use Rattle.tm_runs.specs.Machine.{World, State, Entry, Strays, StreamAccess}
 use Rattle.tm_runs.specs.World.{world_of, bounds, bounds_at}
-use Rattle.tm_runs.proofs.Arrivals.{Quiet as Unmarked, quiet-off, quiet-in, ends, arrivals-none, arrivals-end, stream-some, inside-true, inside-false}
+use Rattle.tm_runs.proofs.Arrivals.{Quiet as Unmarked, quiet-off, quiet-in, ends, arrivals-none, arrivals-end}
+use Rattle.tm_runs.proofs.Arrivals.{stream-some, inside-true, inside-false}
 use Rattle.tm_runs.proofs.Places.{within-parts}
 use Rattle.tm_legal.proofs.Formed.{formed-sizes}
 use Rattle.tm_legal.specs.Tame.{Formed}
@@ -58,7 +61,8 @@ private-below h m = omega arith
 window-above : (b : ℕ) → is_window b ≡ true → windows_base ≤ b
 window-above b e = (within-parts windows_base windows_size b e).0
 
-module _ (p : Program) (formed : Formed p) (fit : MasksFit p.cases p.masks) (h : ℕ) (number : h < harts p) (limit : ℕ → ℕ) (c : ℕ) (here : c < case_count p) (clear : StreamClear p h c) where
+module _ (p : Program) (formed : Formed p) (fit : MasksFit p.cases p.masks) (h : ℕ) (number : h < harts p) (limit : ℕ
+    → ℕ) (c : ℕ) (here : c < case_count p) (clear : StreamClear p h c) where
   abbrev w : World
   w = world_of p h
 
@@ -75,7 +79,8 @@ module _ (p : Program) (formed : Formed p) (fit : MasksFit p.cases p.masks) (h :
   low = let s = (formed-sizes formed).harts in omega arith
 
   pub held : (a : ℕ) → lo ≤ a → a < hi → stream_at p h a ≡ Some c
-  held a l m = stream-some p h c a here (inside-true p h c a l m) (λ d n. inside-false p h d a (by d (clear.others d (omega arith) (λ z. omega arith))))
+  held a l m = stream-some p h c a here (inside-true p h c a l m)
+      (λ d n. inside-false p h d a (by d (clear.others d (omega arith) (λ z. omega arith))))
     where
       by : (d : ℕ) → (hi < start_of p h d) ⊎ (end_of p h d < lo) → (a < start_of p h d) ⊎ (end_of p h d ≤ a)
       by d (inl x) = inl (omega arith)
@@ -95,12 +100,19 @@ module _ (p : Program) (formed : Formed p) (fit : MasksFit p.cases p.masks) (h :
     pub access : StreamAccess w e.access
 
   pub strolls : (t u : State) → lo ≤ t.pc → t.pc < hi → (r : Strays w lo hi t u) → Strolls r.entry
-  strolls t u a b r = record { from = omega (arith, r.from); below = omega (arith, r.from); least = omega (arith, r.next, r.least); most = omega (arith, r.next, r.most); access = r.access }
+  strolls t u a b r = record {
+    from = omega (arith, r.from);
+    below = omega (arith, r.from);
+    least = omega (arith, r.next, r.least);
+    most = omega (arith, r.next, r.most);
+    access = r.access;
+  }
 
   not-writes : (a : ℕ) (x : Access) → a + 8 ≤ windows_base → StreamAccess w x → writes_in a 8 x ≡ false
   not-writes a Quiet l s = refl
   not-writes a (Read addr width v) l s = refl
-  not-writes a (Write addr width v) l s = let k : windows_base ≤ addr + 0 = window-above (addr + 0) (s.1 0 (omega (arith, s.0))) in grind (arith, nat_tests)
+  not-writes a (Write addr width v) l s = let k : windows_base ≤ addr + 0 =
+      window-above (addr + 0) (s.1 0 (omega (arith, s.0))) in grind (arith, nat_tests)
 
   pub not-flag : (x : Access) → StreamAccess w x → writes_flag h x ≡ false
   not-flag Quiet s = refl
@@ -110,11 +122,16 @@ module _ (p : Program) (formed : Formed p) (fit : MasksFit p.cases p.masks) (h :
       let f : flag_at h + 8 ≤ windows_base = omega (arith, flag-low h h low, private-below h low) in
       grind (arith, nat_tests)
 
-  pub not-reports : (d g : ℕ) (e : Entry) → d < case_count p → g < harts p → Strolls e → writes_in (verdict_at d g) 8 e.access ≡ false
+  pub not-reports : (d g : ℕ) (e : Entry) → d < case_count p → g < harts p → Strolls e
+      → writes_in (verdict_at d g) 8 e.access ≡ false
   not-reports d g e l m s =
       let f = formed.program.cases.count in
       let k = (formed-sizes formed).harts in
-      not-writes (verdict_at d g) e.access (omega (arith, verdict-low d g h (omega arith) (omega arith), private-below h low)) s.access
+      not-writes (verdict_at d g) e.access (omega (
+        arith,
+        verdict-low d g h (omega arith) (omega arith),
+        private-below h low,
+      )) s.access
 
   pub no-exit : (e : Entry) → Strolls e → (e.pc ≢ exit) × (e.next ≢ exit)
   no-exit e s = by clear.exit
@@ -142,20 +159,28 @@ module _ (p : Program) (formed : Formed p) (fit : MasksFit p.cases p.masks) (h :
 
       by : (d ≡ c) ⊎ (d ≡ c → ⊥) → ⊥
       by (inl x) =
-          let i : inside p h d e.pc ≡ true = subst (λ (k : ℕ). inside p h k e.pc ≡ true) (sym x) (inside-true p h c e.pc s.from s.below) in
+          let i : inside p h d e.pc ≡ true = subst (λ (k : ℕ). inside p h k e.pc
+          ≡ true) (sym x) (inside-true p h c e.pc s.from s.below) in
           true≢false (sym (and-right (e.next == start_of p h d) (not (inside p h d e.pc)) z) ∙ ap not i)
       by (inr x) = off (clear.others d l x)
 
-  pub stroll-fact : (past : List Entry) (e : Entry) → Strolls e → any (signals_in h) (now_in exit past) ≡ false → round_before p (phase_in exit past) ≡ None → Fact p h past e
+  pub stroll-fact : (past : List Entry) (e : Entry) → Strolls e → any (signals_in h) (now_in exit past) ≡ false
+      → round_before p (phase_in exit past) ≡ None → Fact p h past e
   stroll-fact past e s silent odd = record {
-    fresh = λ d stream f g. let r = case-of p.cases d h stream f in absurd (no-enter d e (get-short p.cases.cases d r.0 r.1) s g);
+    fresh = λ d stream f g. let r = case-of p.cases d h stream f in
+        absurd (no-enter d e (get-short p.cases.cases d r.0 r.1) s g);
     behind = λ d l g. absurd (no-enter d e l s g);
     verdict = λ d g l m f. no (not-reports d g e l m s) f;
-    exact = λ d m v f g. no (not-reports d h e (let n = get-short p.masks.cases d m f in omega (arith, fit.count)) number s) (ap (writes_in (verdict_at d h) 8) g ∙ covers (verdict_at d h) v);
+    exact = λ d m v f g. no (not-reports d h e (let n = get-short p.masks.cases d m f in
+        omega (arith, fit.count)) number s) (ap (writes_in (verdict_at d h) 8) g ∙ covers (verdict_at d h) v);
     halt = λ z. absurd (no-halt e s z);
     halted = λ z. absurd (no-halt e s z);
     writes = λ z. let f : ◌≡◌ {A = Option ℕ} None (Some c) = sym z ∙ held e.pc s.from s.below in cc;
-    barrier = record { signal = λ z. no (not-flag e.access s.access) z; still = λ z. no silent z; leave = λ z. absurd ((no-exit e s).0 z) };
+    barrier = record {
+      signal = λ z. no (not-flag e.access s.access) z;
+      still = λ z. no silent z;
+      leave = λ z. absurd ((no-exit e s).0 z);
+    };
     collects = subst (λ (o : Option ℕ). IfSome o (λ d. Gathering p h past e)) (sym odd) tt;
     sets = λ z. no (not-flag e.access s.access) z;
   }
@@ -173,7 +198,8 @@ module _ (p : Program) (formed : Formed p) (fit : MasksFit p.cases p.masks) (h :
   mark-in e s l = arrivals-none p h e.pc e.next (λ d m. by d m (cases_eq d c)) (no-exit e s).1 (no-halt e s)
     where
       by : (d : ℕ) → d < case_count p → (d ≡ c) ⊎ (d ≡ c → ⊥) → Unmarked p h e.pc e.next d
-      by d m (inl x) = subst (λ (k : ℕ). Unmarked p h e.pc e.next k) (sym x) (quiet-in p h e.pc e.next c (inside-true p h c e.pc s.from s.below) l)
+      by d m (inl x) = subst (λ (k : ℕ). Unmarked p h e.pc e.next k) (sym x)
+          (quiet-in p h e.pc e.next c (inside-true p h c e.pc s.from s.below) l)
       by d m (inr x) = others-off d e m x s
 
   pub mark-end : (e : Entry) → Strolls e → e.next ≡ hi → arrivals p h e.pc e.next ≡ End c ∷ []
@@ -186,7 +212,9 @@ module _ (p : Program) (formed : Formed p) (fit : MasksFit p.cases p.masks) (h :
   pub work-same : (r : ℕ) (past : List Entry) (e : Entry) → Strolls e → work_in p h r (e ∷ past) ≡ work_in p h r past
   work-same r past e s = by (lately_at p h 4 (e ∷ past)) (phase_in exit past == r)
     where
-      by : (a b : Bool) → (if a then work_in p h r past else (if b then one_outside (stream_at p h e.pc) (work_in p h r past) else work_in p h r past)) ≡ work_in p h r past
+      by : (a b : Bool)
+          → (if a then work_in p h r past else (if b then one_outside (stream_at p h e.pc) (work_in p h r past)
+          else work_in p h r past)) ≡ work_in p h r past
       by true b = refl
       by false true = ap (λ (o : Option ℕ). one_outside o (work_in p h r past)) (held e.pc s.from s.below)
       by false false = refl

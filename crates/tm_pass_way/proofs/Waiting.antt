@@ -1,5 +1,6 @@
 -- A barrier adds no more work to its phase than it has by itself. (`lately` and `worked` stand in tm_barrier's specs.)
-use Rattle.std.proofs.Common.{◌≡◌, ◌≢◌, ℕ, zero, suc, ◌+◌, ◌<◌, ◌≤◌, Bool, true, false, true≢false, ◌&&◌, ◌||◌, not, ◌==◌, List, [], ◌∷◌, ◌++◌, refl, sym, ap, ap₂, ◌∙◌, arith}
+use Rattle.std.proofs.Common.{◌≡◌, ◌≢◌, ℕ, zero, suc, ◌+◌, ◌<◌, ◌≤◌, Bool, true, false, true≢false, ◌&&◌, ◌||◌, not}
+use Rattle.std.proofs.Common.{◌==◌, List, [], ◌∷◌, ◌++◌, refl, sym, ap, ap₂, ◌∙◌, arith}
 use Rattle.std.specs.Prelude.{if◌then◌else◌}
 use Rattle.tm_plan_cases.specs.declared.program.Program.{Program}
 use Rattle.tm_plan_map.specs.Map.{flag_at}
@@ -34,11 +35,13 @@ any-front : (f : Entry → Bool) (es log : List Entry) → any f es ≡ true →
 any-front f [] log e = absurd (true≢false (sym e))
 any-front f (x ∷ es) log e = by (f x) e (any-front f es log)
   where
-    by : (b : Bool) → (b || any f es) ≡ true → (any f es ≡ true → any f (es ++ log) ≡ true) → (b || any f (es ++ log)) ≡ true
+    by : (b : Bool) → (b || any f es) ≡ true → (any f es ≡ true → any f (es ++ log) ≡ true) → (b || any f (es ++ log))
+        ≡ true
     by true z g = refl
     by false z g = g z
 
-module _ (p : Program) (formed : Formed p) (fit : MasksFit p.cases p.masks) (h : ℕ) (number : h < harts p) (q : ℕ) (base : List Entry) (here : phase_in (exit_of p h) base ≡ q) where
+module _ (p : Program) (formed : Formed p) (fit : MasksFit p.cases p.masks) (h : ℕ) (number : h < harts p) (q : ℕ)
+    (base : List Entry) (here : phase_in (exit_of p h) base ≡ q) where
   abbrev exit : ℕ
   exit = exit_of p h
 
@@ -49,26 +52,34 @@ module _ (p : Program) (formed : Formed p) (fit : MasksFit p.cases p.masks) (h :
   phase-all [] each = here
   phase-all (e ∷ es) each = phase-stays p formed fit h number (es ++ base) e each.0 ∙ phase-all es each.1
 
-  pub now-all : (es : List Entry) → Each (λ (e : Entry). e.pc ≢ exit) es → now_in exit (es ++ base) ≡ es ++ now_in exit base
+  pub now-all : (es : List Entry) → Each (λ (e : Entry). e.pc ≢ exit) es → now_in exit (es ++ base)
+      ≡ es ++ now_in exit base
   now-all [] each = refl
-  now-all (e ∷ es) each = now-stays p formed fit h number (es ++ base) e each.0 ∙ ap (λ (l : List Entry). e ∷ l) (now-all es each.1)
+  now-all (e ∷ es) each = now-stays p formed fit h number (es ++ base) e each.0 ∙ ap (λ (l : List Entry). e ∷ l)
+      (now-all es each.1)
 
   -- An entry that waits once the hart has signalled in the barrier reads idly.
-  idles-here : (es : List Entry) (e : Entry) → Each (λ (e : Entry). e.pc ≢ exit) es → any (signals_in h) es ≡ true → test e ≡ true → idles_at p h (es ++ base) e ≡ true
+  idles-here : (es : List Entry) (e : Entry) → Each (λ (e : Entry). e.pc ≢ exit) es → any (signals_in h) es ≡ true
+      → test e ≡ true → idles_at p h (es ++ base) e ≡ true
   idles-here es e each s t =
-      ap₂ (λ (a b : Bool). a && b) (ap (any (signals_in h)) (now-all es each) ∙ any-front (signals_in h) es (now_in exit base) s)
-      (ap (λ (m : ℕ). any (λ g. not (g == h) && gets_less (flag_at g) (m + 1) e.access) (count_from 0 (harts p))) (phase-all es each) ∙ t)
+      ap₂ (λ (a b : Bool). a && b) (ap (any (signals_in h)) (now-all es each) ∙ any-front (signals_in h) es
+      (now_in exit base) s)
+      (ap (λ (m : ℕ). any (λ g. not (g == h) && gets_less (flag_at g) (m + 1) e.access) (count_from 0 (harts p)))
+      (phase-all es each) ∙ t)
 
   -- what each entry of a barrier keeps of waiting (Keeps-in-step.waits)
   abbrev Waits : List Entry → Entry → Type 0
   Waits before e = test e ≡ true → any (signals_in h) before ≡ true
 
-  lately-more : (k : ℕ) (es : List Entry) → Each (λ (e : Entry). e.pc ≢ exit) es → Story Waits es → lately test k es ≡ true → lately_at p h k (es ++ base) ≡ true
+  lately-more : (k : ℕ) (es : List Entry) → Each (λ (e : Entry). e.pc ≢ exit) es → Story Waits es
+      → lately test k es ≡ true → lately_at p h k (es ++ base) ≡ true
   lately-more zero es each story e = absurd (true≢false (sym e))
   lately-more (suc k) [] each story e = absurd (true≢false (sym e))
   lately-more (suc k) (x ∷ es) each story e = by (test x) refl e (lately-more k es each.1 story.1)
     where
-      by : (b : Bool) → test x ≡ b → (b || lately test k es) ≡ true → (lately test k es ≡ true → lately_at p h k (es ++ base) ≡ true) → lately_at p h (suc k) (x ∷ es ++ base) ≡ true
+      by : (b : Bool) → test x ≡ b → (b || lately test k es) ≡ true
+          → (lately test k es ≡ true → lately_at p h k (es ++ base) ≡ true) → lately_at p h (suc k) (x ∷ es ++ base)
+          ≡ true
       by true t z g = ap (λ (a : Bool). a || lately_at p h k (es ++ base)) (idles-here es x each.1 (story.0 t) t)
       by false t z g = or-right (idles_at p h (es ++ base) x) (lately_at p h k (es ++ base)) (g z)
 
@@ -76,18 +87,23 @@ module _ (p : Program) (formed : Formed p) (fit : MasksFit p.cases p.masks) (h :
   one-more : (e : Entry) (log : List Entry) → work_in p h q (e ∷ log) ≤ suc (work_in p h q log)
   one-more e log = by (phase_in exit log == q) (work-more p formed fit h number q log e)
     where
-      by : (b : Bool) → work_in p h q (e ∷ log) ≤ (if b then suc (work_in p h q log) else work_in p h q log) → work_in p h q (e ∷ log) ≤ suc (work_in p h q log)
+      by : (b : Bool) → work_in p h q (e ∷ log) ≤ (if b then suc (work_in p h q log) else work_in p h q log)
+          → work_in p h q (e ∷ log) ≤ suc (work_in p h q log)
       by true l = l
       by false l = omega arith
 
   -- none where one of the four newest reads idly
   idle : (e : Entry) (log : List Entry) → lately_at p h 4 (e ∷ log) ≡ true → work_in p h q (e ∷ log) ≡ work_in p h q log
-  idle e log z = ap (λ (b : Bool). if b then work_in p h q log else (if phase_in exit log == q then one_outside (stream_at p h e.pc) (work_in p h q log) else work_in p h q log)) z
+  idle e log z = ap (λ (b : Bool). if b then work_in p h q log
+      else (if phase_in exit log == q then one_outside (stream_at p h e.pc) (work_in p h q log) else work_in p h q log))
+      z
 
-  pub barrier-work : (es : List Entry) → Each (λ (e : Entry). e.pc ≢ exit) es → Story Waits es → work_in p h q (es ++ base) ≤ work_in p h q base + worked test es
+  pub barrier-work : (es : List Entry) → Each (λ (e : Entry). e.pc ≢ exit) es → Story Waits es
+      → work_in p h q (es ++ base) ≤ work_in p h q base + worked test es
   barrier-work [] each story = omega arith
   barrier-work (e ∷ es) each story = by (lately test 4 (e ∷ es)) refl (barrier-work es each.1 story.1)
     where
-      by : (b : Bool) → lately test 4 (e ∷ es) ≡ b → work_in p h q (es ++ base) ≤ work_in p h q base + worked test es → work_in p h q (e ∷ es ++ base) ≤ work_in p h q base + (if b then worked test es else suc (worked test es))
+      by : (b : Bool) → lately test 4 (e ∷ es) ≡ b → work_in p h q (es ++ base) ≤ work_in p h q base + worked test es
+          → work_in p h q (e ∷ es ++ base) ≤ work_in p h q base + (if b then worked test es else suc (worked test es))
       by true z l = let i = idle e (es ++ base) (lately-more 4 (e ∷ es) each story z) in omega arith
       by false z l = let i = one-more e (es ++ base) in omega arith

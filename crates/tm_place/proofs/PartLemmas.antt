@@ -1,9 +1,11 @@
 -- The part of a line that is a hart's own.
-use Rattle.std.proofs.Common.{le_trans, ◌≡◌, ◌≤◌, ◌<◌, ℕ, zero, suc, ◌+◌, ◌*◌, ◌/◌, ◌%◌, ◌^◌, refl, inl, inr, ◌⊎◌, arith, rules, IsTrue}
+use Rattle.std.proofs.Common.{le_trans, ◌≡◌, ◌≤◌, ◌<◌, ℕ, zero, suc, ◌+◌, ◌*◌, ◌/◌, ◌%◌, ◌^◌, refl, inl, inr, ◌⊎◌}
+use Rattle.std.proofs.Common.{arith, rules, IsTrue}
 use Rattle.std.proofs.lemmas.Bool.Decides.{leb_tells, nat_tests}
 use Rattle.std.proofs.lemmas.Bool.{cases_eq}
 use Rattle.std.proofs.Math.Pow.{pow_mono}
-use Rattle.std.proofs.Math.Nat.{div-le_self, mod-eq_of_lt, mul-le-mul_left, mul-div-le, div-eq_of_lt-le, le-div_iff_mul-le, div-lt_iff_lt-mul}
+use Rattle.std.proofs.Math.Nat.{div-le_self, mod-eq_of_lt, mul-le-mul_left, mul-div-le, div-eq_of_lt-le}
+use Rattle.std.proofs.Math.Nat.{le-div_iff_mul-le, div-lt_iff_lt-mul}
 use Rattle.std.proofs.lemmas.Nat.{pow_pos, le-div}
 use Rattle.tm_place.specs.Numbers.{power_within, part_size, IsPart, is_line_size}
 
@@ -54,7 +56,8 @@ line_size-le line h = elim (line_size-cases line h) [
 pub shifted : (j : ℕ) → 2 ^ j ≤ 128 → 1 * 2 ^ j % 2 ^ 32 ≡ 2 ^ j
 shifted j h = let small : 1 * 2 ^ j < 2 ^ 32 = omega arith in rw (mod-eq_of_lt small) (omega arith)
 
-pub part_size-is : (line harts j : ℕ) → line ≤ 128 → 2 ^ j ≤ line / harts → line / harts < 2 * 2 ^ j → part_size line harts ≡ 2 ^ j
+pub part_size-is : (line harts j : ℕ) → line ≤ 128 → 2 ^ j ≤ line / harts → line / harts < 2 * 2 ^ j
+    → part_size line harts ≡ 2 ^ j
 unfolding part_size
 part_size-is line harts j fits low high =
     let q : line / harts ≤ line = div-le_self line harts in
@@ -95,10 +98,13 @@ unfolding part_size
 part_size-some line harts = power_within-some 7 (line / harts)
 
 -- the parts of at most 8 harts fit in a line
-pub part_size-fits : (line harts : ℕ) → IsTrue (is_line_size line) → 1 ≤ harts → harts ≤ 8 → harts * part_size line harts ≤ line
+pub part_size-fits : (line harts : ℕ) → IsTrue (is_line_size line) → 1 ≤ harts → harts ≤ 8
+    → harts * part_size line harts ≤ line
 unfolding part_size
 part_size-fits line harts size some few =
-    let least : 32 ≤ line = elim (line_size-cases line size) [ inl e ↦ omega arith | inr (inl e) ↦ omega arith | inr (inr e) ↦ omega arith ] in
+    let least : 32 ≤ line =
+    elim (line_size-cases line size) [ inl e ↦ omega arith | inr (inl e) ↦ omega arith | inr (inr e) ↦ omega arith ]
+    in
     let q : 1 ≤ line / harts = le-div 1 line harts some (omega arith) in
     let fits : power_within 7 (line / harts) ≤ line / harts = power_within-le 7 (line / harts) q in
     let more : harts * power_within 7 (line / harts) ≤ harts * (line / harts) = mul-le-mul_left harts fits in

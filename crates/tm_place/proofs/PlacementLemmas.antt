@@ -1,5 +1,6 @@
 -- Placements of three windows, without hot lines.
-use Rattle.std.proofs.Common.{◌≡◌, ◌≤◌, ℕ, zero, suc, [], ◌∷◌, Option, Some, None, slice_get, slice_index, IsTrue, refl, subst}
+use Rattle.std.proofs.Common.{◌≡◌, ◌≤◌, ℕ, zero, suc, [], ◌∷◌, Option, Some, slice_get, slice_index, IsTrue}
+use Rattle.std.proofs.Common.{refl}
 use Rattle.tm_plan_map.specs.declared.windows.Window.{Window}
 use Rattle.tm_place.specs.Numbers.{is_line_size, part_size}
 use Rattle.tm_place.specs.Limits.{IsWindow, IsPlacement}
@@ -8,7 +9,8 @@ use Rattle.tm_place.specs.Limits.{IsWindow, IsPlacement}
 abbrev pub IsStanding : (harts line w : ℕ) → Option Window → Type 0
 IsStanding harts line w o = (v : Window) → o ≡ Some v → IsWindow harts line w v
 
-windows-three : (harts line : ℕ) (a b c : Option Window) → IsStanding harts line 0 a → IsStanding harts line 1 b → IsStanding harts line 2 c
+windows-three : (harts line : ℕ) (a b c : Option Window) → IsStanding harts line 0 a → IsStanding harts line 1 b
+    → IsStanding harts line 2 c
     → (w : ℕ) (v : Window) → slice_get (a ∷ b ∷ c ∷ []) w ≡ Some (Some v) → IsWindow harts line w v
 windows-three harts line a b c one two three zero v h = one v cc
 windows-three harts line a b c one two three (suc zero) v h = two v cc
@@ -21,8 +23,10 @@ zeros-at (suc zero) = refl
 zeros-at (suc (suc zero)) = refl
 zeros-at (suc (suc (suc n))) = refl
 
-pub placement-three : (harts line part : ℕ) (a b c : Option Window) → 1 ≤ harts → harts ≤ 8 → IsTrue (is_line_size line) → part ≡ part_size line harts
-    → IsStanding harts line 0 a → IsStanding harts line 1 b → IsStanding harts line 2 c → IsPlacement harts line part (a ∷ b ∷ c ∷ []) (0 ∷ 0 ∷ 0 ∷ [])
+pub placement-three : (harts line part : ℕ) (a b c : Option Window) → 1 ≤ harts → harts ≤ 8 → IsTrue (is_line_size line)
+    → part ≡ part_size line harts
+    → IsStanding harts line 0 a → IsStanding harts line 1 b → IsStanding harts line 2 c
+    → IsPlacement harts line part (a ∷ b ∷ c ∷ []) (0 ∷ 0 ∷ 0 ∷ [])
 placement-three harts line part a b c some few size share one two three = record {
   count = (some, few);
   size = size;

@@ -1,5 +1,5 @@
 -- Numbers that are counted up.
-use Rattle.std.proofs.Common.{◌≡◌, ◌+◌, ℕ, zero, suc, List, [], ◌∷◌, ◌++◌, map, refl, ap, ◌∙◌, add-one, arith}
+use Rattle.std.proofs.Common.{◌≡◌, ◌+◌, ℕ, zero, suc, [], ◌∷◌, ◌++◌, map, refl, ap, ◌∙◌, add-one, arith}
 use Rattle.std.proofs.lemmas.List.{map-append}
 use Rattle.tm_base.specs.Lists.{count_from}
 

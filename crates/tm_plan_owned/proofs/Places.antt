@@ -1,5 +1,7 @@
 -- Where the dwords stand that a hart collects.
-use Rattle.std.proofs.Common.{◌≡◌, ℕ, zero, suc, ◌+◌, ◌-◌, ◌*◌, ◌/◌, ◌%◌, ◌<◌, ◌≤◌, List, [], ◌∷◌, ◌++◌, ◌⊎◌, inl, inr, length, map, refl, sym, ap, ◌∙◌, arith, append-nil, length-append, Option, Some, None}
+use Rattle.std.proofs.Common.{◌≡◌, ℕ, zero, suc, ◌+◌, ◌-◌, ◌*◌, ◌/◌, ◌%◌, ◌<◌, ◌≤◌, List, [], ◌∷◌, ◌++◌, ◌⊎◌, inl}
+use Rattle.std.proofs.Common.{inr, length, map, refl, sym, ap, ◌∙◌, arith, append-nil, length-append, Option, Some}
+use Rattle.std.proofs.Common.{None}
 use Rattle.std.specs.Prelude.{slice_index, slice_get, All}
 use Rattle.std.proofs.lemmas.Bool.{cases_lt}
 use Rattle.std.proofs.Math.Nat.{add-div_right, add-mod_right, div-eq_of_lt, mod-eq_of_lt}
@@ -30,14 +32,17 @@ line-at p c (suc n) zero l = omega arith
 line-at p c (suc n) (suc j) l = line-at p (suc c) n j (omega arith) ∙ omega arith
 
 -- dword j of k lines of n dwords
-pub lines-at : (n a k p j : ℕ) → 1 ≤ n → j < k * n → slice_index (lines_dwords p n a k) j ≡ p + a * (j / n) + 8 * (j % n)
+pub lines-at : (n a k p j : ℕ) → 1 ≤ n → j < k * n → slice_index (lines_dwords p n a k) j
+    ≡ p + a * (j / n) + 8 * (j % n)
 lines-at n a zero p j some l = absurd (omega arith)
 lines-at n a (suc k) p j some l = by (cases_lt j n) (λ i few. lines-at n a k (p + a) i some few)
   where
     len : length (line_dwords p n) ≡ n
     len = length-line (λ i. p + 8 * i) 0 n
 
-    by : (j < n) ⊎ (n ≤ j) → ((i : ℕ) → i < k * n → slice_index (lines_dwords (p + a) n a k) i ≡ p + a + a * (i / n) + 8 * (i % n)) → slice_index (lines_dwords p n a (suc k)) j ≡ p + a * (j / n) + 8 * (j % n)
+    by : (j < n) ⊎ (n ≤ j) → ((i : ℕ) → i < k * n → slice_index (lines_dwords (p + a) n a k) i
+        ≡ p + a + a * (i / n) + 8 * (i % n)) → slice_index (lines_dwords p n a (suc k)) j
+        ≡ p + a * (j / n) + 8 * (j % n)
     by (inl b) rest =
         let none : a * (j / n) ≡ a * 0 = ap (λ (x : ℕ). a * x) (div-eq_of_lt b) in
         left-at (line_dwords p n) (lines_dwords (p + a) n a k) j (omega (arith, len))
@@ -55,17 +60,30 @@ lines-at n a (suc k) p j some l = by (cases_lt j n) (λ i few. lines-at n a k (p
         ∙ omega (arith, on, left)
 
 -- the same of a hart's lines, by numbers
-pub addr-at : (cases : Cases) (h v j p a n : ℕ) → AreShaped cases → j < length (own_dwords cases h v) → p ≡ windows_base + line_place cases h v → a ≡ cases.line * cases.harts → n ≡ cases.line / 8
+pub addr-at : (cases : Cases) (h v j p a n : ℕ) → AreShaped cases → j < length (own_dwords cases h v)
+    → p ≡ windows_base + line_place cases h v → a ≡ cases.line * cases.harts → n ≡ cases.line / 8
     → p + a * (j / n) + 8 * (j % n) ≡ slice_index (own_dwords cases h v) j
 addr-at cases h v j p a n s l pe ae ne =
     let size = line-of cases.line s.line in
     let some : 1 ≤ cases.line / 8 = omega (arith, size.2.some, size.2.dwords) in
-    let few : j < line_count cases h v * (cases.line / 8) = omega (arith, length-lines (windows_base + line_place cases h v) (cases.line / 8) (cases.line * cases.harts) (line_count cases h v), l) in
-    rw (pe, ae, ne) (sym (lines-at (cases.line / 8) (cases.line * cases.harts) (line_count cases h v) (windows_base + line_place cases h v) j some few))
+    let few : j < line_count cases h v * (cases.line / 8) =
+    omega (
+      arith,
+      length-lines (windows_base + line_place cases h v) (cases.line / 8) (cases.line * cases.harts)
+          (line_count cases h v),
+      l,
+    ) in
+    rw (pe, ae, ne) (sym (lines-at (cases.line / 8) (cases.line * cases.harts) (line_count cases h v)
+    (windows_base + line_place cases h v) j some few))
 
 pub own-few : (cases : Cases) (h v : ℕ) → AreShaped cases → v < 3 → length (own_dwords cases h v) ≤ 512
 own-few cases h v s low =
-    omega (arith, few-dwords cases h v s low, length-lines (windows_base + line_place cases h v) (cases.line / 8) (cases.line * cases.harts) (line_count cases h v))
+    omega (
+      arith,
+      few-dwords cases h v s low,
+      length-lines (windows_base + line_place cases h v) (cases.line / 8)
+          (cases.line * cases.harts) (line_count cases h v),
+    )
 
 -- ---- all windows
 
@@ -77,19 +95,28 @@ module _ (cases : Cases) (h : ℕ) (s : AreShaped cases) (mine : h < cases.harts
   all = lines_are_owned cases h s mine
 
   pub owned-parts : length (owned cases h) ≡ length (o 0) + (length (o 1) + length (o 2))
-  owned-parts = ap length all ∙ omega (arith, length-append (o 0) (o 1 ++ (o 2 ++ [])), length-append (o 1) (o 2 ++ []), ap length (append-nil (o 2)))
+  owned-parts = ap length all ∙ omega (
+    arith,
+    length-append (o 0) (o 1 ++ (o 2 ++ [])),
+    length-append (o 1) (o 2 ++ []),
+    ap length (append-nil (o 2)),
+  )
 
   pub first-at : (j : ℕ) → j < length (o 0) → slice_index (o 0) j ≡ slice_index (owned cases h) j
   first-at j l = sym (ap (λ (d : List ℕ). slice_index d j) all ∙ left-at (o 0) (o 1 ++ (o 2 ++ [])) j l)
 
-  pub next-at : (i j : ℕ) → j ≡ length (o 0) + i → i < length (o 1) → slice_index (o 1) i ≡ slice_index (owned cases h) j
+  pub next-at : (i j : ℕ) → j ≡ length (o 0) + i → i < length (o 1)
+      → slice_index (o 1) i ≡ slice_index (owned cases h) j
   next-at i j e l =
-      sym (ap (λ (d : List ℕ). slice_index d j) all ∙ (right-at (o 0) (o 1 ++ (o 2 ++ [])) i j e ∙ left-at (o 1) (o 2 ++ []) i l))
+      sym (ap (λ (d : List ℕ). slice_index d j) all ∙
+      (right-at (o 0) (o 1 ++ (o 2 ++ [])) i j e ∙ left-at (o 1) (o 2 ++ []) i l))
 
-  pub last-at : (i j : ℕ) → j ≡ length (o 0) + (length (o 1) + i) → i < length (o 2) → slice_index (o 2) i ≡ slice_index (owned cases h) j
+  pub last-at : (i j : ℕ) → j ≡ length (o 0) + (length (o 1) + i) → i < length (o 2)
+      → slice_index (o 2) i ≡ slice_index (owned cases h) j
   last-at i j e l =
       sym (ap (λ (d : List ℕ). slice_index d j) all
-      ∙ (right-at (o 0) (o 1 ++ (o 2 ++ [])) (length (o 1) + i) j e ∙ (right-at (o 1) (o 2 ++ []) i (length (o 1) + i) refl ∙ left-at (o 2) [] i l)))
+      ∙ (right-at (o 0) (o 1 ++ (o 2 ++ [])) (length (o 1) + i) j e ∙
+      (right-at (o 1) (o 2 ++ []) i (length (o 1) + i) refl ∙ left-at (o 2) [] i l)))
 
 -- ---- slots
 
@@ -102,7 +129,10 @@ slots-few all case h s = by (slice_get case.streams h) refl
 
 few-in : (all : Cases) (h : ℕ) (list : List Case) → All (IsShapedCase all) list → FewSlots h list
 few-in all h [] s = tt
-few-in all h (case ∷ more) s = (slots-few all case h (s 0 case (omega arith)), few-in all h more (λ k d l. s (suc k) d (omega arith)))
+few-in all h (case ∷ more) s = (
+  slots-few all case h (s 0 case (omega arith)),
+  few-in all h more (λ k d l. s (suc k) d (omega arith)),
+)
 
 pub few-slots : (cases : Cases) (h : ℕ) → AreShaped cases → FewSlots h cases.cases
 few-slots cases h s = few-in cases h cases.cases s.each

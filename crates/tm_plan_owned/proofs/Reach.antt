@@ -1,12 +1,14 @@
 -- How far the lines of a hart reach, and how many dwords they have.
-use Rattle.std.proofs.Common.{◌≡◌, ℕ, zero, suc, ◌+◌, ◌-◌, ◌*◌, ◌/◌, ◌%◌, ◌<◌, ◌≤◌, [], ◌++◌, length, map, refl, sym, ap, ◌∙◌, arith, append-nil, length-append}
+use Rattle.std.proofs.Common.{◌≡◌, ℕ, zero, suc, ◌+◌, ◌-◌, ◌*◌, ◌/◌, ◌%◌, ◌<◌, ◌≤◌, [], ◌++◌, length, map, refl, sym}
+use Rattle.std.proofs.Common.{ap, ◌∙◌, arith, append-nil, length-append}
 use Rattle.std.proofs.Math.Nat.{mul-le-mul_left, mod-add-div}
 use Rattle.tm_plan_cases.specs.declared.cases.Cases.{Cases}
 use Rattle.tm_plan_map.specs.Map.{windows_base}
 use Rattle.tm_plan_cases.specs.Shaped.{AreShaped, IsShapedWindow}
 use Rattle.tm_plan_cases.specs.Collected.{owned}
 use Rattle.tm_base.specs.Lists.{count_from}
-use Rattle.tm_plan_owned.specs.Lines.{lines_of, first_line, line_count, line_place, line_dwords, lines_dwords, own_dwords}
+use Rattle.tm_plan_owned.specs.Lines.{lines_of, first_line, line_count, line_place, line_dwords, lines_dwords}
+use Rattle.tm_plan_owned.specs.Lines.{own_dwords}
 use Rattle.tm_plan_owned.proofs.Strides.{each-window}
 use Rattle.tm_plan_owned.proofs.Windows.{IsLine, line-of, lines-few, lines_are_owned}
 
@@ -24,7 +26,12 @@ stride_most cases s = let e = mul-le-mul_left cases.line (harts_most cases s) in
 pub lines-most : (cases : Cases) (v : ℕ) → AreShaped cases → lines_of v cases.windows ≤ 64
 lines-most cases v s =
     let size = line-of cases.line s.line in
-    omega (arith, lines-few cases.line v size.1 cases.windows (each-window (IsShapedWindow cases.line) cases.windows s.windows) size.2.few, size.2.small)
+    omega (
+      arith,
+      lines-few cases.line v size.1 cases.windows
+          (each-window (IsShapedWindow cases.line) cases.windows s.windows) size.2.few,
+      size.2.small,
+    )
 
 -- ---- how far lines reach
 
@@ -61,7 +68,8 @@ reach cases h v s low =
     let x = (h + N - 2048 * v / cases.line % N) % N in
     let d = lines_of v cases.windows in
     let c = (d + N - 1 - x) / N in
-    let few : d ≤ size.1 = lines-few cases.line v size.1 cases.windows (each-window (IsShapedWindow cases.line) cases.windows s.windows) size.2.few in
+    let few : d ≤ size.1 = lines-few cases.line v size.1 cases.windows
+    (each-window (IsShapedWindow cases.line) cases.windows s.windows) size.2.few in
     let turn : N * c ≤ d + N - 1 - x = omega (arith, mod-add-div (d + N - 1 - x) N) in
     let next : x < N = omega (arith, s.harts) in
     let all = bounds cases.line size.0 size.1 N d x c v size.2 (s.harts.0, harts_most cases s) few next low turn in
@@ -84,7 +92,11 @@ length-line f j (suc n) = ap suc (length-line f (suc j) n)
 
 pub length-lines : (p n a k : ℕ) → length (lines_dwords p n a k) ≡ k * n
 length-lines p n a zero = omega arith
-length-lines p n a (suc k) = length-append (line_dwords p n) (lines_dwords (p + a) n a k) ∙ omega (arith, length-line (λ i. p + 8 * i) 0 n, length-lines (p + a) n a k)
+length-lines p n a (suc k) = length-append (line_dwords p n) (lines_dwords (p + a) n a k) ∙ omega (
+  arith,
+  length-line (λ i. p + 8 * i) 0 n,
+  length-lines (p + a) n a k,
+)
 
 module _ (cases : Cases) (h : ℕ) (s : AreShaped cases) (mine : h < cases.harts) where
   abbrev n : ℕ
@@ -93,9 +105,18 @@ module _ (cases : Cases) (h : ℕ) (s : AreShaped cases) (mine : h < cases.harts
   abbrev a : ℕ
   a = cases.line * cases.harts
 
-  pub owned-length : length (owned cases h) ≡ line_count cases h 0 * n + (line_count cases h 1 * n + line_count cases h 2 * n)
+  pub owned-length : length (owned cases h) ≡ line_count cases h 0 * n
+      + (line_count cases h 1 * n + line_count cases h 2 * n)
   owned-length =
       let o = own_dwords cases h in
       let p : ℕ → ℕ = λ v. windows_base + line_place cases h v in
       ap length (lines_are_owned cases h s mine)
-      ∙ omega (arith, length-append (o 0) (o 1 ++ (o 2 ++ [])), length-append (o 1) (o 2 ++ []), ap length (append-nil (o 2)), length-lines (p 0) n a (line_count cases h 0), length-lines (p 1) n a (line_count cases h 1), length-lines (p 2) n a (line_count cases h 2))
+      ∙ omega (
+        arith,
+        length-append (o 0) (o 1 ++ (o 2 ++ [])),
+        length-append (o 1) (o 2 ++ []),
+        ap length (append-nil (o 2)),
+        length-lines (p 0) n a (line_count cases h 0),
+        length-lines (p 1) n a (line_count cases h 1),
+        length-lines (p 2) n a (line_count cases h 2),
+      )

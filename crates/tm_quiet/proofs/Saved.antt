@@ -1,5 +1,6 @@
 -- The parts that a hart saves are parts by which passes are compared.
-use Rattle.std.proofs.Common.{◌≡◌, ℕ, zero, suc, ◌+◌, ◌-◌, ◌*◌, ◌/◌, ◌%◌, ◌<◌, List, [], ◌∷◌, Bool, true, false, ◌&&◌, nat_lt, ◌==◌, ◌⊎◌, inl, inr, refl, sym, ap, ◌∙◌, arith, eqb-true}
+use Rattle.std.proofs.Common.{◌≡◌, ℕ, zero, suc, ◌+◌, ◌-◌, ◌*◌, ◌/◌, ◌%◌, ◌<◌, List, [], ◌∷◌, Bool, true, false, ◌&&◌}
+use Rattle.std.proofs.Common.{nat_lt, ◌==◌, ◌⊎◌, inl, inr, refl, sym, ap, ◌∙◌, arith, eqb-true}
 use Rattle.std.specs.Prelude.{All, slice_index, filter, map, if◌then◌else◌}
 use Rattle.std.specs.List.{AllByRecursion as Each}
 use Rattle.std.proofs.lemmas.Bool.{and_parts, ltb-true, ltb-false}
@@ -23,17 +24,24 @@ Whole cases h d = (j : ℕ) → j < 8 → (is_declared cases (d + j) ≡ true) �
 
 -- a line is some dwords
 pub eight : (lines line : ℕ) → (line ≡ 32) ⊎ ((line ≡ 64) ⊎ (line ≡ 128)) → (t : ℕ) × (lines * line ≡ 8 * t)
-eight lines line (inl e) = (lines * 4, ap (λ (n : ℕ). lines * n) e ∙ (let z : lines * 32 ≡ 8 * (lines * 4) = omega arith in z))
-eight lines line (inr (inl e)) = (lines * 8, ap (λ (n : ℕ). lines * n) e ∙ (let z : lines * 64 ≡ 8 * (lines * 8) = omega arith in z))
-eight lines line (inr (inr e)) = (lines * 16, ap (λ (n : ℕ). lines * n) e ∙ (let z : lines * 128 ≡ 8 * (lines * 16) = omega arith in z))
+eight lines line (inl e) =
+    (lines * 4, ap (λ (n : ℕ). lines * n) e ∙ (let z : lines * 32 ≡ 8 * (lines * 4) = omega arith in z))
+eight lines line (inr (inl e)) =
+    (lines * 8, ap (λ (n : ℕ). lines * n) e ∙ (let z : lines * 64 ≡ 8 * (lines * 8) = omega arith in z))
+eight lines line (inr (inr e)) =
+    (lines * 16, ap (λ (n : ℕ). lines * n) e ∙ (let z : lines * 128 ≡ 8 * (lines * 16) = omega arith in z))
 
 -- its bytes are of one line
 one-line : (line q j : ℕ) → (line ≡ 32) ⊎ ((line ≡ 64) ⊎ (line ≡ 128)) → j < 8 → (8 * q + j) / line ≡ 8 * q / line
-one-line line q j (inl e) l = ap (λ (k : ℕ). (8 * q + j) / k) e ∙ (let z : (8 * q + j) / 32 ≡ 8 * q / 32 = omega arith in z ∙ sym (ap (λ (k : ℕ). 8 * q / k) e))
-one-line line q j (inr (inl e)) l = ap (λ (k : ℕ). (8 * q + j) / k) e ∙ (let z : (8 * q + j) / 64 ≡ 8 * q / 64 = omega arith in z ∙ sym (ap (λ (k : ℕ). 8 * q / k) e))
-one-line line q j (inr (inr e)) l = ap (λ (k : ℕ). (8 * q + j) / k) e ∙ (let z : (8 * q + j) / 128 ≡ 8 * q / 128 = omega arith in z ∙ sym (ap (λ (k : ℕ). 8 * q / k) e))
+one-line line q j (inl e) l = ap (λ (k : ℕ). (8 * q + j) / k) e ∙ (let z : (8 * q + j) / 32
+    ≡ 8 * q / 32 = omega arith in z ∙ sym (ap (λ (k : ℕ). 8 * q / k) e))
+one-line line q j (inr (inl e)) l = ap (λ (k : ℕ). (8 * q + j) / k) e ∙ (let z : (8 * q + j) / 64
+    ≡ 8 * q / 64 = omega arith in z ∙ sym (ap (λ (k : ℕ). 8 * q / k) e))
+one-line line q j (inr (inr e)) l = ap (λ (k : ℕ). (8 * q + j) / k) e ∙ (let z : (8 * q + j) / 128
+    ≡ 8 * q / 128 = omega arith in z ∙ sym (ap (λ (k : ℕ). 8 * q / k) e))
 
-dword-shared : (cases : Cases) (q : ℕ) → AreShaped cases → is_declared cases (windows_base + 8 * q) ≡ true → (j : ℕ) → j < 8 → is_declared cases (windows_base + 8 * q + j) ≡ true
+dword-shared : (cases : Cases) (q : ℕ) → AreShaped cases → is_declared cases (windows_base + 8 * q) ≡ true → (j : ℕ)
+    → j < 8 → is_declared cases (windows_base + 8 * q + j) ≡ true
 unfolding windows_base window_at
 dword-shared cases q a e j l =
     let d = windows_base + 8 * q in
@@ -41,18 +49,22 @@ dword-shared cases q a e j l =
     let n = s.window.number in
     let m = within-parts (window_at n) (s.window.lines * cases.line) d s.holds in
     let (t, z) = eight s.window.lines cases.line a.line in
-    window-declared cases (d + j) s.window s.among (within-true (window_at n) (s.window.lines * cases.line) (d + j) (omega arith) (omega arith))
+    window-declared cases (d + j) s.window s.among
+    (within-true (window_at n) (s.window.lines * cases.line) (d + j) (omega arith) (omega arith))
 
-dword-collected : (cases : Cases) (q j : ℕ) → AreShaped cases → j < 8 → collector cases (windows_base + 8 * q + j) ≡ collector cases (windows_base + 8 * q)
+dword-collected : (cases : Cases) (q j : ℕ) → AreShaped cases → j < 8 → collector cases (windows_base + 8 * q + j)
+    ≡ collector cases (windows_base + 8 * q)
 unfolding collector
 dword-collected cases q j a l =
     let base = windows_base in
     let x : base + 8 * q + j - base ≡ 8 * q + j = omega arith in
     let y : base + 8 * q - base ≡ 8 * q = omega arith in
-    ap (λ (n : ℕ). n / cases.line % cases.harts) x ∙ (ap (λ (n : ℕ). n % cases.harts) (one-line cases.line q j a.line l) ∙ ap (λ (n : ℕ). n / cases.line % cases.harts) (sym y))
+    ap (λ (n : ℕ). n / cases.line % cases.harts) x ∙ (ap (λ (n : ℕ). n % cases.harts) (one-line cases.line q j a.line l)
+    ∙ ap (λ (n : ℕ). n / cases.line % cases.harts) (sym y))
 
 -- what holds of each dword that passes a test holds of all that are collected
-pub collected-each : (P : ℕ → Type 0) (test : ℕ → Bool) (f : ℕ → ℕ) (n a : ℕ) → ((q : ℕ) → test (f q) ≡ true → P (f q)) → Each P (filter test (map f (count_from a n)))
+pub collected-each : (P : ℕ → Type 0) (test : ℕ → Bool) (f : ℕ → ℕ) (n a : ℕ) → ((q : ℕ) → test (f q) ≡ true → P (f q))
+    → Each P (filter test (map f (count_from a n)))
 collected-each P test f zero a h = tt
 collected-each P test f (suc n) a h = by (test (f a)) refl (collected-each P test f n (suc a) h)
   where
@@ -67,11 +79,16 @@ owned-whole : (cases : Cases) (h : ℕ) → AreShaped cases → All (Whole cases
 unfolding owned window_dwords
 owned-whole cases h a =
     All-from_recursion (Whole cases h) _
-    (collected-each (Whole cases h) (λ d. is_declared cases d && (collector cases d == h)) (λ q. windows_base + 8 * q) 768 0 (λ q t j l.
-    let z = and_parts (is_declared cases (windows_base + 8 * q)) (collector cases (windows_base + 8 * q) == h) t in
-    (dword-shared cases q a z.0 j l, dword-collected cases q j a l ∙ eqb-true (collector cases (windows_base + 8 * q)) h z.1)))
+    (collected-each (Whole cases h) (λ d. is_declared cases d && (collector cases d == h)) (λ q. windows_base + 8 * q)
+    768 0 (λ q t j l.
+    let z = and_parts (is_declared cases (windows_base + 8 * q)) (collector cases (windows_base + 8 * q) == h) t in (
+      dword-shared cases q a z.0 j l,
+      dword-collected cases q j a l ∙ eqb-true (collector cases (windows_base + 8 * q)) h
+          z.1,
+    )))
 
-pub map-each : (P : Part → Type 0) (f : ℕ → Part) (n a : ℕ) → ((j : ℕ) → j < a + n → P (f j)) → Each P (map f (count_from a n))
+pub map-each : (P : Part → Type 0) (f : ℕ → Part) (n a : ℕ) → ((j : ℕ) → j < a + n → P (f j))
+    → Each P (map f (count_from a n))
 map-each P f zero a h = tt
 map-each P f (suc n) a h = (h a (omega arith), map-each P f n (suc a) (λ j l. h j (omega arith)))
 
@@ -82,7 +99,8 @@ saved-compared p h i a l = by (nat_lt i 30) refl
     dword : ℕ
     dword = slice_index (owned p.cases h) (i - 30)
 
-    by : (t : Bool) → nat_lt i 30 ≡ t → Each (IsCompared p h) (if t then Register (i + 1) ∷ [] else map (λ j. Byte (dword + j)) (count_from 0 8))
+    by : (t : Bool) → nat_lt i 30 ≡ t → Each (IsCompared p h) (if t then Register (i + 1) ∷ []
+        else map (λ j. Byte (dword + j)) (count_from 0 8))
     by true e = (let k = ltb-true i 30 e in omega arith, tt)
     by false e =
         let k = ltb-false i 30 e in

@@ -1,5 +1,6 @@
 -- Which bytes and registers one hart keeps from being checked.
-use Rattle.std.proofs.Common.{◌≡◌, ℕ, ◌+◌, ◌<◌, ◌≤◌, ◌↔◌, List, length, replicate, Bool, true, false, ◌&&◌, ◌||◌, inl, inr, Option, None, Some, refl, sym, ap, ap₂, ◌∙◌, subst, arith}
+use Rattle.std.proofs.Common.{◌≡◌, ℕ, ◌+◌, ◌<◌, ◌≤◌, ◌↔◌, List, length, replicate, Bool, true, false, ◌&&◌, ◌||◌, inl}
+use Rattle.std.proofs.Common.{inr, Option, None, Some, refl, sym, ap, ap₂, ◌∙◌, subst, arith}
 use Rattle.std.specs.Prelude.{slice_get}
 use Rattle.std.proofs.lemmas.Bool.{cases_eq, false≢true, true≢false, false_from_ne_true}
 use Rattle.tm_plan_cases.specs.declared.cases.Cases.{Cases}
@@ -20,7 +21,8 @@ use Rattle.tm_race_walk.proofs.Telling.{another-told}
 use Rattle.tm_race.specs.Masks.{IsRegisterWord, IsCalm, IsSpoil}
 
 pub none-spoiled : (cases : Cases) (c : ℕ) → IsSpoil cases c 0 (replicate 96 0)
-none-spoiled cases c = record { exact = λ b low. ((λ e h l. absurd (omega arith)), (λ f. false_from_ne_true _ (none-zero 96 b))) }
+none-spoiled cases c =
+    record { exact = λ b low. ((λ e h l. absurd (omega arith)), (λ f. false_from_ne_true _ (none-zero 96 b))) }
 
 -- a byte outside of a plane with more bytes
 put-out : (o m t s : Bool) → (o || (m && (t || s))) ≡ false → (o ≡ false) × (m ≡ true → (t ≡ false) × (s ≡ false))
@@ -35,9 +37,11 @@ put-in true m t s e f = absurd (true≢false e)
 put-in false false t s e f = refl
 put-in false true t s e f = let p = f refl in ap₂ (λ (u v : Bool). u || v) p.0 p.1
 
-module _ (cases : Cases) (c h : ℕ) (case : Case) (a : AreShaped cases) (at : slice_get cases.cases c ≡ Some case) (end : Taint)
+module _ (cases : Cases) (c h : ℕ) (case : Case) (a : AreShaped cases) (at : slice_get cases.cases c
+    ≡ Some case) (end : Taint)
     (stands : (s : Stream) → slice_get case.streams h ≡ Some s → StandsAt case h (length s.words) end) where
-  held-at : (stream : Stream) → stream_in cases c h ≡ Some stream → (r : ℕ) → Holds end r ↔ RaceDependent (slots_in cases c h) r (length stream.words)
+  held-at : (stream : Stream) → stream_in cases c h ≡ Some stream → (r : ℕ) → Holds end r
+      ↔ RaceDependent (slots_in cases c h) r (length stream.words)
   held-at stream e r = ((stands stream (sym (stream-case cases c h case at) ∙ e)).stands cases c a at).held r
 
   -- a register is held as a bit, and a byte of the windows by the plane
@@ -50,7 +54,8 @@ module _ (cases : Cases) (c h : ℕ) (case : Case) (a : AreShaped cases) (at : s
   as-byte b low (inl p) = absurd (omega (arith, p.0))
   as-byte b low (inr t) = t
 
-  pub word-checked : (word : ℕ) → ((r : ℕ) → Bit word r ↔ ((1 ≤ r) × (r ≤ 30) × (Bit end.regs r → ⊥))) → IsRegisterWord cases c h word
+  pub word-checked : (word : ℕ) → ((r : ℕ) → Bit word r ↔ ((1 ≤ r) × (r ≤ 30) × (Bit end.regs r → ⊥)))
+      → IsRegisterWord cases c h word
   word-checked word bits = record {
     exact = λ stream e r. (
       (λ w.
@@ -63,34 +68,41 @@ module _ (cases : Cases) (c h : ℕ) (case : Case) (a : AreShaped cases) (at : s
     );
   }
 
-  module _ (mine others : List ℕ) (m : (b : ℕ) → in_plane mine b ≡ some_store_to b (slice_get case.streams h)) (o : (b : ℕ) → in_plane others b ≡ another_in case h b) where
+  module _ (mine others : List ℕ) (m : (b : ℕ) → in_plane mine b ≡ some_store_to b (slice_get case.streams h))
+      (o : (b : ℕ) → in_plane others b ≡ another_in case h b) where
     may : (b : ℕ) → in_plane mine b ≡ may_store cases c h b
     may b = m b ∙ ap (some_store_to b) (sym (stream-case cases c h case at))
 
     another : (b : ℕ) → in_plane others b ≡ another_may_store cases c h b
     another b = o b ∙ another-told cases c h case a at b
 
-    calm-of : (b : ℕ) → windows_base ≤ b → (in_plane mine b ≡ true → (in_plane others b ≡ false) × (in_plane end.bytes b ≡ false)) → IsCalm cases c b h
+    calm-of : (b : ℕ) → windows_base ≤ b → (in_plane mine b ≡ true → (in_plane others b ≡ false)
+        × (in_plane end.bytes b ≡ false)) → IsCalm cases c b h
     calm-of b low f = λ stream e t.
         let q = f (may b ∙ t) in
         (sym (another b) ∙ q.0, λ dep. true≢false (sym (as-byte b low ((held-at stream e b).1 dep)) ∙ q.1))
 
-    of-calm : (b : ℕ) → IsCalm cases c b h → in_plane mine b ≡ true → (in_plane others b ≡ false) × (in_plane end.bytes b ≡ false)
+    of-calm : (b : ℕ) → IsCalm cases c b h → in_plane mine b ≡ true → (in_plane others b ≡ false)
+        × (in_plane end.bytes b ≡ false)
     of-calm b k t = by (stream_in cases c h) refl
       where
-        by : (s : Option Stream) → stream_in cases c h ≡ s → (in_plane others b ≡ false) × (in_plane end.bytes b ≡ false)
+        by : (s : Option Stream) → stream_in cases c h ≡ s → (in_plane others b ≡ false)
+            × (in_plane end.bytes b ≡ false)
         by None q = absurd (false≢true (sym (ap (some_store_to b) q) ∙ (sym (may b) ∙ t)))
         by (Some stream) q =
             let s = k stream q (sym (may b) ∙ t) in
             (another b ∙ s.0, false_from_ne_true _ (λ u. s.1 ((held-at stream q b).0 (inr u))))
 
-    pub spoil-more : (old new : List ℕ) → IsSpoil cases c h old → ((b : ℕ) → in_plane new b ≡ (in_plane old b || (in_plane mine b && (in_plane others b || in_plane end.bytes b))))
+    pub spoil-more : (old new : List ℕ) → IsSpoil cases c h old
+        → ((b : ℕ) → in_plane new b
+        ≡ (in_plane old b || (in_plane mine b && (in_plane others b || in_plane end.bytes b))))
         → IsSpoil cases c (h + 1) new
     spoil-more old new s e = record { exact = λ b low. (to b low, back b low) }
       where
         to : (b : ℕ) → windows_base ≤ b → in_plane new b ≡ false → (g : ℕ) → g < h + 1 → IsCalm cases c b g
         to b low f g l =
-            let q = put-out (in_plane old b) (in_plane mine b) (in_plane others b) (in_plane end.bytes b) (sym (e b) ∙ f) in
+            let q = put-out (in_plane old b) (in_plane mine b) (in_plane others b) (in_plane end.bytes b)
+            (sym (e b) ∙ f) in
             elim (cases_eq g h) [
               | inl i ↦ subst (λ (j : ℕ). IsCalm cases c b j) (sym i) (calm-of b low q.1)
               | inr n ↦ (s.exact b low).0 q.0 g (omega arith)
@@ -98,4 +110,5 @@ module _ (cases : Cases) (c h : ℕ) (case : Case) (a : AreShaped cases) (at : s
 
         back : (b : ℕ) → windows_base ≤ b → ((g : ℕ) → g < h + 1 → IsCalm cases c b g) → in_plane new b ≡ false
         back b low k =
-            e b ∙ put-in (in_plane old b) (in_plane mine b) (in_plane others b) (in_plane end.bytes b) ((s.exact b low).1 (λ g l. k g (omega arith))) (of-calm b (k h (omega arith)))
+            e b ∙ put-in (in_plane old b) (in_plane mine b) (in_plane others b) (in_plane end.bytes b)
+            ((s.exact b low).1 (λ g l. k g (omega arith))) (of-calm b (k h (omega arith)))

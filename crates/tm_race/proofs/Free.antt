@@ -1,11 +1,13 @@
 -- Words of registers that aren't held.
-use Rattle.std.proofs.Common.{◌≡◌, ◌≤◌, ◌<◌, ◌+◌, ◌*◌, ◌%◌, ◌/◌, ◌^◌, ℕ, ◌↔◌, ◌⊎◌, inl, inr, bit_and, bit_or, w32, sym, subst, ◌∙◌, arith}
+use Rattle.std.proofs.Common.{◌≡◌, ◌≤◌, ◌<◌, ◌+◌, ◌*◌, ◌%◌, ◌/◌, ◌^◌, ℕ, ◌↔◌, ◌⊎◌, inl, inr, bit_and, bit_or, w32}
+use Rattle.std.proofs.Common.{sym, subst, ◌∙◌, arith}
 use Rattle.std.specs.Int.{bit_at}
 use Rattle.std.proofs.lemmas.Bool.{cases_eq}
 use Rattle.std.proofs.lemmas.Nat.Bits.{bit_at_set_same, bit_at_set_other, shr_and_one}
 use Rattle.tm_plane.specs.Plane.{Bit}
 
-pub with-one : (word held r : ℕ) → r < 32 → (bit_and (held / 2 ^ r) 1 ≡ 1 → ⊥) → (j : ℕ) → Bit (bit_or word (1 * 2 ^ r % 2 ^ 32)) j ↔ (((j ≡ r) × (Bit held r → ⊥)) ⊎ Bit word j)
+pub with-one : (word held r : ℕ) → r < 32 → (bit_and (held / 2 ^ r) 1 ≡ 1 → ⊥) → (j : ℕ)
+    → Bit (bit_or word (1 * 2 ^ r % 2 ^ 32)) j ↔ (((j ≡ r) × (Bit held r → ⊥)) ⊎ Bit word j)
 with-one word held r small free j = elim (cases_eq j r) [
   | inl e ↦ (
     (λ b. inl (e, λ h. free (shr_and_one held r ∙ h))),
@@ -17,7 +19,8 @@ with-one word held r small free j = elim (cases_eq j r) [
 ]
 
 pub one-register : (held old new r : ℕ) → 1 ≤ r → ((j : ℕ) → Bit new j ↔ (((j ≡ r) × (Bit held r → ⊥)) ⊎ Bit old j))
-    → ((j : ℕ) → Bit old j ↔ ((1 ≤ j) × (j < r) × (Bit held j → ⊥))) → (j : ℕ) → Bit new j ↔ ((1 ≤ j) × (j < r + 1) × (Bit held j → ⊥))
+    → ((j : ℕ) → Bit old j ↔ ((1 ≤ j) × (j < r) × (Bit held j → ⊥))) → (j : ℕ) → Bit new j
+    ↔ ((1 ≤ j) × (j < r + 1) × (Bit held j → ⊥))
 one-register held old new r some step before j = (to, back)
   where
     to : Bit new j → (1 ≤ j) × (j < r + 1) × (Bit held j → ⊥)

@@ -1,5 +1,6 @@
 -- Masks that are exact case by case are exact as a whole.
-use Rattle.std.proofs.Common.{◌≡◌, ℕ, ◌+◌, ◌-◌, ◌<◌, ◌≤◌, ◌↔◌, List, length, Bool, true, false, ◌&&◌, not, ◌⊎◌, inl, inr, Some, refl, sym, ◌∙◌, subst, arith, get_or}
+use Rattle.std.proofs.Common.{◌≡◌, ℕ, ◌+◌, ◌-◌, ◌<◌, ◌≤◌, ◌↔◌, List, length, Bool, true, false, ◌&&◌, not, ◌⊎◌, inl}
+use Rattle.std.proofs.Common.{inr, Some, refl, sym, ◌∙◌, subst, arith, get_or}
 use Rattle.std.specs.Prelude.{slice_get, slice_index, if◌then◌else◌}
 use Rattle.std.proofs.lemmas.Bool.{false≢true, true≢false}
 use Rattle.std.proofs.lemmas.Option.{get_or_from_slice_get, slice_get_within}
@@ -17,22 +18,41 @@ use Rattle.tm_plane.specs.Plane.{in_plane}
 use Rattle.tm_race_walk.proofs.Shaping.{case-harts}
 use Rattle.tm_race.specs.Masks.{EachIs, IsByteMark, IsMask, IsSpoil, mark_of}
 
-mark-checked : (cases : Cases) (c : ℕ) (spoil : List ℕ) (q v : ℕ) → IsSpoil cases c cases.harts spoil → v ≡ mark_of cases spoil q → IsByteMark cases c q v
-mark-checked cases c spoil q v s e = by (is_declared cases (windows_base + q)) (in_plane spoil (windows_base + q)) refl refl e
+mark-checked : (cases : Cases) (c : ℕ) (spoil : List ℕ) (q v : ℕ) → IsSpoil cases c cases.harts spoil
+    → v ≡ mark_of cases spoil q → IsByteMark cases c q v
+mark-checked cases c spoil q v s e = by (is_declared cases (windows_base + q)) (in_plane spoil (windows_base + q)) refl
+    refl e
   where
-    by : (d t : Bool) → is_declared cases (windows_base + q) ≡ d → in_plane spoil (windows_base + q) ≡ t → v ≡ (if d && not t then 255 else 0) → IsByteMark cases c q v
+    by : (d t : Bool) → is_declared cases (windows_base + q) ≡ d → in_plane spoil (windows_base + q) ≡ t
+        → v ≡ (if d && not t then 255 else 0) → IsByteMark cases c q v
     by true false d t is = record {
-      exact = ((λ x. record { declared = d; single = λ h stream l i may. (s.exact (windows_base + q) (omega arith)).0 t h l stream i may }), (λ x. is));
+      exact = (
+        (λ x. record {
+          declared = d;
+          single = λ h stream l i may. (s.exact (windows_base + q) (omega arith)).0 t
+              h l stream i may;
+        }),
+        (λ x. is),
+      );
       ends = inr is;
     }
     by true true d t is = record {
-      exact = ((λ x. absurd (omega arith)), (λ k. absurd (true≢false (sym t ∙ (s.exact (windows_base + q) (omega arith)).1 (λ h l stream i may. k.single h stream l i may)))));
+      exact = (
+        (λ x. absurd (omega arith)),
+        (λ k. absurd (true≢false (sym t ∙ (s.exact (windows_base + q) (omega arith)).1
+            (λ h l stream i may. k.single h stream l i may)))),
+      );
       ends = inl is;
     }
-    by false t d u is = record { exact = ((λ x. absurd (omega arith)), (λ k. absurd (false≢true (sym d ∙ k.declared)))); ends = inl is }
+    by false t d u is = record {
+      exact = ((λ x. absurd (omega arith)), (λ k. absurd (false≢true (sym d ∙ k.declared))));
+      ends = inl is;
+    }
 
-pub marks-checked : (cases : Cases) (c : ℕ) (spoil marks : List ℕ) → IsSpoil cases c cases.harts spoil → EachIs (λ q v. v ≡ mark_of cases spoil q) 6144 marks → EachIs (IsByteMark cases c) 6144 marks
-marks-checked cases c spoil marks s e = record { count = e.count; each = λ k d l. mark-checked cases c spoil k (get_or marks k d) s (e.each k d l) }
+pub marks-checked : (cases : Cases) (c : ℕ) (spoil marks : List ℕ) → IsSpoil cases c cases.harts spoil
+    → EachIs (λ q v. v ≡ mark_of cases spoil q) 6144 marks → EachIs (IsByteMark cases c) 6144 marks
+marks-checked cases c spoil marks s e =
+    record { count = e.count; each = λ k d l. mark-checked cases c spoil k (get_or marks k d) s (e.each k d l) }
 
 mask-fits : (cases : Cases) (c : ℕ) (m : CaseMask) → IsMask cases c m → IsShapedMask cases m
 mask-fits cases c m k = record {
@@ -41,12 +61,14 @@ mask-fits cases c m k = record {
   ends = λ j d l. (k.bytes.each j d (let n = k.bytes.count in omega arith)).ends;
 }
 
-module _ (cases : Cases) (shaped : AreShaped cases) (masks : Masks) (all : EachIs (IsMask cases) (length cases.cases) masks.cases) where
+module _ (cases : Cases) (shaped : AreShaped cases) (masks : Masks)
+    (all : EachIs (IsMask cases) (length cases.cases) masks.cases) where
   mask-at : (c : ℕ) (m : CaseMask) → slice_get masks.cases c ≡ Some m → IsMask cases c m
   mask-at c m e =
       let l = slice_get_within masks.cases c m e in
       let n = all.count in
-      subst (λ (k : CaseMask). IsMask cases c k) (get_or_from_slice_get masks.cases c m m e) (all.each c m (omega arith))
+      subst (λ (k : CaseMask). IsMask cases c k) (get_or_from_slice_get masks.cases c m m e)
+      (all.each c m (omega arith))
 
   few : (c h : ℕ) (stream : Stream) → stream_in cases c h ≡ Some stream → h < cases.harts
   few c h stream is =
@@ -55,8 +77,10 @@ module _ (cases : Cases) (shaped : AreShaped cases) (masks : Masks) (all : EachI
       let n = case-harts cases c case shaped at in
       omega arith
 
-  byte-at : (c b : ℕ) (m : CaseMask) → slice_get masks.cases c ≡ Some m → windows_base ≤ b → b < windows_base + windows_size
-      → ((slice_index m.bytes (b - windows_base) ≡ 255) ↔ IsCheckedByte cases c b) × ((slice_index m.bytes (b - windows_base) ≡ 255) ⊎ (slice_index m.bytes (b - windows_base) ≡ 0))
+  byte-at : (c b : ℕ) (m : CaseMask) → slice_get masks.cases c ≡ Some m → windows_base ≤ b
+      → b < windows_base + windows_size
+      → ((slice_index m.bytes (b - windows_base) ≡ 255) ↔ IsCheckedByte cases c b)
+      × ((slice_index m.bytes (b - windows_base) ≡ 255) ⊎ (slice_index m.bytes (b - windows_base) ≡ 0))
   unfolding windows_size
   byte-at c b m e low high =
       let q = (mask-at c m e).bytes.each (b - windows_base) 0 (omega arith) in

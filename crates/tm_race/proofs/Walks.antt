@@ -1,5 +1,6 @@
 -- The walk by tests knows what is race-dependent.
-use Rattle.std.proofs.Common.{◌≡◌, ℕ, zero, suc, inl, inr, List, Contains, length, get_or, Bool, true, false, ◌==◌, IsTrue, Option, None, Some, refl, ap, subst, eqb-true, eq-eqb}
+use Rattle.std.proofs.Common.{◌≡◌, ℕ, zero, suc, inl, inr, List, Contains, length, get_or, Bool, true, false, ◌==◌}
+use Rattle.std.proofs.Common.{IsTrue, Option, None, Some, refl, ap, subst, eqb-true, eq-eqb}
 use Rattle.std.specs.Bool.{Decides}
 use Rattle.std.proofs.lemmas.Bool.{false≢true}
 use Rattle.std.proofs.lemmas.Bool.Decides.{Decides-at, Decides-not, Decides-and, Decides-or, Decides-ltb, Decides-by_or}
@@ -14,7 +15,8 @@ use Rattle.tm_world.specs.Trails.{RaceDependent}
 use Rattle.tm_race_walk.specs.Forward.{Stands, ReadsHeld, HeldAfter, Raised, Turns}
 use Rattle.tm_race_walk.proofs.OneSlot.{forward, stands_as, stands_zero}
 use Rattle.tm_race_walk.proofs.Shaping.{any-contains}
-use Rattle.tm_race.specs.Exact.{Walk, is_written, reads_held, is_held_after, is_steered, reach_with, walk_over, walk_to, is_held}
+use Rattle.tm_race.specs.Exact.{Walk, is_written, reads_held, is_held_after, is_steered, reach_with, walk_over}
+use Rattle.tm_race.specs.Exact.{walk_to, is_held}
 
 -- ---- what the tests tell
 

@@ -1,5 +1,6 @@
 -- Entries that are put one behind the other.
-use Rattle.std.proofs.Common.{◌≡◌, ◌++◌, ◌∙◌, ◌+◌, ◌-◌, ◌*◌, ◌≤◌, ap, refl, subst, ℕ, zero, suc, Bool, List, [], ◌∷◌, filter, map, append_assoc, arith}
+use Rattle.std.proofs.Common.{◌≡◌, ◌++◌, ◌∙◌, ◌+◌, ◌-◌, ◌*◌, ◌≤◌, ap, refl, subst, ℕ, zero, suc, Bool, List, [], ◌∷◌}
+use Rattle.std.proofs.Common.{filter, map, append_assoc, arith}
 use Rattle.std.specs.List.{flat_map}
 use Rattle.std.proofs.lemmas.Grind.{flat_map-append}
 use Rattle.std.proofs.lemmas.List.Elements.{filter-append}
@@ -36,7 +37,8 @@ pub dwords-more : (n : ℕ) → dwords_to (n + 1) ≡ dwords_to n ++ (windows_ba
 dwords-more n =
     let longer : n + 1 ≡ suc n = omega arith in
     let last : 0 + n ≡ n = omega arith in
-    rw longer (ap (map (λ q. windows_base + 8 * q)) (subst (λ m. count_from 0 (suc n) ≡ count_from 0 n ++ m ∷ []) last (count-more 0 n))
+    rw longer (ap (map (λ q. windows_base + 8 * q))
+    (subst (λ m. count_from 0 (suc n) ≡ count_from 0 n ++ m ∷ []) last (count-more 0 n))
     ∙ map-append (λ q. windows_base + 8 * q) (count_from 0 n) (n ∷ []))
 
 -- all dwords of the windows
@@ -45,6 +47,12 @@ unfolding window_dwords
 dwords-all n is = ap dwords_to is
 
 -- the entries of a list and of one element more
-pub entries-more : (f : ℕ → List ℕ) (p : ℕ → Bool) (old now new xs : List ℕ) (x : ℕ) → now ≡ old ++ flat_map f (filter p xs)
+pub entries-more : (f : ℕ → List ℕ) (p : ℕ → Bool) (old now new xs : List ℕ) (x : ℕ)
+    → now ≡ old ++ flat_map f (filter p xs)
     → new ≡ now ++ flat_map f (filter p (x ∷ [])) → new ≡ old ++ flat_map f (filter p (xs ++ x ∷ []))
-entries-more f p old now new xs x is more = rw (filter-append p xs (x ∷ []), flat_map-append f (filter p xs) (filter p (x ∷ [])), ← append_assoc) (more ∙ ap (λ front. front ++ flat_map f (filter p (x ∷ []))) is)
+entries-more f p old now new xs x is more =
+    rw (
+      filter-append p xs (x ∷ []),
+      flat_map-append f (filter p xs) (filter p (x ∷ [])),
+      ← append_assoc,
+    ) (more ∙ ap (λ front. front ++ flat_map f (filter p (x ∷ []))) is)

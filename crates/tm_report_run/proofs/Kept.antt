@@ -1,5 +1,7 @@
 -- What is kept of writes to verdict cells.
-use Rattle.std.proofs.Common.{◌≡◌, ◌≢◌, ℕ, zero, suc, replicate, ◌+◌, ◌*◌, ◌<◌, ◌≤◌, List, [], ◌∷◌, ◌++◌, length, take, get_or, Bool, true, false, ◌==◌, ◌&&◌, Option, None, Some, inl, inr, refl, sym, ap, ap₂, ◌∙◌, arith, eqb-true, get_or-set_same, get_or-set_other, eq-eqb}
+use Rattle.std.proofs.Common.{◌≡◌, ◌≢◌, ℕ, zero, suc, replicate, ◌+◌, ◌*◌, ◌<◌, ◌≤◌, List, [], ◌∷◌, ◌++◌, length}
+use Rattle.std.proofs.Common.{take, get_or, Bool, true, false, ◌==◌, ◌&&◌, Option, None, Some, inl, inr, refl, sym}
+use Rattle.std.proofs.Common.{ap, ap₂, ◌∙◌, arith, eqb-true, get_or-set_same, get_or-set_other, eq-eqb}
 use Rattle.std.specs.Prelude.{slice_index, slice_set, unwrap_or, if◌then◌else◌}
 use Rattle.std.proofs.lemmas.Bool.{cases_lt, true≢false}
 use Rattle.std.proofs.lemmas.List.{take_more}

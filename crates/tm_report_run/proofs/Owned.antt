@@ -1,5 +1,6 @@
 -- The dwords that a hart collects are few, and have addresses of 8 hexadecimal digits; so verdicts tell their dwords.
-use Rattle.std.proofs.Common.{ℕ, zero, suc, ◌+◌, ◌*◌, ◌%◌, ◌^◌, ◌<◌, ◌≤◌, List, ◌∷◌, length, map, filter, Bool, true, false, inl, inr, cond, arith}
+use Rattle.std.proofs.Common.{ℕ, zero, suc, ◌+◌, ◌*◌, ◌%◌, ◌^◌, ◌<◌, ◌≤◌, List, ◌∷◌, length, map, filter, Bool, true}
+use Rattle.std.proofs.Common.{false, inl, inr, cond, arith}
 use Rattle.std.specs.Prelude.{All, slice_index, ◌&&◌, ◌==◌}
 use Rattle.std.proofs.lemmas.List.Elements.{All-nil, All-cons}
 use Rattle.tm_plan_cases.specs.declared.cases.Cases.{Cases}

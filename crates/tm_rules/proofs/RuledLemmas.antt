@@ -1,5 +1,6 @@
 -- A template that breaks no rule is admitted in a form that is ruled.
-use Rattle.std.proofs.Common.{◌≡◌, ◌≢◌, ◌+◌, ◌<◌, ◌==◌, ℕ, zero, suc, List, [], ◌∷◌, map, length, take, Option, Some, None, slice_get, refl, sym, ◌∙◌, subst, arith, rules}
+use Rattle.std.proofs.Common.{◌≡◌, ◌≢◌, ◌+◌, ◌<◌, ◌==◌, ℕ, zero, suc, List, [], ◌∷◌, map, length, take, Option, Some}
+use Rattle.std.proofs.Common.{None, slice_get, refl, sym, ◌∙◌, subst, arith, rules}
 use Rattle.std.specs.Prelude.{find, AllPairs}
 use Rattle.std.specs.Str.{bytes_eq}
 use Rattle.std.proofs.lemmas.Bool.{leb-true, eq-eqb, and_parts, true≢false}
@@ -20,7 +21,8 @@ use Rattle.tm_topo.specs.declared.system.Topology.{Topology}
 use Rattle.tm_rules_slot.specs.Teams.{IsSystem, harts_of, in_team}
 use Rattle.tm_rules_slot.specs.Slots.{first}
 use Rattle.tm_rules_first.specs.Windows.{window_of, windows_of, shape_of}
-use Rattle.tm_rules_first.specs.Rules.{first_of, in_turn, window_checks, slot_count, slot_checks, body_rules, body_checks, case_rules, case_checks, broken_rule}
+use Rattle.tm_rules_first.specs.Rules.{first_of, in_turn, window_checks, slot_count, slot_checks, body_rules}
+use Rattle.tm_rules_first.specs.Rules.{body_checks, case_rules, case_checks, broken_rule}
 use Rattle.tm_rules_first.proofs.FirstLemmas.{first-both, put-none}
 use Rattle.tm_rules_first.proofs.TurnLemmas.{turn-each}
 use Rattle.tm_rules_first.proofs.FindLemmas.{found-in}
@@ -48,22 +50,29 @@ nothing-ruled topo windows h = record {
   target = λ e. cc;
 }
 
-one-slot : (topo : Topology) (windows : List Window) (h n : ℕ) (s : Slot) → slice_get (slot.Emit nothing ∷ []) n ≡ Some s → IsRuledSlot (shared topo windows) windows h 1 n s
+one-slot : (topo : Topology) (windows : List Window) (h n : ℕ) (s : Slot) → slice_get (slot.Emit nothing ∷ []) n
+    ≡ Some s → IsRuledSlot (shared topo windows) windows h 1 n s
 one-slot topo windows h zero s at =
     let same : slot.Emit nothing ≡ s = cc in
     subst (λ x. IsRuledSlot (shared topo windows) windows h 1 0 x) same (nothing-ruled topo windows h)
 one-slot topo windows h (suc n) s at = cc
 
-one-ruled : (topo : Topology) (windows : List Window) (h : ℕ) → AreRuledSlots (shared topo windows) windows h (slot.Emit nothing ∷ [])
+one-ruled : (topo : Topology) (windows : List Window) (h : ℕ)
+    → AreRuledSlots (shared topo windows) windows h (slot.Emit nothing ∷ [])
 one-ruled topo windows h = record { some = omega arith; few = omega arith; each = one-slot topo windows h }
 
-body-ruled : (topo : Topology) (windows : List Window) (before : List BodyDecl) (b : BodyDecl) (h : ℕ) → Has topo windows b.whom h
-    → first_of (body_checks topo (shape_of windows) before b) ≡ None → AreRuledSlots (shared topo windows) windows h (written_out b.slots)
+body-ruled : (topo : Topology) (windows : List Window) (before : List BodyDecl) (b : BodyDecl) (h : ℕ)
+    → Has topo windows b.whom h
+    → first_of (body_checks topo (shape_of windows) before b) ≡ None
+    → AreRuledSlots (shared topo windows) windows h (written_out b.slots)
 unfolding body_checks
 body-ruled topo windows before b h has none =
-    let both = first-both _ (in_turn (slot_checks topo (shape_of windows) b.whom (slot_count b.slots)) [] b.slots) none in
-    let count = body-sound topo before b.whom (slot_count b.slots) (put-none b.at (body_rules topo before b.whom (slot_count b.slots)) both.0) in
-    let len : slot_count b.slots ≡ length (written_out b.slots) = sym (written-count b.slots ∙ count-small b.slots count.3) in
+    let both = first-both _ (in_turn (slot_checks topo (shape_of windows) b.whom (slot_count b.slots)) [] b.slots) none
+    in
+    let count = body-sound topo before b.whom (slot_count b.slots)
+    (put-none b.at (body_rules topo before b.whom (slot_count b.slots)) both.0) in
+    let len : slot_count b.slots ≡ length (written_out b.slots) =
+    sym (written-count b.slots ∙ count-small b.slots count.3) in
     record {
       some = rw (← len) count.2;
       few = rw (← len) count.3;
@@ -75,9 +84,11 @@ body-ruled topo windows before b h has none =
 
 -- ---- cases
 
-chosen-ruled : (topo : Topology) (windows : List Window) (bodies : List BodyDecl) (h : ℕ) → Shown (shared topo windows) (shape_of windows) → h < harts_of topo
+chosen-ruled : (topo : Topology) (windows : List Window) (bodies : List BodyDecl) (h : ℕ)
+    → Shown (shared topo windows) (shape_of windows) → h < harts_of topo
     → first_of (in_turn (body_checks topo (shape_of windows)) [] bodies) ≡ None
-    → (o : Option BodyDecl) → find (λ b. in_team topo b.whom h) bodies ≡ o → AreRuledSlots (shared topo windows) windows h (slots_in o)
+    → (o : Option BodyDecl) → find (λ b. in_team topo b.whom h) bodies ≡ o
+    → AreRuledSlots (shared topo windows) windows h (slots_in o)
 chosen-ruled topo windows bodies h shown below none None is = one-ruled topo windows h
 chosen-ruled topo windows bodies h shown below none (Some b) is =
     let found = found-in (λ c. in_team topo c.whom h) bodies b is in
@@ -85,7 +96,8 @@ chosen-ruled topo windows bodies h shown below none (Some b) is =
     (turn-each (body_checks topo (shape_of windows)) [] bodies none found.1.0 b found.1.1)
 
 case-ruled : (topo : Topology) (windows : List Window) (c : CaseDecl) → Shown (shared topo windows) (shape_of windows)
-    → first_of (in_turn (body_checks topo (shape_of windows)) [] c.bodies) ≡ None → IsRuledCase (shared topo windows) windows (admitted_case topo c)
+    → first_of (in_turn (body_checks topo (shape_of windows)) [] c.bodies) ≡ None
+    → IsRuledCase (shared topo windows) windows (admitted_case topo c)
 unfolding hart_slots
 case-ruled topo windows c shown none = record {
   harts = length-map (count_from 0 (harts_of topo)) (hart_slots topo c.bodies) ∙ length-counted 0 (harts_of topo);
@@ -99,37 +111,47 @@ case-ruled topo windows c shown none = record {
 }
 
 -- what a case without a fault keeps
-case-parts : (topo : Topology) (t : Template) → first_of (in_turn (case_checks topo (shape_of (windows_of t.windows)) (length t.cases)) [] t.cases) ≡ None
+case-parts : (topo : Topology) (t : Template)
+    → first_of (in_turn (case_checks topo (shape_of (windows_of t.windows)) (length t.cases)) [] t.cases) ≡ None
     → (k : ℕ) (c : CaseDecl) → slice_get t.cases k ≡ Some c
-    → (first (case_rules (length t.cases) (take k t.cases) c.name) ≡ None) × (first_of (in_turn (body_checks topo (shape_of (windows_of t.windows))) [] c.bodies) ≡ None)
+    → (first (case_rules (length t.cases) (take k t.cases) c.name) ≡ None)
+    × (first_of (in_turn (body_checks topo (shape_of (windows_of t.windows))) [] c.bodies) ≡ None)
 unfolding case_checks
 case-parts topo t none k c at =
     let checks = case_checks topo (shape_of (windows_of t.windows)) (length t.cases) in
-    let both = first-both _ (in_turn (body_checks topo (shape_of (windows_of t.windows))) [] c.bodies) (turn-each checks [] t.cases none k c at) in
+    let both = first-both _ (in_turn (body_checks topo (shape_of (windows_of t.windows))) [] c.bodies)
+    (turn-each checks [] t.cases none k c at) in
     (put-none c.at (case_rules (length t.cases) (take k t.cases) c.name) both.0, both.1)
 
-few-cases : (topo : Topology) (t : Template) → first_of (in_turn (case_checks topo (shape_of (windows_of t.windows)) (length t.cases)) [] t.cases) ≡ None → (32 < length t.cases → ⊥)
+few-cases : (topo : Topology) (t : Template)
+    → first_of (in_turn (case_checks topo (shape_of (windows_of t.windows)) (length t.cases)) [] t.cases) ≡ None
+    → (32 < length t.cases → ⊥)
 few-cases topo t none many =
     let last = stands-at t.cases 32 many in
     let rules = (case-parts topo t none 32 last.0 last.1).0 in
     (case-sound (length t.cases) (take 32 t.cases) last.0.name rules).0 (length-take-le 32 t.cases (omega arith))
 
-names-differ : (topo : Topology) (t : Template) → first_of (in_turn (case_checks topo (shape_of (windows_of t.windows)) (length t.cases)) [] t.cases) ≡ None
+names-differ : (topo : Topology) (t : Template)
+    → first_of (in_turn (case_checks topo (shape_of (windows_of t.windows)) (length t.cases)) [] t.cases) ≡ None
     → AllPairs (λ c d. c.name ≢ d.name) (map (admitted_case topo) t.cases)
-names-differ topo t none = pair-images (admitted_case topo) (λ c d. c.name ≢ d.name) t.cases (λ j d there i c before here.
+names-differ topo t none = pair-images (admitted_case topo) (λ c d. c.name ≢ d.name) t.cases
+    (λ j d there i c before here.
     let rules = (case-parts topo t none j d there).0 in
-    let fails = any-fails (λ e. bytes_eq e.name d.name) t.cases j (case-sound (length t.cases) (take j t.cases) d.name rules).1 i c before here in
+    let fails = any-fails (λ e. bytes_eq e.name d.name) t.cases j
+    (case-sound (length t.cases) (take j t.cases) d.name rules).1 i c before here in
     λ same. true≢false (sym ((bytes_eq-Decides c.name d.name).1 same) ∙ fails))
 
 -- ---- the whole form
 
-numbers-differ : (topo : Topology) (ws : List WindowDecl) → first_of (in_turn (window_checks topo) [] ws) ≡ None → AllPairs (λ v w. v.number ≢ w.number) (windows_of ws)
+numbers-differ : (topo : Topology) (ws : List WindowDecl) → first_of (in_turn (window_checks topo) [] ws) ≡ None
+    → AllPairs (λ v w. v.number ≢ w.number) (windows_of ws)
 numbers-differ topo ws none = pair-images window_of (λ v w. v.number ≢ w.number) ws (λ j w there i v before here.
     let fails = any-fails (λ u. u.number == w.number) ws j (windows-sound topo ws none j w there).1 i v before here in
     λ same. true≢false (sym (eq-eqb _ _ same) ∙ fails))
 
 -- A template that breaks no rule is admitted as a test that no rule refuses.
-pub admitted-ruled : (topo : Topology) (t : Template) → IsSystem topo → broken_rule topo t ≡ None → IsRuled (admitted_of topo t)
+pub admitted-ruled : (topo : Topology) (t : Template) → IsSystem topo → broken_rule topo t ≡ None
+    → IsRuled (admitted_of topo t)
 unfolding admitted_of
 admitted-ruled topo t system none =
     let parts = parts-none topo t none in
@@ -142,10 +164,12 @@ admitted-ruled topo t system none =
       part = refl;
       bias = system.bias;
       passes = (leb-true 2 t.passes passes.0, leb-true t.passes 8 passes.1);
-      windows = all-images window_of (IsRuledWindow (harts_of topo) topo.line) t.windows (λ k w at. (windows-sound topo t.windows parts.1 k w at).0);
+      windows = all-images window_of (IsRuledWindow (harts_of topo) topo.line) t.windows
+          (λ k w at. (windows-sound topo t.windows parts.1 k w at).0);
       apart = numbers-differ topo t.windows parts.1;
       count = (omega (arith, same, parts.3), omega (arith, same, few-cases topo t parts.2));
       names = names-differ topo t parts.2;
-      each = all-images (admitted_case topo) (IsRuledCase (shared topo (windows_of t.windows)) (windows_of t.windows)) t.cases
+      each = all-images (admitted_case topo) (IsRuledCase (shared topo (windows_of t.windows)) (windows_of t.windows))
+          t.cases
           (λ k c at. case-ruled topo (windows_of t.windows) c shown (case-parts topo t parts.2 k c at).1);
     }

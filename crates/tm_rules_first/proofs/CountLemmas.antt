@@ -1,5 +1,6 @@
 -- The slots that statements stand for.
-use Rattle.std.proofs.Common.{◌≡◌, ◌+◌, ◌<◌, ◌≤◌, ◌^◌, ◌-◌, min, ℕ, List, [], ◌∷◌, ◌++◌, length, get_or, take, drop, refl, sym, ap, ◌∙◌, arith}
+use Rattle.std.proofs.Common.{◌≡◌, ◌+◌, ◌<◌, ◌≤◌, ◌^◌, ◌-◌, min, ℕ, List, [], ◌∷◌, ◌++◌, length, get_or, take, drop}
+use Rattle.std.proofs.Common.{refl, sym, ap, ◌∙◌, arith}
 use Rattle.std.proofs.lemmas.List.{take_more, take-append-drop}
 use Rattle.tm_tmpl_types.specs.declared.template.SlotDecl.{SlotDecl}
 use Rattle.tm_rules_first.specs.Rules.{slots_in, total_slots, slot_count}
@@ -17,21 +18,26 @@ pub total-none : total_slots [] ≡ 0
 unfolding total_slots
 total-none = refl
 
-pub total-more : (ds : List SlotDecl) (k : ℕ) (d : SlotDecl) → k < length ds → d ≡ get_or ds k d → total_slots (take (k + 1) ds) ≡ total_slots (take k ds) + slots_in d.what
+pub total-more : (ds : List SlotDecl) (k : ℕ) (d : SlotDecl) → k < length ds → d ≡ get_or ds k d
+    → total_slots (take (k + 1) ds) ≡ total_slots (take k ds) + slots_in d.what
 total-more ds k d within is =
-    let more : take (k + 1) ds ≡ take k ds ++ d ∷ [] = take_more ds k d within ∙ ap (λ y. take k ds ++ y ∷ []) (sym is) in
+    let more : take (k + 1) ds ≡ take k ds ++ d ∷ [] =
+    take_more ds k d within ∙ ap (λ y. take k ds ++ y ∷ []) (sym is) in
     rw (more, total-append, total-one) refl
 
-pub total-within : (ds : List SlotDecl) (k : ℕ) (d : SlotDecl) → k < length ds → d ≡ get_or ds k d → total_slots (take k ds) + slots_in d.what ≤ total_slots ds
+pub total-within : (ds : List SlotDecl) (k : ℕ) (d : SlotDecl) → k < length ds → d ≡ get_or ds k d
+    → total_slots (take k ds) + slots_in d.what ≤ total_slots ds
 total-within ds k d within is =
-    let whole : total_slots (take (k + 1) ds) + total_slots (drop (k + 1) ds) ≡ total_slots ds = sym (total-append (take (k + 1) ds) (drop (k + 1) ds)) ∙ ap total_slots (take-append-drop (k + 1) ds) in
+    let whole : total_slots (take (k + 1) ds) + total_slots (drop (k + 1) ds) ≡ total_slots ds =
+    sym (total-append (take (k + 1) ds) (drop (k + 1) ds)) ∙ ap total_slots (take-append-drop (k + 1) ds) in
     omega (arith, total-more ds k d within is)
 
 pub count-none : slot_count [] ≡ 0
 unfolding slot_count
 count-none = rw total-none refl
 
-pub count-more : (ds : List SlotDecl) (k : ℕ) (d : SlotDecl) → k < length ds → d ≡ get_or ds k d → slot_count (take (k + 1) ds) ≡ min (slot_count (take k ds) + slots_in d.what) (2 ^ 64 - 1)
+pub count-more : (ds : List SlotDecl) (k : ℕ) (d : SlotDecl) → k < length ds → d ≡ get_or ds k d
+    → slot_count (take (k + 1) ds) ≡ min (slot_count (take k ds) + slots_in d.what) (2 ^ 64 - 1)
 unfolding slot_count
 count-more ds k d within is = rw (total-more ds k d within is) (omega arith)
 

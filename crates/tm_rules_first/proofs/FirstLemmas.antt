@@ -1,5 +1,6 @@
 -- What the first broken check of a list is.
-use Rattle.std.proofs.Common.{◌≡◌, ◌≢◌, ◌<◌, ℕ, zero, suc, List, [], ◌∷◌, ◌++◌, Option, Some, None, slice_get, refl, ap, arith}
+use Rattle.std.proofs.Common.{◌≡◌, ◌≢◌, ◌<◌, ℕ, zero, suc, List, [], ◌∷◌, ◌++◌, Option, Some, None, slice_get, refl}
+use Rattle.std.proofs.Common.{ap, arith}
 use Rattle.tm_base.specs.declared.Pos.{Pos}
 use Rattle.tm_faults.specs.declared.rule.RuleFault.{RuleFault}
 use Rattle.tm_rules_slot.specs.Slots.{first}
@@ -38,7 +39,8 @@ put-passes p [] none = refl
 put-passes p (None ∷ rules) none = put-passes p rules none
 put-passes p (Some f ∷ rules) none = cc
 
-pub put-stops : (p : Pos) (rules : List (Option RuleFault)) (f : RuleFault) → first rules ≡ Some f → first_of (put_at p rules) ≡ Some (at_place p f)
+pub put-stops : (p : Pos) (rules : List (Option RuleFault)) (f : RuleFault) → first rules ≡ Some f
+    → first_of (put_at p rules) ≡ Some (at_place p f)
 unfolding first_of
 put-stops p [] f some = cc
 put-stops p (None ∷ rules) f some = put-stops p rules f some
@@ -65,7 +67,8 @@ holds : (p : Pos) (r : RuleAt) → Some (p, None) ≡ Some (broken r) → ⊥
 unfolding fault_in
 holds p r e = let bad : None ≡ Some r.fault = ap fault_in e in cc
 
-before-more : (p : Pos) (checks : List Check) (place : ℕ) → ((k : ℕ) (s : RuleAt) → k < place → slice_get checks k ≢ Some (broken s))
+before-more : (p : Pos) (checks : List Check) (place : ℕ)
+    → ((k : ℕ) (s : RuleAt) → k < place → slice_get checks k ≢ Some (broken s))
     → (k : ℕ) (s : RuleAt) → k < suc place → slice_get ((p, None) ∷ checks) k ≢ Some (broken s)
 before-more p checks place before zero s under e = holds p s e
 before-more p checks place before (suc k) s under e = before k s (omega arith) e
@@ -85,7 +88,8 @@ first-is-at : (checks : List Check) (r : RuleAt) (place : ℕ) → slice_get che
 unfolding first_of rule_in
 first-is-at [] r place here before = cc
 first-is-at ((p, None) ∷ checks) r zero here before = absurd (holds p r here)
-first-is-at ((p, None) ∷ checks) r (suc place) here before = first-is-at checks r place here (λ k s under. before (suc k) s (omega arith))
+first-is-at ((p, None) ∷ checks) r (suc place) here before =
+    first-is-at checks r place here (λ k s under. before (suc k) s (omega arith))
 first-is-at ((p, Some f) ∷ checks) r zero here before = ap rule_in here
 first-is-at ((p, Some f) ∷ checks) r (suc place) here before = absurd (before 0 (at_place p f) (omega arith) refl)
 

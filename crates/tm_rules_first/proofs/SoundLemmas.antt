@@ -1,5 +1,6 @@
 -- What statements are that break no rule.
-use Rattle.std.proofs.Common.{◌≡◌, ◌≢◌, ◌*◌, ◌≤◌, ◌==◌, ℕ, zero, suc, Bool, true, false, List, [], ◌∷◌, map, length, take, Some, None, slice_get, refl, sym, ◌∙◌, subst}
+use Rattle.std.proofs.Common.{◌≡◌, ◌≢◌, ◌*◌, ◌≤◌, ◌==◌, ℕ, zero, suc, Bool, true, false, List, [], ◌∷◌, map, length}
+use Rattle.std.proofs.Common.{take, Some, None, slice_get, refl, sym, ◌∙◌, subst}
 use Rattle.std.specs.List.{list_any}
 use Rattle.std.specs.Str.{bytes_eq}
 use Rattle.std.proofs.lemmas.Bool.{leb-true, ltb-true, eq-eqb, eqb-true, not-true, and_parts, true≢false}
@@ -20,7 +21,8 @@ use Rattle.tm_tmpl_types.specs.declared.template.CaseDecl.{CaseDecl}
 use Rattle.tm_tmpl_types.specs.declared.template.Selector.{Selector}
 use Rattle.tm_topo.specs.declared.system.Topology.{Topology}
 use Rattle.tm_rules_first.specs.Windows.{kind_of, window_of, windows_of, numbered}
-use Rattle.tm_rules_first.specs.Rules.{unless, first_of, in_turn, has_each, window_rules, window_checks, is_there, twice_fault, body_rules, case_rules}
+use Rattle.tm_rules_first.specs.Rules.{unless, first_of, in_turn, has_each, window_rules, window_checks, is_there}
+use Rattle.tm_rules_first.specs.Rules.{twice_fault, body_rules, case_rules}
 use Rattle.tm_rules_first.proofs.FirstLemmas.{put-none}
 use Rattle.tm_rules_first.proofs.TurnLemmas.{turn-each}
 use Rattle.tm_rules_first.proofs.FindLemmas.{found-in}
@@ -38,7 +40,8 @@ own-lines said.True harts lines each own = cc
 own-lines said.False harts lines each own = cc
 own-lines said.Own harts lines each own = leb-true harts lines each
 
-pub window-sound : (topo : Topology) (before : List WindowDecl) (w : WindowDecl) → first (window_rules topo before w) ≡ None
+pub window-sound : (topo : Topology) (before : List WindowDecl) (w : WindowDecl) → first (window_rules topo before w)
+    ≡ None
     → IsRuledWindow (harts_of topo) topo.line (window_of w) × (list_any (λ v. v.number == w.number) before ≡ false)
 unfolding window_rules
 window-sound topo before w none =
@@ -55,29 +58,37 @@ window-sound topo before w none =
       not-true _ (unless-true _ _ b.0),
     )
 
-pub windows-sound : (topo : Topology) (ws : List WindowDecl) → first_of (in_turn (window_checks topo) [] ws) ≡ None → (k : ℕ) (w : WindowDecl) → slice_get ws k ≡ Some w
+pub windows-sound : (topo : Topology) (ws : List WindowDecl) → first_of (in_turn (window_checks topo) [] ws) ≡ None
+    → (k : ℕ) (w : WindowDecl) → slice_get ws k ≡ Some w
     → IsRuledWindow (harts_of topo) topo.line (window_of w) × (list_any (λ v. v.number == w.number) (take k ws) ≡ false)
 unfolding window_checks
-windows-sound topo ws none k w at = window-sound topo (take k ws) w (put-none w.at (window_rules topo (take k ws) w) (turn-each (window_checks topo) [] ws none k w at))
+windows-sound topo ws none k w at =
+    window-sound topo (take k ws) w (put-none w.at (window_rules topo (take k ws) w)
+    (turn-each (window_checks topo) [] ws none k w at))
 
-pub mapped-at : {A B : Type 0} (f : A → B) (xs : List A) (k : ℕ) (y : B) → slice_get (map f xs) k ≡ Some y → (x : A) × (slice_get xs k ≡ Some x) × (f x ≡ y)
+pub mapped-at : {A B : Type 0} (f : A → B) (xs : List A) (k : ℕ) (y : B) → slice_get (map f xs) k ≡ Some y → (x : A)
+    × (slice_get xs k ≡ Some x) × (f x ≡ y)
 mapped-at f [] k y at = cc
 mapped-at f (x ∷ xs) zero y at = (x, refl, cc)
 mapped-at f (x ∷ xs) (suc k) y at = mapped-at f xs k y at
 
 -- the window of a number, where windows break no rule
-pub numbered-sound : (topo : Topology) (ws : List WindowDecl) → first_of (in_turn (window_checks topo) [] ws) ≡ None → (n : ℕ) (v : Window) → numbered n (windows_of ws) ≡ Some v
+pub numbered-sound : (topo : Topology) (ws : List WindowDecl) → first_of (in_turn (window_checks topo) [] ws) ≡ None
+    → (n : ℕ) (v : Window) → numbered n (windows_of ws) ≡ Some v
     → IsWindow (harts_of topo) topo.line n v
 numbered-sound topo ws none n v found =
     let stands = found-in (λ w. w.number == n) (windows_of ws) v found in
     let said = mapped-at window_of ws stands.1.0 v stands.1.1 in
-    let ruled : IsRuledWindow (harts_of topo) topo.line v = subst (IsRuledWindow (harts_of topo) topo.line) said.2 (windows-sound topo ws none stands.1.0 said.0 said.1).0 in
+    let ruled : IsRuledWindow (harts_of topo) topo.line v =
+    subst (IsRuledWindow (harts_of topo) topo.line) said.2 (windows-sound topo ws none stands.1.0 said.0 said.1).0
+    in
     let number = eqb-true v.number n stands.0 in
     record { number = number; below = rw number at ruled.number; some = ruled.some; few = ruled.few; each = ruled.each }
 
 -- ---- bodies and cases
 
-pub body-sound : (topo : Topology) (before : List BodyDecl) (whom : Selector) (len : ℕ) → first (body_rules topo before whom len) ≡ None
+pub body-sound : (topo : Topology) (before : List BodyDecl) (whom : Selector) (len : ℕ)
+    → first (body_rules topo before whom len) ≡ None
     → (is_there topo whom ≡ true) × (twice_fault topo before whom ≡ None) × (1 ≤ len) × (len ≤ 256)
 unfolding body_rules
 body-sound topo before whom len none =
@@ -97,4 +108,8 @@ case-sound count before name none =
 -- ---- systems
 
 pub system-harts : (topo : Topology) → IsSystem topo → (1 ≤ harts_of topo) × (harts_of topo ≤ 8)
-system-harts topo system = (let some : 1 * 1 ≤ topo.cores * topo.threads = mul-le-mul system.cores.0 system.threads.0 in some, system.harts)
+system-harts topo system = (
+  let some : 1 * 1 ≤ topo.cores * topo.threads = mul-le-mul system.cores.0 system.threads.0 in
+      some,
+  system.harts,
+)

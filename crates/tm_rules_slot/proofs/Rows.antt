@@ -29,9 +29,11 @@ abbrev store : ℤ → Instr
 store imm = record { op = Sd; rd = 0; rs1 = 28; rs2 = 5; imm = imm }
 
 own-part : first (emit_checks 64 8 shared eight (Hart 1) 0 1 (store (pos 8))) ≡ None
-unfolding emit_checks window_fault place_fault owner_fault may_access may_store_at may_load_at slot_addr window_at windows_base team in_team
+unfolding emit_checks window_fault place_fault owner_fault may_access may_store_at may_load_at slot_addr window_at
+    windows_base team in_team
 own-part = refl
 
 other-part : first (emit_checks 64 8 shared eight (Hart 1) 0 1 (store (pos 0))) ≡ Some (NotOwner 1 0x80E80000)
-unfolding emit_checks window_fault place_fault owner_fault may_access may_store_at may_load_at slot_addr window_at windows_base team in_team
+unfolding emit_checks window_fault place_fault owner_fault may_access may_store_at may_load_at slot_addr window_at
+    windows_base team in_team
 other-part = refl

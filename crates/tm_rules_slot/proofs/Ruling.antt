@@ -1,5 +1,7 @@
 -- What a slot without a fault is.
-use Rattle.std.proofs.Common.{◌≡◌, ◌≢◌, ◌≤◌, ◌<◌, ℕ, suc, ◌+◌, ◌-◌, ◌*◌, ◌/◌, ◌%◌, ◌^◌, ◌==◌, Bool, true, false, ◌&&◌, not, nat_lt, nat_le, ℤ, pos, negsuc, ◌≤ℤ◌, List, [], ◌∷◌, find, get_or, Option, Some, None, option_map, is_some, Result, Ok, Err, refl, ◌∙◌, ap, inl, inr, arith}
+use Rattle.std.proofs.Common.{◌≡◌, ◌≢◌, ◌≤◌, ◌<◌, ℕ, suc, ◌+◌, ◌-◌, ◌*◌, ◌/◌, ◌%◌, ◌^◌, ◌==◌, Bool, true, false, ◌&&◌}
+use Rattle.std.proofs.Common.{not, nat_lt, nat_le, ℤ, pos, negsuc, ◌≤ℤ◌, List, [], ◌∷◌, find, get_or, Option, Some}
+use Rattle.std.proofs.Common.{None, option_map, is_some, Result, Ok, Err, refl, ◌∙◌, ap, inl, inr, arith}
 use Rattle.std.specs.List.{list_any}
 use Rattle.std.proofs.lemmas.Bool.{and_parts, not-false, ltb-true, ltb-false, leb-true, eqb-true, lt-ltb}
 use Rattle.std.proofs.lemmas.Nat.{div-add-mod'}
@@ -27,7 +29,10 @@ use Rattle.tm_place.proofs.AllowedLemmas.{Shown, store-computed, load-computed}
 use Rattle.tm_faults.specs.declared.rule.RuleFault.{RuleFault}
 use Rattle.tm_faults.specs.declared.rule.RuleFault.TheVariants.{NoWindow, NotOwner, BadPlace, NotAllowed}
 use Rattle.tm_rules_slot.specs.Teams.{harts_of, in_team, team}
-use Rattle.tm_rules_slot.specs.Slots.{first, broken, barred, within_registers, is_source, source_fault, window_fault, is_placed, width_of, place_fault, may_access, owner_fault, is_forward, target_fault, register_checks, access_checks, emit_checks, fault_of, emit_fault, weight_fault, any_window_fault, mix_fault}
+use Rattle.tm_rules_slot.specs.Slots.{first, broken, barred, within_registers, is_source, source_fault, window_fault}
+use Rattle.tm_rules_slot.specs.Slots.{is_placed, width_of, place_fault, may_access, owner_fault, is_forward}
+use Rattle.tm_rules_slot.specs.Slots.{target_fault, register_checks, access_checks, emit_checks, fault_of, emit_fault}
+use Rattle.tm_rules_slot.specs.Slots.{weight_fault, any_window_fault, mix_fault}
 use Rattle.tm_rules_slot.specs.Laws.{IsRuledLine, HasWindow, AreRuledWeights}
 use Rattle.tm_rules_slot.proofs.Finding.{team-fails}
 use Rattle.tm_rules_slot.proofs.Checking.{first-none, unbroken, stops-second, stops-third, comes-last, only-check}
@@ -46,7 +51,8 @@ any-stands [] e = cc
 any-stands (Some v ∷ shape) e = (0, v, refl)
 any-stands (None ∷ shape) e = let more = any-stands shape e in (suc (more.0), more.1, more.2)
 
-pub mix-ruled : (shape : List (Option Window)) (alu load store branch : ℕ) → mix_fault shape alu load store branch ≡ None → AreRuledWeights shape alu load store branch
+pub mix-ruled : (shape : List (Option Window)) (alu load store branch : ℕ) → mix_fault shape alu load store branch
+    ≡ None → AreRuledWeights shape alu load store branch
 unfolding mix_fault
 mix-ruled shape alu load store branch e =
     let sum = alu + load + store + branch in
@@ -56,7 +62,8 @@ mix-ruled shape alu load store branch e =
     record {
       some = leb-true 1 sum (weights.0);
       few = leb-true sum 1000000 (weights.1);
-      places = λ some. any-stands shape (held (nat_lt 0 (load + store)) (list_any is_some shape) _ (windows.0) (lt-ltb 0 (load + store) (omega arith)));
+      places = λ some. any-stands shape (held (nat_lt 0 (load + store)) (list_any is_some shape) _ (windows.0)
+          (lt-ltb 0 (load + store) (omega arith)));
     }
 
 -- ---- ops
@@ -90,28 +97,34 @@ source-free : (i : Instr) → is_source i ≡ true → is_access i.op ≡ false 
 source-free i e t = let read = rw t at e in leb-true i.rs1 27 read
 
 source-base : (i : Instr) → is_source i ≡ true → is_access i.op ≡ true → (28 ≤ i.rs1) × (i.rs1 ≤ 30)
-source-base i e t = let read = rw t at e in let both = and_parts (nat_le 28 i.rs1) (nat_le i.rs1 30) read in (leb-true 28 i.rs1 (both.0), leb-true i.rs1 30 (both.1))
+source-base i e t = let read = rw t at e in let both = and_parts (nat_le 28 i.rs1) (nat_le i.rs1 30) read in
+    (leb-true 28 i.rs1 (both.0), leb-true i.rs1 30 (both.1))
 
 -- ---- the access of a load or store
 
 abbrev Accessed : (line part : ℕ) → List (Option Window) → Topology → Selector → Instr → Option RuleFault
 Accessed line part shape topo whom i = first (access_checks line part shape topo whom i)
 
-pub access-none : (line part : ℕ) (shape : List (Option Window)) (topo : Topology) (whom : Selector) (i : Instr) → is_access i.op ≡ false → None ≡ Accessed line part shape topo whom i
+pub access-none : (line part : ℕ) (shape : List (Option Window)) (topo : Topology) (whom : Selector) (i : Instr)
+    → is_access i.op ≡ false → None ≡ Accessed line part shape topo whom i
 unfolding window_fault place_fault owner_fault
 access-none line part shape topo whom i t = rw t refl
 
-pub access-undeclared : (line part : ℕ) (shape : List (Option Window)) (topo : Topology) (whom : Selector) (i : Instr) → is_access i.op ≡ true
+pub access-undeclared : (line part : ℕ) (shape : List (Option Window)) (topo : Topology) (whom : Selector) (i : Instr)
+    → is_access i.op ≡ true
     → get_or shape (i.rs1 - 28) None ≡ None → Some (NoWindow (i.rs1 - 28)) ≡ Accessed line part shape topo whom i
 unfolding window_fault place_fault owner_fault
 access-undeclared line part shape topo whom i t none = rw (t, none) refl
 
-pub access-misplaced : (line part : ℕ) (shape : List (Option Window)) (topo : Topology) (whom : Selector) (i : Instr) (v : Window) → is_access i.op ≡ true
-    → get_or shape (i.rs1 - 28) None ≡ Some v → is_placed line (i.rs1 - 28) (width_of i) (slot_addr i) (Some v) ≡ false → Some (BadPlace (slot_addr i)) ≡ Accessed line part shape topo whom i
+pub access-misplaced : (line part : ℕ) (shape : List (Option Window)) (topo : Topology) (whom : Selector) (i : Instr)
+    (v : Window) → is_access i.op ≡ true
+    → get_or shape (i.rs1 - 28) None ≡ Some v → is_placed line (i.rs1 - 28) (width_of i) (slot_addr i) (Some v) ≡ false
+    → Some (BadPlace (slot_addr i)) ≡ Accessed line part shape topo whom i
 unfolding window_fault place_fault owner_fault
 access-misplaced line part shape topo whom i v t some off = rw (t, some, off) refl
 
-pub access-owned : (line part : ℕ) (shape : List (Option Window)) (topo : Topology) (whom : Selector) (i : Instr) (v : Window) (o : Option ℕ) → is_access i.op ≡ true
+pub access-owned : (line part : ℕ) (shape : List (Option Window)) (topo : Topology) (whom : Selector) (i : Instr)
+    (v : Window) (o : Option ℕ) → is_access i.op ≡ true
     → get_or shape (i.rs1 - 28) None ≡ Some v → is_placed line (i.rs1 - 28) (width_of i) (slot_addr i) (Some v) ≡ true
     → o ≡ find (λ h. not (may_access (harts_of topo) line part shape i h)) (team topo whom)
     → option_map (λ h. NotOwner h (slot_addr i)) o ≡ Accessed line part shape topo whom i
@@ -127,35 +140,46 @@ Found line part shape topo whom n len i = first (emit_checks line part shape top
 allowed : (i : Instr) → is_barred i.op ≡ false → barred i ≡ None
 allowed i t = rw t refl
 
-pub emit-barred : (line part : ℕ) (shape : List (Option Window)) (topo : Topology) (whom : Selector) (n len : ℕ) (i : Instr) → is_barred i.op ≡ true
+pub emit-barred : (line part : ℕ) (shape : List (Option Window)) (topo : Topology) (whom : Selector) (n len : ℕ)
+    (i : Instr) → is_barred i.op ≡ true
     → Some (NotAllowed i.op) ≡ Found line part shape topo whom n len i
 unfolding emit_checks
 emit-barred line part shape topo whom n len i t = rw t refl
 
-pub emit-register : (line part : ℕ) (shape : List (Option Window)) (topo : Topology) (whom : Selector) (n len : ℕ) (i : Instr) (f : RuleFault) → is_barred i.op ≡ false
+pub emit-register : (line part : ℕ) (shape : List (Option Window)) (topo : Topology) (whom : Selector) (n len : ℕ)
+    (i : Instr) (f : RuleFault) → is_barred i.op ≡ false
     → first (register_checks i) ≡ Some f → Some f ≡ Found line part shape topo whom n len i
 unfolding emit_checks
 emit-register line part shape topo whom n len i f t =
-    stops-second (barred i) (register_checks i) (access_checks line part shape topo whom i) (target_fault n len i ∷ []) f (allowed i t)
+    stops-second (barred i) (register_checks i) (access_checks line part shape topo whom i) (target_fault n len i ∷ [])
+    f (allowed i t)
 
-pub emit-access : (line part : ℕ) (shape : List (Option Window)) (topo : Topology) (whom : Selector) (n len : ℕ) (i : Instr) (f : RuleFault) → is_barred i.op ≡ false
-    → first (register_checks i) ≡ None → Accessed line part shape topo whom i ≡ Some f → Some f ≡ Found line part shape topo whom n len i
+pub emit-access : (line part : ℕ) (shape : List (Option Window)) (topo : Topology) (whom : Selector) (n len : ℕ)
+    (i : Instr) (f : RuleFault) → is_barred i.op ≡ false
+    → first (register_checks i) ≡ None → Accessed line part shape topo whom i ≡ Some f
+    → Some f ≡ Found line part shape topo whom n len i
 unfolding emit_checks
 emit-access line part shape topo whom n len i f t =
-    stops-third (barred i) (register_checks i) (access_checks line part shape topo whom i) (target_fault n len i ∷ []) f (allowed i t)
+    stops-third (barred i) (register_checks i) (access_checks line part shape topo whom i) (target_fault n len i ∷ []) f
+    (allowed i t)
 
-pub emit-target : (line part : ℕ) (shape : List (Option Window)) (topo : Topology) (whom : Selector) (n len : ℕ) (i : Instr) → is_barred i.op ≡ false
-    → first (register_checks i) ≡ None → Accessed line part shape topo whom i ≡ None → target_fault n len i ≡ Found line part shape topo whom n len i
+pub emit-target : (line part : ℕ) (shape : List (Option Window)) (topo : Topology) (whom : Selector) (n len : ℕ)
+    (i : Instr) → is_barred i.op ≡ false
+    → first (register_checks i) ≡ None → Accessed line part shape topo whom i ≡ None → target_fault n len i
+    ≡ Found line part shape topo whom n len i
 unfolding emit_checks
 emit-target line part shape topo whom n len i t registers access =
     only-check (target_fault n len i)
-    ∙ comes-last (barred i) (register_checks i) (access_checks line part shape topo whom i) (target_fault n len i ∷ []) (allowed i t) registers access
+    ∙ comes-last (barred i) (register_checks i) (access_checks line part shape topo whom i) (target_fault n len i ∷ [])
+    (allowed i t) registers access
 
 -- weights without a fault, by their two rules
-pub mix-passed : (shape : List (Option Window)) (alu load store branch sum accesses : ℕ) → weight_fault sum ≡ None → any_window_fault shape accesses ≡ None
+pub mix-passed : (shape : List (Option Window)) (alu load store branch sum accesses : ℕ) → weight_fault sum ≡ None
+    → any_window_fault shape accesses ≡ None
     → sum ≡ alu + load + store + branch → accesses ≡ load + store → mix_fault shape alu load store branch ≡ None
 unfolding mix_fault
-mix-passed shape alu load store branch sum accesses weights windows e f = let a = rw e at weights in let b = rw f at windows in rw a (rw b refl)
+mix-passed shape alu load store branch sum accesses weights windows e f = let a = rw e at weights in let b =
+    rw f at windows in rw a (rw b refl)
 
 -- ---- what the rules of an instruction say
 
@@ -163,7 +187,8 @@ parted-none : {A B : Type 0} (f : A → B) (o : Option A) → option_map f o ≡
 parted-none f None e = refl
 parted-none f (Some x) e = cc
 
-owner-allows : (line part : ℕ) (shape : List (Option Window)) (topo : Topology) (whom : Selector) (i : Instr) → owner_fault line part shape topo whom i ≡ None → is_access i.op ≡ true
+owner-allows : (line part : ℕ) (shape : List (Option Window)) (topo : Topology) (whom : Selector) (i : Instr)
+    → owner_fault line part shape topo whom i ≡ None → is_access i.op ≡ true
     → (h : ℕ) → h < harts_of topo → in_team topo whom h ≡ true → may_access (harts_of topo) line part shape i h ≡ true
 unfolding owner_fault
 owner-allows line part shape topo whom i e t h less among =
@@ -174,26 +199,31 @@ owner-allows line part shape topo whom i e t h less among =
 some-access : (op : Op) → load_width op + store_width op ≢ 0 → is_access op ≡ true
 some-access op some = lt-ltb 0 (load_width op + store_width op) (omega arith)
 
-access-load : (harts line part : ℕ) (shape : List (Option Window)) (i : Instr) (h : ℕ) → may_access harts line part shape i h ≡ true → load_width i.op ≢ 0
+access-load : (harts line part : ℕ) (shape : List (Option Window)) (i : Instr) (h : ℕ)
+    → may_access harts line part shape i h ≡ true → load_width i.op ≢ 0
     → may_load_at harts line part shape h (slot_addr i) (load_width i.op) ≡ true
 unfolding may_access
 access-load harts line part shape i h e some = let test = lt-ltb 0 (load_width i.op) (omega arith) in rw test at e
 
-access-store : (harts line part : ℕ) (shape : List (Option Window)) (i : Instr) (h : ℕ) → may_access harts line part shape i h ≡ true → store_width i.op ≢ 0
+access-store : (harts line part : ℕ) (shape : List (Option Window)) (i : Instr) (h : ℕ)
+    → may_access harts line part shape i h ≡ true → store_width i.op ≢ 0
     → may_store_at harts line part shape h (slot_addr i) (store_width i.op) ≡ true
 unfolding may_access
 access-store harts line part shape i h e some = let none = one-kind i.op some in rw none at e
 
-based-at : (s : Sharing) (shape : List (Option Window)) (i : Instr) → Shown s shape → (o : Option Window) → get_or shape (i.rs1 - 28) None ≡ o
+based-at : (s : Sharing) (shape : List (Option Window)) (i : Instr) → Shown s shape → (o : Option Window)
+    → get_or shape (i.rs1 - 28) None ≡ o
     → is_placed s.line (i.rs1 - 28) (width_of i) (slot_addr i) o ≡ true → IsBased s i
 based-at s shape i shown None e t = cc
 based-at s shape i shown (Some v) e t =
     let w = i.rs1 - 28 in
     let there : s.window w ≡ Some v = shown.reads w ∙ e in
     let is = shown.sound.windows w v there in
-    let inside = and_parts (nat_le (window_at w) (slot_addr i)) (nat_lt (slot_addr i) (window_at w + v.lines * s.line)) (and_parts (slot_addr i % width_of i == 0) (within (window_at w) (v.lines * s.line) (slot_addr i)) t).1 in
+    let inside = and_parts (nat_le (window_at w) (slot_addr i)) (nat_lt (slot_addr i) (window_at w + v.lines * s.line))
+    (and_parts (slot_addr i % width_of i == 0) (within (window_at w) (v.lines * s.line) (slot_addr i)) t).1 in
     let low : window_at w ≤ slot_addr i = leb-true (window_at w) (slot_addr i) (inside.0) in
-    let high : slot_addr i < window_at w + v.lines * s.line = ltb-true (slot_addr i) (window_at w + v.lines * s.line) (inside.1) in
+    let high : slot_addr i < window_at w + v.lines * s.line =
+    ltb-true (slot_addr i) (window_at w + v.lines * s.line) (inside.1) in
     let some : 1 ≤ s.line = size-some s.line shown.sound.size in
     let parts = div-add-mod' (slot_addr i - window_at w) s.line in
     let off : slot_addr i - window_at w < v.lines * s.line = omega arith in
@@ -226,7 +256,8 @@ pub fits-below : (i : Instr) → Fits i → i.imm ≤ℤ pos 1048575
 unfolding Fits
 fits-below i h = imm-below (row_of i.op).layout i h
 
-goes-forward : (n len : ℕ) (z : ℤ) → z ≤ℤ pos 1048575 → is_forward n len z ≡ true → (low 64 z % 4 ≡ 0) × (n < n + low 64 z / 4) × (n + low 64 z / 4 ≤ len)
+goes-forward : (n len : ℕ) (z : ℤ) → z ≤ℤ pos 1048575 → is_forward n len z ≡ true → (low 64 z % 4 ≡ 0)
+    × (n < n + low 64 z / 4) × (n + low 64 z / 4 ≤ len)
 goes-forward n len (pos o) few e =
     let small : o ≤ 1048575 = omega (arith, ints) in
     let same : o % 2 ^ 64 ≡ o = mod-eq_of_lt (omega arith) in
@@ -239,8 +270,10 @@ goes-forward n len (pos o) few e =
 goes-forward n len (negsuc k) few e = cc
 
 -- An instruction of which no rule is broken is one that each hart of the body may run.
-pub instr-ruled : (s : Sharing) (shape : List (Option Window)) (topo : Topology) (whom : Selector) (n len : ℕ) (i : Instr) → Shown s shape → s.harts ≡ harts_of topo → Fits i
-    → first (emit_checks s.line s.part shape topo whom n len i) ≡ None → (h : ℕ) → h < harts_of topo → in_team topo whom h ≡ true → IsRuledEmit s h len n i
+pub instr-ruled : (s : Sharing) (shape : List (Option Window)) (topo : Topology) (whom : Selector) (n len : ℕ)
+    (i : Instr) → Shown s shape → s.harts ≡ harts_of topo → Fits i
+    → first (emit_checks s.line s.part shape topo whom n len i) ≡ None → (h : ℕ) → h < harts_of topo
+    → in_team topo whom h ≡ true → IsRuledEmit s h len n i
 unfolding emit_checks place_fault slot_target
 instr-ruled s shape topo whom n len i shown harts fits e h less among =
     let a = first-none (barred i) _ e in
@@ -252,7 +285,8 @@ instr-ruled s shape topo whom n len i shown harts fits e h less among =
     let k = first-none (owner_fault s.line s.part shape topo whom i) _ (j.1) in
     let l = first-none (target_fault n len i) _ (k.1) in
     let source = not-false (is_source i) (unbroken _ _ (d.0)) in
-    let allows : is_access i.op ≡ true → may_access s.harts s.line s.part shape i h ≡ true = λ t. rw harts (owner-allows s.line s.part shape topo whom i (k.0) t h less among) in
+    let allows : is_access i.op ≡ true → may_access s.harts s.line s.part shape i h ≡ true =
+    λ t. rw harts (owner-allows s.line s.part shape topo whom i (k.0) t h less among) in
     record {
       fits = fits;
       allowed = unbroken _ _ (a.0);
@@ -267,11 +301,14 @@ instr-ruled s shape topo whom n len i shown harts fits e h less among =
       stores = λ some.
           (store-computed s shape h (slot_addr i) (store_width i.op) shown (store-wide i.op some)).0
           (access-store s.harts s.line s.part shape i h (allows (some-access i.op (λ e. some (omega arith)))) some);
-      target = λ t. goes-forward n len i.imm (fits-below i fits) (held (is_jump i.op) (is_forward n len i.imm) _ (l.0) t);
+      target = λ t. goes-forward n len i.imm (fits-below i fits)
+          (held (is_jump i.op) (is_forward n len i.imm) _ (l.0) t);
     }
 
-ruled-by : (s : Sharing) (shape : List (Option Window)) (topo : Topology) (whom : Selector) (n len : ℕ) (text : List ℕ) (r : Result Instr AsmFault) → line_of text ≡ r → Shown s shape
-    → s.harts ≡ harts_of topo → fault_of r (λ i. first (emit_checks s.line s.part shape topo whom n len i)) ≡ None → IsRuledLine s topo whom len n text
+ruled-by : (s : Sharing) (shape : List (Option Window)) (topo : Topology) (whom : Selector) (n len : ℕ) (text : List ℕ)
+    (r : Result Instr AsmFault) → line_of text ≡ r → Shown s shape
+    → s.harts ≡ harts_of topo → fault_of r (λ i. first (emit_checks s.line s.part shape topo whom n len i)) ≡ None
+    → IsRuledLine s topo whom len n text
 ruled-by s shape topo whom n len text (Err f) is shown harts e = cc
 ruled-by s shape topo whom n len text (Ok i) is shown harts e = record {
   instr = i;
@@ -280,7 +317,9 @@ ruled-by s shape topo whom n len text (Ok i) is shown harts e = record {
 }
 
 -- A line without a fault spells an instruction that each hart of the body may run.
-pub emit-ruled : (s : Sharing) (shape : List (Option Window)) (topo : Topology) (whom : Selector) (n len : ℕ) (text : List ℕ) → Shown s shape → s.harts ≡ harts_of topo
+pub emit-ruled : (s : Sharing) (shape : List (Option Window)) (topo : Topology) (whom : Selector) (n len : ℕ)
+    (text : List ℕ) → Shown s shape → s.harts ≡ harts_of topo
     → emit_fault s.line s.part shape topo whom n len text ≡ None → IsRuledLine s topo whom len n text
 unfolding emit_fault
-emit-ruled s shape topo whom n len text shown harts e = ruled-by s shape topo whom n len text (line_of text) refl shown harts e
+emit-ruled s shape topo whom n len text shown harts e =
+    ruled-by s shape topo whom n len text (line_of text) refl shown harts e

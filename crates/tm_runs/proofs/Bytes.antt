@@ -1,5 +1,6 @@
 -- Numbers and their bytes, the lowest first.
-use Rattle.std.proofs.Common.{◌≡◌, ℕ, zero, suc, ◌+◌, ◌-◌, ◌*◌, ◌/◌, ◌%◌, ◌^◌, ◌<◌, ◌≤◌, Bool, true, false, None, Some, ◌⊎◌, sym, ap, ◌∙◌, arith}
+use Rattle.std.proofs.Common.{◌≡◌, ℕ, zero, suc, ◌+◌, ◌-◌, ◌*◌, ◌/◌, ◌%◌, ◌^◌, ◌<◌, ◌≤◌, Bool, false, None}
+use Rattle.std.proofs.Common.{Some, ◌⊎◌, sym, ap, ◌∙◌, arith}
 use Rattle.std.specs.Prelude.{if◌then◌else◌}
 use Rattle.std.proofs.Math.Nat.{div-div-eq-div-mul, pow-succ'}
 use Rattle.std.proofs.lemmas.Bool.Decides.{nat_tests}
@@ -11,7 +12,8 @@ use Rattle.tm_world.specs.Run.{written}
 use Rattle.tm_runs.specs.World.{joined}
 
 pub byte-shift : (v i : ℕ) → byte_of v (suc i) ≡ byte_of (v / 256) i
-byte-shift v i = ap (λ (d : ℕ). v / d % 256) (pow-succ' 256 i) ∙ ap (λ (q : ℕ). q % 256) (sym (div-div-eq-div-mul v 256 (256 ^ i)))
+byte-shift v i = ap (λ (d : ℕ). v / d % 256) (pow-succ' 256 i) ∙ ap (λ (q : ℕ). q % 256)
+    (sym (div-div-eq-div-mul v 256 (256 ^ i)))
 
 pub byte-lt : (v i : ℕ) → byte_of v i < 256
 byte-lt v i = omega arith
@@ -25,7 +27,8 @@ same : (k x y : ℕ) → Fit x k → Fit y k → ((i : ℕ) → i < k → byte_o
 same zero x y f g h = f ∙ sym g
 same (suc k) x y f g h =
     let low : x % 256 ≡ y % 256 = let e = h 0 (omega arith) in omega arith in
-    let high : x / 256 ≡ y / 256 = same k (x / 256) (y / 256) f g (λ i p. sym (byte-shift x i) ∙ (h (suc i) (omega arith) ∙ byte-shift y i)) in
+    let high : x / 256 ≡ y / 256 =
+    same k (x / 256) (y / 256) f g (λ i p. sym (byte-shift x i) ∙ (h (suc i) (omega arith) ∙ byte-shift y i)) in
     omega arith
 
 -- 8 bytes tell a dword
@@ -38,7 +41,8 @@ joined-byte f (suc n) zero h l = let b = h 0 in omega arith
 joined-byte f (suc n) (suc i) h l =
     let q = joined (λ j. f (suc j)) n in
     let e : (f 0 + 256 * q) / 256 ≡ q = let b = h 0 in omega arith in
-    byte-shift (f 0 + 256 * q) i ∙ (ap (λ (x : ℕ). byte_of x i) e ∙ joined-byte (λ j. f (suc j)) n i (λ j. h (suc j)) (omega arith))
+    byte-shift (f 0 + 256 * q) i ∙ (ap (λ (x : ℕ). byte_of x i) e ∙ joined-byte (λ j. f (suc j)) n i (λ j. h (suc j))
+    (omega arith))
 
 pub joined-lt : (f : ℕ → ℕ) (n : ℕ) → ((j : ℕ) → f j < 256) → joined f n < 256 ^ n
 joined-lt f zero h = omega arith

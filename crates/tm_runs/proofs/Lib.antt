@@ -8,6 +8,7 @@ pub mod Places
 pub mod Worlds
 pub mod Memory
 pub mod Half
+pub mod Registers
 pub mod Parts
 pub mod Paths
 pub mod Arrivals

@@ -1,5 +1,6 @@
 -- What the rows of the table have in common: fields in range, and effects on dwords alone.
-use Rattle.std.proofs.Common.{◌≡◌, ℕ, ◌+◌, ◌^◌, ◌<◌, ℤ, pos, negsuc, false, Option, None, Some, ◌⊎◌, inl, inr, refl, sym, ap, subst, arith, option_map}
+use Rattle.std.proofs.Common.{◌≡◌, ℕ, ◌+◌, ◌^◌, ◌<◌, ℤ, pos, negsuc, false, Option, None, Some, ◌⊎◌, inl, inr, refl}
+use Rattle.std.proofs.Common.{sym, ap, subst, arith, option_map}
 use Rattle.std.specs.Prelude.{◌≤ℤ◌}
 use Rattle.std.proofs.lemmas.Int.{ints}
 use Rattle.tm_table.specs.declared.instr.Op.{Op}
@@ -41,15 +42,60 @@ from-near (negsuc n) b q h = omega (arith, ints, h)
 
 reach-as : (l : Layout) (i : Instr) → FitsAs l i → InReach i
 reach-as R i h = record { rd = h.0; rs1 = h.1; rs2 = h.2; imm = zero-near i.imm h.3 }
-reach-as I i h = record { rd = h.0; rs1 = h.1; rs2 = omega (arith, h.2); imm = near i.imm 2047 2047 (omega arith) (omega arith) h.3 }
-reach-as S i h = record { rd = omega (arith, h.0); rs1 = h.1; rs2 = h.2; imm = near i.imm 2047 2047 (omega arith) (omega arith) h.3 }
-reach-as B i h = record { rd = omega (arith, h.0); rs1 = h.1; rs2 = h.2; imm = near i.imm 4095 4095 (omega arith) (omega arith) h.3 }
-reach-as U i h = record { rd = h.0; rs1 = omega (arith, h.1); rs2 = omega (arith, h.2); imm = from-near i.imm 1048575 (omega arith) h.3 }
-reach-as J i h = record { rd = h.0; rs1 = omega (arith, h.1); rs2 = omega (arith, h.2); imm = near i.imm 1048575 1048575 (omega arith) (omega arith) h.3 }
-reach-as Shift6 i h = record { rd = h.0; rs1 = h.1; rs2 = omega (arith, h.2); imm = from-near i.imm 63 (omega arith) h.3 }
-reach-as Shift5 i h = record { rd = h.0; rs1 = h.1; rs2 = omega (arith, h.2); imm = from-near i.imm 31 (omega arith) h.3 }
-reach-as Order i h = record { rd = omega (arith, h.0); rs1 = omega (arith, h.1); rs2 = omega (arith, h.2); imm = from-near i.imm 255 (omega arith) h.3 }
-reach-as Whole i h = record { rd = omega (arith, h.0); rs1 = omega (arith, h.1); rs2 = omega (arith, h.2); imm = zero-near i.imm h.3 }
+reach-as I i h = record {
+  rd = h.0;
+  rs1 = h.1;
+  rs2 = omega (arith, h.2);
+  imm = near i.imm 2047 2047 (omega arith) (omega arith) h.3;
+}
+reach-as S i h = record {
+  rd = omega (arith, h.0);
+  rs1 = h.1;
+  rs2 = h.2;
+  imm = near i.imm 2047 2047 (omega arith) (omega arith) h.3;
+}
+reach-as B i h = record {
+  rd = omega (arith, h.0);
+  rs1 = h.1;
+  rs2 = h.2;
+  imm = near i.imm 4095 4095 (omega arith) (omega arith) h.3;
+}
+reach-as U i h = record {
+  rd = h.0;
+  rs1 = omega (arith, h.1);
+  rs2 = omega (arith, h.2);
+  imm = from-near i.imm 1048575 (omega arith) h.3;
+}
+reach-as J i h = record {
+  rd = h.0;
+  rs1 = omega (arith, h.1);
+  rs2 = omega (arith, h.2);
+  imm = near i.imm 1048575 1048575 (omega arith) (omega arith) h.3;
+}
+reach-as Shift6 i h = record {
+  rd = h.0;
+  rs1 = h.1;
+  rs2 = omega (arith, h.2);
+  imm = from-near i.imm 63 (omega arith) h.3;
+}
+reach-as Shift5 i h = record {
+  rd = h.0;
+  rs1 = h.1;
+  rs2 = omega (arith, h.2);
+  imm = from-near i.imm 31 (omega arith) h.3;
+}
+reach-as Order i h = record {
+  rd = omega (arith, h.0);
+  rs1 = omega (arith, h.1);
+  rs2 = omega (arith, h.2);
+  imm = from-near i.imm 255 (omega arith) h.3;
+}
+reach-as Whole i h = record {
+  rd = omega (arith, h.0);
+  rs1 = omega (arith, h.1);
+  rs2 = omega (arith, h.2);
+  imm = zero-near i.imm h.3;
+}
 
 reach : (i : Instr) → Fits i → InReach i
 unfolding Fits
@@ -61,15 +107,18 @@ unfolding instr_of
 word-reach w i b e = let f = word-decoded w i b e in (reach i f.0, f.1)
 
 -- a row's word is that of an instruction, of which it is the step
-pub row-decoded : (hart : Hart) (w read : ℕ) (after : Hart) (access : Access) → row_word hart w read ≡ Some (after, access) → (i : Instr) × (instr_of w ≡ Some i) × (row hart i read ≡ (after, access))
+pub row-decoded : (hart : Hart) (w read : ℕ) (after : Hart) (access : Access) → row_word hart w read
+    ≡ Some (after, access) → (i : Instr) × (instr_of w ≡ Some i) × (row hart i read ≡ (after, access))
 unfolding instr_of row_word
 row-decoded hart w read after access e = by (decoded (split w)) refl e
   where
-    by : (o : Option Instr) → decoded (split w) ≡ o → option_map (λ (i : Instr). row hart i read) o ≡ Some (after, access) → (i : Instr) × (decoded (split w) ≡ Some i) × (row hart i read ≡ (after, access))
+    by : (o : Option Instr) → decoded (split w) ≡ o → option_map (λ (i : Instr). row hart i read) o
+        ≡ Some (after, access) → (i : Instr) × (decoded (split w) ≡ Some i) × (row hart i read ≡ (after, access))
     by None d e' = cc
     by (Some i) d e' = let s : ◌≡◌ {A = Hart × Access} (row hart i read) (after, access) = cc in (i, d, s)
 
-pub decoded-row : (hart : Hart) (w read : ℕ) (i : Instr) → instr_of w ≡ Some i → row_word hart w read ≡ Some (row hart i read)
+pub decoded-row : (hart : Hart) (w read : ℕ) (i : Instr) → instr_of w ≡ Some i → row_word hart w read
+    ≡ Some (row hart i read)
 unfolding instr_of row_word
 decoded-row hart w read i e = ap (option_map (λ (j : Instr). row hart j read)) e
 

@@ -1,5 +1,6 @@
 -- Laws of registers, memory and places.
-use Rattle.std.proofs.Common.{◌≡◌, ◌≢◌, ℕ, zero, suc, ◌+◌, ◌*◌, ◌^◌, ◌<◌, List, [], ◌∷◌, ◌++◌, length, Option, Bool, true, false, refl, sym, ap, ◌∙◌, subst, arith, eq-eqb, ne_eqb}
+use Rattle.std.proofs.Common.{◌≡◌, ◌≢◌, ℕ, zero, suc, ◌+◌, ◌*◌, ◌^◌, ◌<◌, List, [], ◌∷◌, ◌++◌, length, Option, Bool}
+use Rattle.std.proofs.Common.{true, false, refl, sym, ap, ◌∙◌, subst, arith, eq-eqb, ne_eqb}
 use Rattle.std.specs.Prelude.{nat_eq, if◌then◌else◌}
 use mathlib.Core.Path.{fun_ext}
 use Rattle.tm_table.specs.declared.instr.Instr.{Instr}
@@ -26,7 +27,8 @@ get_put_zero f v zero = refl
 get_put_zero f v (suc x) = put_other f 0 v (suc x) (λ e. omega arith)
 
 -- every register has 64 bits after a value of 64 bits was put into one
-pub get_put_fits : (f : Table) (r v : ℕ) → ((x : ℕ) → get f x < 2 ^ 64) → v < 2 ^ 64 → (x : ℕ) → get (put f r v) x < 2 ^ 64
+pub get_put_fits : (f : Table) (r v : ℕ) → ((x : ℕ) → get f x < 2 ^ 64) → v < 2 ^ 64 → (x : ℕ)
+    → get (put f r v) x < 2 ^ 64
 get_put_fits f r v h small zero = h 0
 get_put_fits f r v h small (suc x) = by (nat_eq (suc x) r) (h (suc x))
   where
@@ -52,5 +54,7 @@ at_back t a (x ∷ xs) ys h =
     subst (λ (b : ℕ). At t b ys) e (at_back t (a + 4) xs ys h.1)
 
 -- the words after a block, where the run is after it
-pub at_next : (t : ℕ → Option Instr) (a b : ℕ) (xs ys : List Instr) (n : ℕ) → length xs ≡ n → b ≡ a + 4 * n → At t a (xs ++ ys) → At t b ys
-at_next t a b xs ys n len e h = subst (λ (x : ℕ). At t x ys) (ap (λ (k : ℕ). a + 4 * k) len ∙ sym e) (at_back t a xs ys h)
+pub at_next : (t : ℕ → Option Instr) (a b : ℕ) (xs ys : List Instr) (n : ℕ) → length xs ≡ n → b ≡ a + 4 * n
+    → At t a (xs ++ ys) → At t b ys
+at_next t a b xs ys n len e h = subst (λ (x : ℕ). At t x ys) (ap (λ (k : ℕ). a + 4 * k) len ∙ sym e)
+    (at_back t a xs ys h)

@@ -27,7 +27,8 @@ sound p s = record {
   tables = s.tables;
   course = course p s;
   bound = λ h l. pace-bounds p (meets p s) h l (s.each h l).pace (s.each h l).fits (s.each h l).keeps (s.each h l).next;
-  silent = silent p (record { program = s.program; typed = s.typed; masks = s.masks; course = course p s }) (λ h l. (s.each h l).exact);
+  silent = silent p (record { program = s.program; typed = s.typed; masks = s.masks; course = course p s })
+      (λ h l. (s.each h l).exact);
   exact = λ h l. (s.each h l).exact;
   plain = plain-legal p (meets p s);
 }

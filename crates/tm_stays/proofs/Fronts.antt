@@ -1,6 +1,7 @@
--- What a hart has come to is a front of its whole way: so it has entered each stream as often as it has come to its end, or once more,
--- and once more only in the run phase of a pass of its case.
-use Rattle.std.proofs.Common.{◌≡◌, ℕ, zero, suc, ◌+◌, ◌*◌, ◌/◌, ◌<◌, ◌≤◌, List, [], ◌∷◌, ◌++◌, Bool, true, false, ◌==◌, ◌⊎◌, inl, inr, refl, sym, ap, ap₂, ◌∙◌, subst, arith, append_assoc, ne_eqb}
+-- What a hart has come to is a front of its whole way: so it has entered each stream as often as it has come to its
+-- end, or once more, and once more only in the run phase of a pass of its case.
+use Rattle.std.proofs.Common.{◌≡◌, ℕ, zero, suc, ◌+◌, ◌*◌, ◌/◌, ◌<◌, ◌≤◌, List, [], ◌∷◌, ◌++◌, Bool, true, false}
+use Rattle.std.proofs.Common.{◌==◌, ◌⊎◌, inl, inr, refl, sym, ap, ap₂, ◌∙◌, subst, arith, append_assoc, ne_eqb}
 use Rattle.std.specs.Prelude.{flat_map, if◌then◌else◌}
 use Rattle.std.proofs.lemmas.Bool.{cases_eq}
 use Rattle.std.proofs.lemmas.Nat.{div-mul-add}
@@ -59,13 +60,16 @@ way_from k m (suc j) = pass_way (m / k) ++ way_from k (suc m) j
 pub record Turns (k m j : ℕ) (ms : List Mark) : Type 0 where
   pub least : (d : ℕ) → weight (ending d) ms ≤ weight (entering d) ms
   pub most : (d : ℕ) → weight (entering d) ms ≤ weight (ending d) ms + 1
-  pub during : (d : ℕ) → weight (entering d) ms ≡ weight (ending d) ms + 1 → (i : ℕ) × (weight exits ms ≡ 2 * i + 1) × (i < j) × ((m + i) / k ≡ d)
+  pub during : (d : ℕ) → weight (entering d) ms ≡ weight (ending d) ms + 1 → (i : ℕ) × (weight exits ms ≡ 2 * i + 1)
+      × (i < j) × ((m + i) / k ≡ d)
   -- two exits for each stream that was entered, or one more or less, and one less inside a stream
   pub upper : weight exits ms ≤ 2 * weight enters ms + 1
   pub lower : 2 * weight enters ms ≤ weight exits ms + 1
   pub entered : (d : ℕ) → weight (entering d) ms ≡ weight (ending d) ms + 1 → weight exits ms + 1 ≡ 2 * weight enters ms
 
-calm : (k m j : ℕ) (ms : List Mark) → weight exits ms ≤ 2 * weight enters ms + 1 → 2 * weight enters ms ≤ weight exits ms + 1 → ((d : ℕ) → weight (entering d) ms ≡ weight (ending d) ms) → Turns k m j ms
+calm : (k m j : ℕ) (ms : List Mark) → weight exits ms ≤ 2 * weight enters ms + 1
+    → 2 * weight enters ms ≤ weight exits ms + 1 → ((d : ℕ) → weight (entering d) ms ≡ weight (ending d) ms)
+    → Turns k m j ms
 calm k m j ms u l e = record {
   least = λ d. let q = e d in omega arith;
   most = λ d. let q = e d in omega arith;
@@ -90,19 +94,26 @@ inside-first k m j = record {
     by d true = omega arith
     by d false = omega arith
 
-    at : (d : ℕ) → (m / k ≡ d) ⊎ (m / k ≡ d → ⊥) → weight (entering d) (Exit ∷ Enter (m / k) ∷ []) ≡ weight (ending d) (Exit ∷ Enter (m / k) ∷ []) + 1 → (m + 0) / k ≡ d
+    at : (d : ℕ) → (m / k ≡ d) ⊎ (m / k ≡ d → ⊥) → weight (entering d) (Exit ∷ Enter (m / k) ∷ [])
+        ≡ weight (ending d) (Exit ∷ Enter (m / k) ∷ []) + 1 → (m + 0) / k ≡ d
     at d (inl e) f = ap (λ (n : ℕ). n / k) (let z : m + 0 ≡ m = omega arith in z) ∙ e
     at d (inr n) f = let z = ap one (ne_eqb (m / k) d n) in absurd (omega arith)
 
 -- behind the first of the passes
-later : (k m j : ℕ) (ms : List Mark) → Turns k (suc m) j ms → Turns k m (suc j) (Exit ∷ Enter (m / k) ∷ End (m / k) ∷ Exit ∷ ms)
+later : (k m j : ℕ) (ms : List Mark) → Turns k (suc m) j ms
+    → Turns k m (suc j) (Exit ∷ Enter (m / k) ∷ End (m / k) ∷ Exit ∷ ms)
 later k m j ms t = record {
   least = λ d. let q = t.least d in omega arith;
   most = λ d. let q = t.most d in omega arith;
   during = λ d e.
       let f : weight (entering d) ms ≡ weight (ending d) ms + 1 = omega arith in
-      let (i, x, l, c) = t.during d f in
-      (suc i, omega (arith, x), omega (arith, l), ap (λ (n : ℕ). n / k) (let z : m + suc i ≡ suc m + i = omega arith in z) ∙ c);
+      let (i, x, l, c) = t.during d f in (
+        suc i,
+        omega (arith, x),
+        omega (arith, l),
+        ap (λ (n : ℕ). n / k) (let z : m + suc i ≡ suc m + i = omega arith in
+            z) ∙ c,
+      );
   upper = omega (arith, t.upper);
   lower = omega (arith, t.lower);
   entered = λ d e.
@@ -112,19 +123,25 @@ later k m j ms t = record {
 
 pub turns : (k m j : ℕ) (ms : List Mark) → IsFront ms (way_from k m j ++ (Halt ∷ [])) → Turns k m j ms
 turns k m zero [] h = calm k m zero [] (omega arith) (omega arith) (λ d. refl)
-turns k m zero (a ∷ []) h = let e : a ≡ Halt = cc (h.1) in subst (λ (x : Mark). Turns k m zero (x ∷ [])) (sym e) (calm k m zero (Halt ∷ []) (omega arith) (omega arith) (λ d. refl))
+turns k m zero (a ∷ []) h = let e : a ≡ Halt = cc (h.1) in
+    subst (λ (x : Mark). Turns k m zero (x ∷ [])) (sym e)
+    (calm k m zero (Halt ∷ []) (omega arith) (omega arith) (λ d. refl))
 turns k m zero (a ∷ b ∷ ms) h = let e = h.1 in cc
 turns k m (suc j) [] h = calm k m (suc j) [] (omega arith) (omega arith) (λ d. refl)
-turns k m (suc j) (a ∷ []) h = let e : a ≡ Exit = cc (h.1) in subst (λ (x : Mark). Turns k m (suc j) (x ∷ [])) (sym e) (calm k m (suc j) (Exit ∷ []) (omega arith) (omega arith) (λ d. refl))
+turns k m (suc j) (a ∷ []) h = let e : a ≡ Exit = cc (h.1) in
+    subst (λ (x : Mark). Turns k m (suc j) (x ∷ [])) (sym e)
+    (calm k m (suc j) (Exit ∷ []) (omega arith) (omega arith) (λ d. refl))
 turns k m (suc j) (a ∷ b ∷ []) h =
     let q = h.1 in
     let e : a ≡ Exit = cc in
     let f : b ≡ Enter (m / k) = cc in
-    subst (λ (x : Mark). Turns k m (suc j) (x ∷ b ∷ [])) (sym e) (subst (λ (y : Mark). Turns k m (suc j) (Exit ∷ y ∷ [])) (sym f) (inside-first k m j))
+    subst (λ (x : Mark). Turns k m (suc j) (x ∷ b ∷ [])) (sym e)
+    (subst (λ (y : Mark). Turns k m (suc j) (Exit ∷ y ∷ [])) (sym f) (inside-first k m j))
 turns k m (suc j) (a ∷ b ∷ c ∷ []) h =
     let q = h.1 in
     let e : a ∷ b ∷ c ∷ [] ≡ Exit ∷ Enter (m / k) ∷ End (m / k) ∷ [] = cc in
-    subst (Turns k m (suc j)) (sym e) (calm k m (suc j) (Exit ∷ Enter (m / k) ∷ End (m / k) ∷ []) (omega arith) (omega arith) (λ d. omega arith))
+    subst (Turns k m (suc j)) (sym e) (calm k m (suc j) (Exit ∷ Enter (m / k) ∷ End (m / k) ∷ []) (omega arith)
+    (omega arith) (λ d. omega arith))
 turns k m (suc j) (a ∷ b ∷ c ∷ d ∷ ms) h =
     let q = h.1 in
     let e : a ∷ b ∷ c ∷ d ∷ ms ≡ Exit ∷ Enter (m / k) ∷ End (m / k) ∷ Exit ∷ ms = cc in
@@ -134,15 +151,18 @@ turns k m (suc j) (a ∷ b ∷ c ∷ d ∷ ms) h =
 -- ---- it is the whole way
 
 -- all passes of a case
-case-way : (c k n m : ℕ) → ((i : ℕ) → i < n → (m + i) / k ≡ c) → (a : ℕ) → flat_map (λ (j : ℕ). pass_way c) (count_from a n) ≡ way_from k m n
+case-way : (c k n m : ℕ) → ((i : ℕ) → i < n → (m + i) / k ≡ c) → (a : ℕ)
+    → flat_map (λ (j : ℕ). pass_way c) (count_from a n) ≡ way_from k m n
 case-way c k zero m h a = refl
 case-way c k (suc n) m h a =
     let e : m / k ≡ c = ap (λ (z : ℕ). z / k) (let y : m ≡ m + 0 = omega arith in y) ∙ h 0 (omega arith) in
-    let r = case-way c k n (suc m) (λ i l. ap (λ (z : ℕ). z / k) (let y : suc m + i ≡ m + suc i = omega arith in y) ∙ h (suc i) (omega arith)) (suc a) in
+    let r = case-way c k n (suc m) (λ i l. ap (λ (z : ℕ). z / k) (let y : suc m + i ≡ m + suc i = omega arith in
+    y) ∙ h (suc i) (omega arith)) (suc a) in
     ap₂ (λ (d : ℕ) (ms : List Mark). pass_way d ++ ms) (sym e) r
 
 way-joins : (k m i j : ℕ) → way_from k m i ++ way_from k (m + i) j ≡ way_from k m (i + j)
-way-joins k m zero j = ap₂ (λ (a b : ℕ). way_from k a b) (let z : m + 0 ≡ m = omega arith in z) (let z : j ≡ 0 + j = omega arith in z)
+way-joins k m zero j = ap₂ (λ (a b : ℕ). way_from k a b) (let z : m + 0 ≡ m = omega arith in
+    z) (let z : j ≡ 0 + j = omega arith in z)
 way-joins k m (suc i) j =
     let e : m + suc i ≡ suc m + i = omega arith in
     let f : suc (i + j) ≡ suc i + j = omega arith in
@@ -150,17 +170,21 @@ way-joins k m (suc i) j =
     ∙ (ap (λ (n : ℕ). pass_way (m / k) ++ (way_from k (suc m) i ++ way_from k n j)) e
     ∙ (ap (λ (ms : List Mark). pass_way (m / k) ++ ms) (way-joins k (suc m) i j) ∙ ap (way_from k m) f))
 
-cases-way : (k c n : ℕ) → flat_map (λ (d : ℕ). flat_map (λ (j : ℕ). pass_way d) (count_from 0 k)) (count_from c n) ≡ way_from k (c * k) (n * k)
+cases-way : (k c n : ℕ) → flat_map (λ (d : ℕ). flat_map (λ (j : ℕ). pass_way d) (count_from 0 k)) (count_from c n)
+    ≡ way_from k (c * k) (n * k)
 cases-way k c zero = ap (way_from k (c * k)) (let z : 0 ≡ 0 * k = omega arith in z)
 cases-way k c (suc n) =
     let e : suc c * k ≡ c * k + k = omega arith in
     let f : k + n * k ≡ suc n * k = omega arith in
-    ap₂ (λ (xs ys : List Mark). xs ++ ys) (case-way c k k (c * k) (λ i l. div-mul-add c k i l) 0) (cases-way k (suc c) n)
+    ap₂ (λ (xs ys : List Mark). xs ++ ys) (case-way c k k (c * k) (λ i l. div-mul-add c k i l) 0)
+    (cases-way k (suc c) n)
     ∙ (ap (λ (m : ℕ). way_from k (c * k) k ++ way_from k m (n * k)) e
     ∙ (way-joins k (c * k) k (n * k) ∙ ap (way_from k (c * k)) f))
 
 -- So it is of each front of a whole way.
-pub way-turns : (p : Program) (ms : List Mark) → IsFront ms (whole_way p) → Turns (passes p) 0 (case_count p * passes p) ms
+pub way-turns : (p : Program) (ms : List Mark) → IsFront ms (whole_way p)
+    → Turns (passes p) 0 (case_count p * passes p) ms
 way-turns p ms h =
-    let e = cases-way (passes p) 0 (case_count p) ∙ ap (λ (m : ℕ). way_from (passes p) m (case_count p * passes p)) (let z : 0 * passes p ≡ 0 = omega arith in z) in
+    let e = cases-way (passes p) 0 (case_count p) ∙ ap (λ (m : ℕ). way_from (passes p) m (case_count p * passes p))
+    (let z : 0 * passes p ≡ 0 = omega arith in z) in
     turns (passes p) 0 (case_count p * passes p) ms (subst (λ (way : List Mark). IsFront ms (way ++ (Halt ∷ []))) e h)

@@ -19,7 +19,15 @@ split-join f r =
     let rs2 : n / 2 ^ 20 % 2 ^ 5 ≡ f.rs2 = omega arith in
     let bit25 : n / 2 ^ 25 % 2 ≡ f.bit25 = omega arith in
     let funct6 : n / 2 ^ 26 ≡ f.funct6 = omega arith in
-    λ i. record { opcode = opcode i; rd = rd i; funct3 = funct3 i; rs1 = rs1 i; rs2 = rs2 i; bit25 = bit25 i; funct6 = funct6 i }
+    λ i. record {
+      opcode = opcode i;
+      rd = rd i;
+      funct3 = funct3 i;
+      rs1 = rs1 i;
+      rs2 = rs2 i;
+      bit25 = bit25 i;
+      funct6 = funct6 i;
+    }
 
 pub join-lt : (f : Fields) → InRange f → join f < 2 ^ 32
 join-lt f r = omega arith

@@ -11,7 +11,8 @@ use Rattle.tm_table.proofs.Signs.{low-lt}
 -- the word of an instruction is of no row before its own
 own_row_at : (op : Op) (i : Instr) → find (is_of (parts_as (row_of op).layout (row_of op) i)) table ≡ Some (row_of op)
 own_row_at Lui i = refl
-own_row_at Fence i = cond-true (nat_lt (low 8 i.imm / 64) 4) _ _ (lt-ltb _ _ (let h : low 8 i.imm < 2 ^ 8 = low-lt 8 i.imm in omega arith))
+own_row_at Fence i = cond-true (nat_lt (low 8 i.imm / 64) 4) _ _
+    (lt-ltb _ _ (let h : low 8 i.imm < 2 ^ 8 = low-lt 8 i.imm in omega arith))
 own_row_at _ i = refl
 
 pub own_row : (i : Instr) → find (is_of (parts_of i)) table ≡ Some (row_of i.op)

@@ -1,5 +1,6 @@
 -- Steps: their registers, widths and reads, and what they write.
-use Rattle.std.proofs.Common.{◌≡◌, ◌≢◌, ◌↔◌, ℕ, zero, suc, ◌<◌, List, IsSome, IfSome, IsTrue, refl, sym, subst, arith, inl, inr}
+use Rattle.std.proofs.Common.{◌≡◌, ◌≢◌, ◌↔◌, ℕ, zero, suc, ◌<◌, List, IsSome, IfSome, IsTrue, refl, sym, subst, arith}
+use Rattle.std.proofs.Common.{inl, inr}
 use Rattle.std.specs.Prelude.{slice_set}
 use Rattle.tm_table.specs.declared.instr.Op.{Op}
 use Rattle.tm_table.specs.declared.instr.Op.TheVariants.{Lb, Lbu, Sb, Lh, Lhu, Sh, Lw, Lwu, Sw, Ld, Sd}
@@ -9,7 +10,8 @@ use Rattle.tm_table.specs.declared.table.Layout.TheVariants.{R, I, S, B, U, J, S
 use Rattle.tm_table.specs.State.{Hart}
 use Rattle.tm_table.specs.Table.{row_of}
 use Rattle.tm_table.specs.Words.{FitsAs, Fits}
-use Rattle.tm_table.specs.Row.{Effect, Gives, Loads, Stores, Branches, Jumps, put, effect, effect_at, after, row, IsWidth, HasWidth, read_in, loads, read_at, is_load}
+use Rattle.tm_table.specs.Row.{Effect, Gives, Loads, Stores, Branches, Jumps, put, effect, effect_at, after, row}
+use Rattle.tm_table.specs.Row.{IsWidth, HasWidth, read_in, loads, read_at, is_load}
 
 -- ---- registers
 

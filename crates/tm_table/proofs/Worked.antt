@@ -72,7 +72,11 @@ fence_tso = refl
 
 -- the program counter, x5, x6 and x7; x28 is 2 ^ 31 and x29 is 2 ^ 32
 abbrev hart : ℕ → ℕ → ℕ → ℕ → Hart
-hart pc x5 x6 x7 = record { pc = pc; x = 0 ∷ 0 ∷ 0 ∷ 0 ∷ 0 ∷ x5 ∷ x6 ∷ x7 ∷ 0 ∷ 0 ∷ 0 ∷ 0 ∷ 0 ∷ 0 ∷ 0 ∷ 0 ∷ 0 ∷ 0 ∷ 0 ∷ 0 ∷ 0 ∷ 0 ∷ 0 ∷ 0 ∷ 0 ∷ 0 ∷ 0 ∷ 0 ∷ 2147483648 ∷ 4294967296 ∷ 0 ∷ 0 ∷ [] }
+hart pc x5 x6 x7 = record {
+  pc = pc;
+  x = 0 ∷ 0 ∷ 0 ∷ 0 ∷ 0 ∷ x5 ∷ x6 ∷ x7 ∷ 0 ∷ 0 ∷ 0 ∷ 0 ∷ 0 ∷ 0 ∷ 0 ∷ 0 ∷ 0 ∷ 0 ∷ 0
+      ∷ 0 ∷ 0 ∷ 0 ∷ 0 ∷ 0 ∷ 0 ∷ 0 ∷ 0 ∷ 0 ∷ 2147483648 ∷ 4294967296 ∷ 0 ∷ 0 ∷ [];
+}
 
 -- the same, with a link in x1
 abbrev linked : ℕ → Hart → Hart
@@ -179,7 +183,8 @@ unfolding decoded put effect after row row_word
 sltiu_below = refl
 
 -- sltiu x5, x6, -1
-sltiu_same : row_word (hart 4096 5 18446744073709551615 7) 4294128275 0 ≡ Some (hart 4100 0 18446744073709551615 7, Quiet)
+sltiu_same : row_word (hart 4096 5 18446744073709551615 7) 4294128275 0
+    ≡ Some (hart 4100 0 18446744073709551615 7, Quiet)
 unfolding decoded put effect after row row_word
 sltiu_same = refl
 
@@ -194,7 +199,8 @@ unfolding decoded put effect after row row_word
 sraiw = refl
 
 -- jalr x1, 5(x5)
-jalr : row_word (hart 2147483904 2147483648 6 7) 5406951 0 ≡ Some (linked 2147483908 (hart 2147483652 2147483648 6 7), Quiet)
+jalr : row_word (hart 2147483904 2147483648 6 7) 5406951 0
+    ≡ Some (linked 2147483908 (hart 2147483652 2147483648 6 7), Quiet)
 unfolding decoded put effect after row row_word
 jalr = refl
 
@@ -204,12 +210,14 @@ unfolding decoded put effect after row row_word
 auipc = refl
 
 -- srai x5, x6, 1
-srai : row_word (hart 4096 5 18446744073709551613 7) 1075008147 0 ≡ Some (hart 4100 18446744073709551614 18446744073709551613 7, Quiet)
+srai : row_word (hart 4096 5 18446744073709551613 7) 1075008147 0
+    ≡ Some (hart 4100 18446744073709551614 18446744073709551613 7, Quiet)
 unfolding decoded put effect after row row_word
 srai = refl
 
 -- srl x5, x6, x7, by the low 6 bits
-srl : row_word (hart 4096 5 9223372036854775808 65) 7557811 0 ≡ Some (hart 4100 4611686018427387904 9223372036854775808 65, Quiet)
+srl : row_word (hart 4096 5 9223372036854775808 65) 7557811 0
+    ≡ Some (hart 4100 4611686018427387904 9223372036854775808 65, Quiet)
 unfolding decoded put effect after row row_word
 srl = refl
 

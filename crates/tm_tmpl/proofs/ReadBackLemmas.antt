@@ -1,5 +1,7 @@
 -- A printed template is read back.
-use Rattle.std.proofs.Common.{◌≡◌, ◌<◌, ℕ, ◌+◌, ◌-◌, ◌^◌, Bool, true, false, not, eqb, nat_lt, nat_le, ◌&&◌, List, [], ◌∷◌, ◌++◌, length, take, drop, map, All, codes, None, Ok, refl, sym, ap, subst, ◌∙◌, arith, append_assoc}
+use Rattle.std.proofs.Common.{◌≡◌, ◌<◌, ℕ, ◌+◌, ◌-◌, ◌^◌, Bool, true, false, not, eqb, nat_lt, nat_le, ◌&&◌, List, []}
+use Rattle.std.proofs.Common.{◌∷◌, ◌++◌, length, take, drop, map, All, codes, None, Ok, refl, sym, ap, subst, ◌∙◌}
+use Rattle.std.proofs.Common.{arith, append_assoc}
 use Rattle.std.specs.List.{list_all, slice_split}
 use Rattle.std.specs.Str.{bytes_eq}
 use Rattle.std.specs.Fmt.{decimal}
@@ -24,7 +26,10 @@ use Rattle.tm_tmpl_read.specs.Writable.{IsAsm, IsSayable, AreSayable}
 use Rattle.tm_tmpl_line.proofs.PieceLemmas.{fit-join}
 use Rattle.tm_tmpl_read.proofs.LexemeLemmas.{lexemes-join, tokens-join}
 use Rattle.tm_tmpl.specs.Printed.{spaced, words_of, line_of, lines_of}
-use Rattle.tm_tmpl.proofs.SpacedLemmas.{IsPlain, ArePlain, name-plain, number-plain, spans_from, spans-plain, spans-emit, plain-stands, emit-stands, content-whole, no-bad-byte, no-line-end, plain-short, emit-short, lexeme, word_lexemes, lexeme-at, lexemes-words}
+use Rattle.tm_tmpl.proofs.SpacedLemmas.{IsPlain, ArePlain, name-plain, number-plain, spans_from, spans-plain}
+use Rattle.tm_tmpl.proofs.SpacedLemmas.{spans-emit, plain-stands, emit-stands, content-whole, no-bad-byte}
+use Rattle.tm_tmpl.proofs.SpacedLemmas.{no-line-end, plain-short, emit-short, lexeme, word_lexemes, lexeme-at}
+use Rattle.tm_tmpl.proofs.SpacedLemmas.{lexemes-words}
 
 -- the lexemes of a statement's line without its end
 unfoldable pub lexemes_of : ℕ → ℕ → Statement → List Lexeme
@@ -35,17 +40,26 @@ reads_small : (n : ℕ) → n < 2 ^ 32 → number_of (decimal n) ≡ Ok n
 reads_small n h = decimal_reads_back n (omega arith)
 
 -- a statement's line stands for its pieces
-pub line-fits : (s : Statement) → IsSayable s → (n from : ℕ) (e : Lexeme) → e.0.kind ≡ LineEnd → AreFit (pieces_of (record { line = n; col = 1 }, s)) (lexemes_of n from s ++ e ∷ [])
+pub line-fits : (s : Statement) → IsSayable s → (n from : ℕ) (e : Lexeme) → e.0.kind ≡ LineEnd
+    → AreFit (pieces_of (record { line = n; col = 1 }, s)) (lexemes_of n from s ++ e ∷ [])
 unfolding pieces_of words_of word_lexemes lexemes_of
 line-fits (template name) good n from e end = ((refl, refl, refl), ((refl, refl, good), (end, tt)))
 line-fits (passes k) good n from e end = ((refl, refl, refl), ((refl, reads_small k good, good), (end, tt)))
-line-fits (window w k l) good n from e end =
-    ((refl, refl, refl), ((refl, reads_small w good.0, good.0), ((refl, refl), ((refl, reads_small l good.1, good.1), (end, tt)))))
+line-fits (window w k l) good n from e end = (
+  (refl, refl, refl),
+  (
+    (refl, reads_small w good.0, good.0),
+    ((refl, refl), ((refl, reads_small l good.1, good.1), (end, tt))),
+  ),
+)
 line-fits (case_of name) good n from e end = ((refl, refl, refl), ((refl, refl, good), (end, tt)))
 line-fits (body whose.All) good n from e end = ((refl, refl, refl), ((refl, refl), (end, tt)))
-line-fits (body (whose.Hart k)) good n from e end = ((refl, refl, refl), ((refl, refl), ((refl, reads_small k good, good), (end, tt))))
-line-fits (body (whose.Core k)) good n from e end = ((refl, refl, refl), ((refl, refl), ((refl, reads_small k good, good), (end, tt))))
-line-fits (body (whose.Thread k)) good n from e end = ((refl, refl, refl), ((refl, refl), ((refl, reads_small k good, good), (end, tt))))
+line-fits (body (whose.Hart k)) good n from e end =
+    ((refl, refl, refl), ((refl, refl), ((refl, reads_small k good, good), (end, tt))))
+line-fits (body (whose.Core k)) good n from e end =
+    ((refl, refl, refl), ((refl, refl), ((refl, reads_small k good, good), (end, tt))))
+line-fits (body (whose.Thread k)) good n from e end =
+    ((refl, refl, refl), ((refl, refl), ((refl, reads_small k good, good), (end, tt))))
 line-fits (slot (Emit asm)) good n from e end = ((refl, refl, refl), ((refl, refl), (end, tt)))
 line-fits (slot (Mix k a l s b)) good n from e end = (
   (refl, refl, refl),
@@ -59,7 +73,13 @@ line-fits (slot (Mix k a l s b)) good n from e end = (
           (refl, refl),
           (
             (refl, reads_small l good.2, good.2),
-            ((refl, refl), ((refl, reads_small s good.3, good.3), ((refl, refl), ((refl, reads_small b good.4, good.4), (end, tt))))),
+            (
+              (refl, refl),
+              (
+                (refl, reads_small s good.3, good.3),
+                ((refl, refl), ((refl, reads_small b good.4, good.4), (end, tt))),
+              ),
+            ),
           ),
         ),
       ),
@@ -79,8 +99,10 @@ record IsLexed (text : List ℕ) (n from : ℕ) (line : List ℕ) (ls : List Lex
   fine : line_fault n line ≡ None
   tokens : lexemes text (line_tokens n from line) ≡ ls ++ end_lexeme text n from (length line) ∷ []
 
-plain_lexed : (text pre post : List ℕ) (n from : ℕ) (w : List ℕ) (ws : List (List ℕ)) → ArePlain (w ∷ ws) → bytes_eq w (codes "emit") ≡ false
-    → text ≡ pre ++ (spaced (w ∷ ws) ++ post) → from ≡ length pre → IsLexed text n from (spaced (w ∷ ws)) (word_lexemes n from 0 (w ∷ ws))
+plain_lexed : (text pre post : List ℕ) (n from : ℕ) (w : List ℕ) (ws : List (List ℕ)) → ArePlain (w ∷ ws)
+    → bytes_eq w (codes "emit") ≡ false
+    → text ≡ pre ++ (spaced (w ∷ ws) ++ post) → from ≡ length pre
+    → IsLexed text n from (spaced (w ∷ ws)) (word_lexemes n from 0 (w ∷ ws))
 unfolding line_fault line_tokens spans_from
 plain_lexed text pre post n from w ws plain other same place =
     let stands = plain-stands (w ∷ ws) plain in
@@ -90,20 +112,29 @@ plain_lexed text pre post n from w ws plain other same place =
     record {
       stands = stands;
       fine = rw (whole, no-bad-byte (spaced (w ∷ ws)) stands, parts, plain-short 0 (w ∷ ws) plain);
-      tokens = rw (whole, parts) (ap (lexemes text) (tokens-join n from (as_words (spans_from 0 (w ∷ ws))) ((LineEnd, (length (spaced (w ∷ ws)), length (spaced (w ∷ ws)))) ∷ []))
-          ∙ lexemes-join text (map (token_at n from) (as_words (spans_from 0 (w ∷ ws)))) _ ∙ ap (λ ls. ls ++ end_lexeme text n from (length (spaced (w ∷ ws))) ∷ []) lexed);
+      tokens = rw (
+        whole,
+        parts,
+      ) (ap (lexemes text) (tokens-join n from (as_words (spans_from 0 (w ∷ ws)))
+          ((LineEnd, (length (spaced (w ∷ ws)), length (spaced (w ∷ ws)))) ∷ []))
+          ∙ lexemes-join text (map (token_at n from) (as_words (spans_from 0 (w ∷ ws)))) _ ∙ ap (λ ls. ls
+          ++ end_lexeme text n from (length (spaced (w ∷ ws))) ∷ []) lexed);
     }
 
 emit_lexed : (text pre post : List ℕ) (n from : ℕ) (asm : List ℕ) → IsAsm asm
-    → text ≡ pre ++ (spaced (codes "emit" ∷ asm ∷ []) ++ post) → from ≡ length pre → IsLexed text n from (spaced (codes "emit" ∷ asm ∷ [])) (lexemes_of n from (slot (Emit asm)))
+    → text ≡ pre ++ (spaced (codes "emit" ∷ asm ∷ []) ++ post) → from ≡ length pre
+    → IsLexed text n from (spaced (codes "emit" ∷ asm ∷ [])) (lexemes_of n from (slot (Emit asm)))
 unfolding line_fault line_tokens lexemes_of
 emit_lexed text pre post n from asm good same place =
     let stands = emit-stands asm good in
     let whole = content-whole (spaced (codes "emit" ∷ asm ∷ [])) stands in
     let parts = spans-emit asm good in
-    let first : take (from + 4 - (from + 0)) (drop (from + 0) text) ≡ codes "emit" = lexeme-at text pre (codes "emit") (32 ∷ asm ++ post) n from 0 Word same (omega arith) in
-    let further : pre ++ ((codes "emit " ++ asm) ++ post) ≡ (pre ++ codes "emit ") ++ (asm ++ post) = simp append_assoc in
-    let second : take (from + (5 + length asm) - (from + 5)) (drop (from + 5) text) ≡ asm = lexeme-at text (pre ++ codes "emit ") asm post n from 5 Raw (same ∙ further) (grind (arith, common_steps)) in
+    let first : take (from + 4 - (from + 0)) (drop (from + 0) text) ≡ codes "emit" =
+    lexeme-at text pre (codes "emit") (32 ∷ asm ++ post) n from 0 Word same (omega arith) in
+    let further : pre ++ ((codes "emit " ++ asm) ++ post) ≡ (pre ++ codes "emit ") ++ (asm ++ post) =
+    simp append_assoc in
+    let second : take (from + (5 + length asm) - (from + 5)) (drop (from + 5) text) ≡ asm =
+    lexeme-at text (pre ++ codes "emit ") asm post n from 5 Raw (same ∙ further) (grind (arith, common_steps)) in
     record {
       stands = stands;
       fine = rw (whole, no-bad-byte (spaced (codes "emit" ∷ asm ∷ [])) stands, parts, emit-short asm good);
@@ -114,7 +145,11 @@ abbrev is_keyword : List ℕ → Bool
 is_keyword w = (nat_lt 0 (length w) && nat_le (length w) 64) && list_all is_word w
 
 keyword : (w : List ℕ) → is_keyword w ≡ true → IsPlain w
-keyword w h = record { some = grind (arith, nat_tests); short = grind (arith, nat_tests); bytes = grind (arith, nat_tests) }
+keyword w h = record {
+  some = grind (arith, nat_tests);
+  short = grind (arith, nat_tests);
+  bytes = grind (arith, nat_tests);
+}
 
 not_true : (b : Bool) → not b ≡ true → b ≡ false
 not_true true h = absurd (true≢false (sym h))
@@ -126,30 +161,78 @@ kind_plain True = keyword (codes "true") refl
 kind_plain False = keyword (codes "false") refl
 kind_plain Own = keyword (codes "own") refl
 
-statement-lexed : (s : Statement) → IsSayable s → (text pre post : List ℕ) (n from : ℕ) → text ≡ pre ++ (spaced (words_of s) ++ post) → from ≡ length pre
+statement-lexed : (s : Statement) → IsSayable s → (text pre post : List ℕ) (n from : ℕ)
+    → text ≡ pre ++ (spaced (words_of s) ++ post) → from ≡ length pre
     → IsLexed text n from (spaced (words_of s)) (lexemes_of n from s)
 unfolding words_of lexemes_of is_word
 statement-lexed (template name) good text pre post n from same place =
-    plain_lexed text pre post n from (codes "template") (name ∷ []) (keyword (codes "template") refl, (name-plain name good, tt)) refl same place
+    plain_lexed text pre post n from (codes "template") (name ∷ []) (
+      keyword (codes "template") refl,
+      (name-plain name good, tt),
+    ) refl same place
 statement-lexed (passes k) good text pre post n from same place =
-    plain_lexed text pre post n from (codes "passes") (decimal k ∷ []) (keyword (codes "passes") refl, (number-plain k good, tt)) refl same place
+    plain_lexed text pre post n from (codes "passes") (decimal k ∷ []) (
+      keyword (codes "passes") refl,
+      (number-plain k good, tt),
+    ) refl same place
 statement-lexed (window w k l) good text pre post n from same place =
     plain_lexed text pre post n from (codes "window") (decimal w ∷ kind_word k ∷ decimal l ∷ [])
-    (keyword (codes "window") refl, (number-plain w good.0, (kind_plain k, (number-plain l good.1, tt)))) refl same place
+    (keyword (codes "window") refl, (number-plain w good.0, (kind_plain k, (number-plain l good.1, tt)))) refl same
+    place
 statement-lexed (case_of name) good text pre post n from same place =
-    plain_lexed text pre post n from (codes "case") (name ∷ []) (keyword (codes "case") refl, (name-plain name good, tt)) refl same place
+    plain_lexed text pre post n from (codes "case") (name ∷ []) (
+      keyword (codes "case") refl,
+      (name-plain name good, tt),
+    ) refl same place
 statement-lexed (body whose.All) good text pre post n from same place =
-    plain_lexed text pre post n from (codes "body") (codes "all" ∷ []) (keyword (codes "body") refl, (keyword (codes "all") refl, tt)) refl same place
+    plain_lexed text pre post n from (codes "body") (codes "all" ∷ []) (
+      keyword (codes "body") refl,
+      (keyword (codes "all") refl, tt),
+    ) refl same place
 statement-lexed (body (whose.Hart k)) good text pre post n from same place =
-    plain_lexed text pre post n from (codes "body") (codes "hart" ∷ decimal k ∷ []) (keyword (codes "body") refl, (keyword (codes "hart") refl, (number-plain k good, tt))) refl same place
+    plain_lexed text pre post n from (codes "body") (codes "hart" ∷ decimal k ∷ []) (
+      keyword (codes "body") refl,
+      (keyword (codes "hart") refl, (number-plain k good, tt)),
+    ) refl same place
 statement-lexed (body (whose.Core k)) good text pre post n from same place =
-    plain_lexed text pre post n from (codes "body") (codes "core" ∷ decimal k ∷ []) (keyword (codes "body") refl, (keyword (codes "core") refl, (number-plain k good, tt))) refl same place
+    plain_lexed text pre post n from (codes "body") (codes "core" ∷ decimal k ∷ []) (
+      keyword (codes "body") refl,
+      (keyword (codes "core") refl, (number-plain k good, tt)),
+    ) refl same place
 statement-lexed (body (whose.Thread k)) good text pre post n from same place =
-    plain_lexed text pre post n from (codes "body") (codes "thread" ∷ decimal k ∷ []) (keyword (codes "body") refl, (keyword (codes "thread") refl, (number-plain k good, tt))) refl same place
-statement-lexed (slot (Emit asm)) good text pre post n from same place = emit_lexed text pre post n from asm good same place
+    plain_lexed text pre post n from (codes "body") (codes "thread" ∷ decimal k ∷ []) (
+      keyword (codes "body") refl,
+      (keyword (codes "thread") refl, (number-plain k good, tt)),
+    ) refl same place
+statement-lexed (slot (Emit asm)) good text pre post n from same place =
+    emit_lexed text pre post n from asm good same place
 statement-lexed (slot (Mix k a l s b)) good text pre post n from same place =
-    plain_lexed text pre post n from (codes "mix") (decimal k ∷ codes "alu" ∷ decimal a ∷ codes "load" ∷ decimal l ∷ codes "store" ∷ decimal s ∷ codes "branch" ∷ decimal b ∷ [])
-    (keyword (codes "mix") refl, (number-plain k good.0, (keyword (codes "alu") refl, (number-plain a good.1, (keyword (codes "load") refl, (number-plain l good.2, (keyword (codes "store") refl, (number-plain s good.3, (keyword (codes "branch") refl, (number-plain b good.4, tt)))))))))) refl same place
+    plain_lexed text pre post n from (codes "mix") (decimal k ∷ codes "alu" ∷ decimal a ∷ codes "load" ∷ decimal l
+    ∷ codes "store" ∷ decimal s ∷ codes "branch" ∷ decimal b ∷ []) (
+      keyword (codes "mix") refl,
+      (
+        number-plain k good.0,
+        (
+          keyword (codes "alu") refl,
+          (
+            number-plain a good.1,
+            (
+              keyword (codes "load") refl,
+              (
+                number-plain l good.2,
+                (
+                  keyword (codes "store") refl,
+                  (
+                    number-plain s good.3,
+                    (keyword (codes "branch") refl, (number-plain b good.4, tt)),
+                  ),
+                ),
+              ),
+            ),
+          ),
+        ),
+      ),
+    ) refl same place
 
 -- ---- lines behind one another
 
@@ -171,11 +254,13 @@ unfolding lines_reading line_fault line_tokens spans words
 no_statement text n from = record { ts = []; got = []; lexed = refl; fits = tt; same = refl }
 
 one_statement : (text : List ℕ) (n from : ℕ) (lines : List (List ℕ)) (s : At) (ss : List At) → IsSayable s.1
-    → IsLexed text n from (spaced (words_of s.1)) (lexemes_of n from s.1) → AreRead text (n + 1) (from + length (spaced (words_of s.1)) + 1) lines ss
+    → IsLexed text n from (spaced (words_of s.1)) (lexemes_of n from s.1)
+    → AreRead text (n + 1) (from + length (spaced (words_of s.1)) + 1) lines ss
     → AreRead text n from (spaced (words_of s.1) ∷ lines) (s ∷ ss)
 unfolding lines_reading
 one_statement text n from lines s ss good line more =
-    let joined = lexemes-join text (line_tokens n from (spaced (words_of s.1))) more.ts ∙ ap (λ l. l ++ lexemes text more.ts) line.tokens in
+    let joined = lexemes-join text (line_tokens n from (spaced (words_of s.1))) more.ts ∙ ap (λ l. l
+    ++ lexemes text more.ts) line.tokens in
     let first = line-fits s.1 good n from (end_lexeme text n from (length (spaced (words_of s.1)))) refl in
     record {
       ts = line_tokens n from (spaced (words_of s.1)) ++ more.ts;
@@ -186,18 +271,27 @@ one_statement text n from lines s ss good line more =
     }
 
 -- statements that are printed behind a text are read
-pub printed-read : (ss : List At) → AreSayable ss → (text pre : List ℕ) (n from : ℕ) → text ≡ pre ++ lines_of ss → from ≡ length pre
+pub printed-read : (ss : List At) → AreSayable ss → (text pre : List ℕ) (n from : ℕ) → text ≡ pre ++ lines_of ss
+    → from ≡ length pre
     → AreRead text n from (slice_split (λ b. eqb b 10) (lines_of ss)) ss
 unfolding lines_of line_of
 printed-read [] good text pre n from same place = no_statement text n from
 printed-read (s ∷ ss) good text pre n from same place =
-    let tail : (spaced (words_of s.1) ++ 10 ∷ []) ++ lines_of ss ≡ spaced (words_of s.1) ++ (10 ∷ lines_of ss) = append_assoc (spaced (words_of s.1)) (10 ∷ []) (lines_of ss) in
+    let tail : (spaced (words_of s.1) ++ 10 ∷ []) ++ lines_of ss ≡ spaced (words_of s.1) ++ (10 ∷ lines_of ss) =
+    append_assoc (spaced (words_of s.1)) (10 ∷ []) (lines_of ss) in
     let line = statement-lexed s.1 good.0 text pre (10 ∷ lines_of ss) n from (same ∙ ap (λ l. pre ++ l) tail) place in
-    let further : pre ++ (spaced (words_of s.1) ++ (10 ∷ lines_of ss)) ≡ (pre ++ (spaced (words_of s.1) ++ 10 ∷ [])) ++ lines_of ss = simp append_assoc in
-    let next : from + length (spaced (words_of s.1)) + 1 ≡ length (pre ++ (spaced (words_of s.1) ++ 10 ∷ [])) = grind (arith, common_steps) in
-    let more = printed-read ss good.1 text (pre ++ (spaced (words_of s.1) ++ 10 ∷ [])) (n + 1) (from + length (spaced (words_of s.1)) + 1)
+    let further : pre ++ (spaced (words_of s.1) ++ (10 ∷ lines_of ss)) ≡ (pre ++ (spaced (words_of s.1) ++ 10 ∷ []))
+    ++ lines_of ss = simp append_assoc in
+    let next : from + length (spaced (words_of s.1)) + 1 ≡ length (pre ++ (spaced (words_of s.1) ++ 10 ∷ [])) =
+    grind (arith, common_steps) in
+    let more = printed-read ss good.1 text (pre ++ (spaced (words_of s.1) ++ 10 ∷ [])) (n + 1)
+    (from + length (spaced (words_of s.1)) + 1)
     (same ∙ ap (λ l. pre ++ l) tail ∙ further) next in
-    rw (tail, slice_split_at (λ b. eqb b 10) (spaced (words_of s.1)) 10 (lines_of ss) (apart (spaced (words_of s.1)) line.stands) refl)
+    rw (
+      tail,
+      slice_split_at (λ b. eqb b 10) (spaced (words_of s.1)) 10 (lines_of ss)
+          (apart (spaced (words_of s.1)) line.stands) refl,
+    )
     (one_statement text n from _ s ss good.0 line more) where
       apart : (bs : List ℕ) → list_all may_stand bs ≡ true → All (λ x. eqb x 10 ≡ false) bs
       apart bs h k d below = not_true _ (no-line-end bs h k d below)

@@ -16,7 +16,12 @@ t = record {
   cases = (record {
     at = nowhere;
     name = codes "a";
-    bodies = (record { at = nowhere; whom = All; slots = (record { at = nowhere; what = Emit (codes "addi x6, x5, 1") }) ∷ [] }) ∷ [];
+    bodies = (record {
+      at = nowhere;
+      whom = All;
+      slots = (record { at = nowhere; what = Emit (codes "addi x6, x5, 1") })
+          ∷ [];
+    }) ∷ [];
   }) ∷ [];
   end = nowhere;
 }

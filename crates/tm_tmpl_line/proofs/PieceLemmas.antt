@@ -40,7 +40,13 @@ cut-tokens [] rs xs h = record { front = []; back = xs; whole = refl; first = tt
 cut-tokens (q ∷ qs) rs [] h = absurd h
 cut-tokens (q ∷ qs) rs (x ∷ xs) h =
     let more = cut-tokens qs rs xs h.1 in
-    record { front = x ∷ more.front; back = more.back; whole = ap (λ l. x ∷ l) more.whole; first = (h.0, more.first); second = more.second }
+    record {
+      front = x ∷ more.front;
+      back = more.back;
+      whole = ap (λ l. x ∷ l) more.whole;
+      first = (h.0, more.first);
+      second = more.second;
+    }
 
 -- the pieces of two lists of tokens
 pub record TwoPieces (qs : List Piece) (xs ys : List Lexeme) : Type 0 where
@@ -55,7 +61,13 @@ cut-pieces qs [] ys h = record { front = []; back = qs; whole = refl; first = tt
 cut-pieces [] (x ∷ xs) ys h = absurd h
 cut-pieces (q ∷ qs) (x ∷ xs) ys h =
     let more = cut-pieces qs xs ys h.1 in
-    record { front = q ∷ more.front; back = more.back; whole = ap (λ l. q ∷ l) more.whole; first = (h.0, more.first); second = more.second }
+    record {
+      front = q ∷ more.front;
+      back = more.back;
+      whole = ap (λ l. q ∷ l) more.whole;
+      first = (h.0, more.first);
+      second = more.second;
+    }
 
 -- ---- lists that end at their first end
 
@@ -74,8 +86,10 @@ module _ {A : Type 0} (test : A → Bool) where
   same-front [] vs ws zs h k same = absurd h
   same-front (a ∷ us) [] ws zs h k same = absurd k
   same-front (a ∷ []) (c ∷ []) ws zs h k same = (cc, cc)
-  same-front (a ∷ []) (c ∷ e ∷ vs) ws zs h k same = let here : a ≡ c = cc in absurd (true≢false (sym h ∙ ap test here ∙ k.0))
-  same-front (a ∷ b ∷ us) (c ∷ []) ws zs h k same = let here : a ≡ c = cc in absurd (true≢false (sym k ∙ ap test (sym here) ∙ h.0))
+  same-front (a ∷ []) (c ∷ e ∷ vs) ws zs h k same = let here : a ≡ c = cc in
+      absurd (true≢false (sym h ∙ ap test here ∙ k.0))
+  same-front (a ∷ b ∷ us) (c ∷ []) ws zs h k same = let here : a ≡ c = cc in
+      absurd (true≢false (sym k ∙ ap test (sym here) ∙ h.0))
   same-front (a ∷ b ∷ us) (c ∷ e ∷ vs) ws zs h k same =
       let here : a ≡ c = cc in
       let rest : (b ∷ us) ++ ws ≡ (e ∷ vs) ++ zs = cc in
@@ -84,10 +98,12 @@ module _ {A : Type 0} (test : A → Bool) where
       (rw (here, tails), more.1)
 
   -- what is open at the front of one ends before its end
-  pub within-front : (us done ws more : List A) (q : A) → EndsOnce us → IsOpen done → us ++ ws ≡ done ++ q ∷ more → (left : List A) × (us ≡ done ++ q ∷ left)
+  pub within-front : (us done ws more : List A) (q : A) → EndsOnce us → IsOpen done → us ++ ws ≡ done ++ q ∷ more
+      → (left : List A) × (us ≡ done ++ q ∷ left)
   within-front [] done ws more q h k same = absurd h
   within-front (a ∷ us) [] ws more q h k same = let here : a ≡ q = cc in (us, ap (λ x. x ∷ us) here)
-  within-front (a ∷ []) (d ∷ done) ws more q h k same = let here : a ≡ d = cc in absurd (true≢false (sym h ∙ ap test here ∙ k.0))
+  within-front (a ∷ []) (d ∷ done) ws more q h k same = let here : a ≡ d = cc in
+      absurd (true≢false (sym h ∙ ap test here ∙ k.0))
   within-front (a ∷ b ∷ us) (d ∷ done) ws more q h k same =
       let here : a ≡ d = cc in
       let rest : (b ∷ us) ++ ws ≡ done ++ q ∷ more = cc in

@@ -11,15 +11,18 @@ use Rattle.tm_tmpl_line.specs.Readings.{is_name, window, body, slot}
 use Rattle.tm_tmpl_line.specs.Pieces.{opening, fixed, a_name, a_number, asm_line, the_end, pieces_of, Fits}
 use Rattle.tm_tmpl_line.proofs.TokenLemmas.{token_of}
 
-window_row : (p : Pos) → pieces_of (p, window 0 True 16) ≡ opening p want.Statement (codes "window") ∷ a_number 0 ∷ fixed want.Kind (codes "true") ∷ a_number 16 ∷ the_end ∷ []
+window_row : (p : Pos) → pieces_of (p, window 0 True 16) ≡ opening p want.Statement (codes "window") ∷ a_number 0
+    ∷ fixed want.Kind (codes "true") ∷ a_number 16 ∷ the_end ∷ []
 unfolding pieces_of
 window_row p = refl
 
-body_row : (p : Pos) → pieces_of (p, body (Hart 3)) ≡ opening p want.Statement (codes "body") ∷ fixed want.Selector (codes "hart") ∷ a_number 3 ∷ the_end ∷ []
+body_row : (p : Pos) → pieces_of (p, body (Hart 3)) ≡ opening p want.Statement (codes "body")
+    ∷ fixed want.Selector (codes "hart") ∷ a_number 3 ∷ the_end ∷ []
 unfolding pieces_of
 body_row p = refl
 
-emit_row : (p : Pos) → pieces_of (p, slot (Emit (codes "nop"))) ≡ opening p want.Statement (codes "emit") ∷ asm_line (codes "nop") ∷ the_end ∷ []
+emit_row : (p : Pos) → pieces_of (p, slot (Emit (codes "nop"))) ≡ opening p want.Statement (codes "emit")
+    ∷ asm_line (codes "nop") ∷ the_end ∷ []
 unfolding pieces_of
 emit_row p = refl
 

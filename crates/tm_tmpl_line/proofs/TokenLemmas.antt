@@ -1,5 +1,6 @@
 -- Each reader of a token reads exactly what stands for a piece of its kind.
-use Rattle.std.proofs.Common.{◌≡◌, ◌<◌, ℕ, ◌^◌, Bool, true, false, cond, not, nat_lt, List, [], codes, Option, None, Some, Result, Ok, Err, refl, sym, ap, subst, arith, inl, inr, ◌&&◌, ◌⊎◌}
+use Rattle.std.proofs.Common.{◌≡◌, ◌<◌, ℕ, ◌^◌, Bool, true, false, cond, not, nat_lt, List, [], codes, Option, None}
+use Rattle.std.proofs.Common.{Some, Result, Ok, Err, refl, sym, ap, subst, arith, inl, inr, ◌&&◌, ◌⊎◌}
 use Rattle.std.specs.Str.{bytes_eq}
 use Rattle.std.specs.Fmt.{decimal}
 use Rattle.std.proofs.lemmas.Bool.{cases_Bool, true≢false}
@@ -17,7 +18,8 @@ use Rattle.tm_tmpl_types.specs.declared.template.Kind.{Kind}
 use Rattle.tm_tmpl_types.specs.declared.template.Kind.TheVariants.{True, False, Own}
 use Rattle.tm_tmpl_line.specs.declared.words.Whom.{Whom}
 use Rattle.tm_tmpl_line.specs.declared.words.Whom.TheVariants as whose
-use Rattle.tm_tmpl_line.specs.Readings.{Lexeme, is_word, is_raw, is_line_end, keyword, is_name, name, small_number, number, kind, whom, asm, line_end}
+use Rattle.tm_tmpl_line.specs.Readings.{Lexeme, is_word, is_raw, is_line_end, keyword, is_name, name, small_number}
+use Rattle.tm_tmpl_line.specs.Readings.{number, kind, whom, asm, line_end}
 use Rattle.tm_tmpl_line.specs.Pieces.{Piece, fixed, a_name, a_number, asm_line, the_end, want_of, kind_word, Fits}
 
 -- a reader of one token, the pieces that it reads, and one that some token stands for
@@ -63,7 +65,8 @@ end_is Raw h = absurd (true≢false (sym h))
 end_is LineEnd h = refl
 
 -- one of several words, each with its value
-one_word : {A : Type 0} (w v : List ℕ) (a b : A) (o : Option A) → cond (bytes_eq w v) (Some a) o ≡ Some b → ((w ≡ v) × (a ≡ b)) ⊎ (o ≡ Some b)
+one_word : {A : Type 0} (w v : List ℕ) (a b : A) (o : Option A) → cond (bytes_eq w v) (Some a) o ≡ Some b
+    → ((w ≡ v) × (a ≡ b)) ⊎ (o ≡ Some b)
 one_word w v a b o h = elim (cases_Bool (bytes_eq w v)) [
   | inl here ↦ inl ((bytes_eq-Decides w v).0 here, same_Some _ _ (rw here at h))
   | inr other ↦ inr (rw other at h)
@@ -197,7 +200,8 @@ keyword-reads w = record {
 
 pub asm-reads : Reads (List ℕ) want.Asm asm asm_line
 asm-reads = record {
-  fits = λ x a h. let found = if_some (is_raw x.0.kind) (Some x.1) a h in (raw_is x.0.kind found.0, same_Some _ _ found.1);
+  fits = λ x a h. let found = if_some (is_raw x.0.kind) (Some x.1) a h in
+      (raw_is x.0.kind found.0, same_Some _ _ found.1);
   reads = λ x a h. rw (h.0, h.1);
   wants = λ a. refl;
   value = codes "a";

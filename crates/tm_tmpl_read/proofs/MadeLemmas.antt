@@ -1,5 +1,6 @@
 -- The template that statements make.
-use Rattle.std.proofs.Common.{◌≡◌, ◌≤◌, ℕ, zero, suc, List, [], ◌∷◌, ◌++◌, length, All, refl, ap, ◌∙◌, arith, append-nil, append_assoc}
+use Rattle.std.proofs.Common.{◌≡◌, ◌≤◌, ℕ, zero, suc, List, [], ◌∷◌, ◌++◌, length, All, refl, ap, ◌∙◌, arith}
+use Rattle.std.proofs.Common.{append-nil, append_assoc}
 use Rattle.tm_base.specs.declared.Pos.{Pos}
 use Rattle.tm_lex.specs.declared.token.Token.{Token}
 use Rattle.tm_lex.specs.Tiling.{AreInOrder}
@@ -17,14 +18,16 @@ unfolding put_all
 put-slots [] ss r = refl
 put-slots (d ∷ ds) ss r = rw (put-slots ds ss r)
 
--- behind these parts no slot is left, and no body, and the windows and the template are those of others with these cases
+-- behind these parts no slot is left, and no body, and the windows and the template are those of others with these
+-- cases
 record Behind (q p : Parts) (bs : List BodyDecl) : Type 0 where
   no_slots : q.slots_left ≡ []
   bodies : q.bodies_left ≡ bs ++ p.bodies_left
   same_windows : q.windows_left ≡ p.windows_left
   same_made : q.made ≡ p.made
 
-put-bodies : (bs : List BodyDecl) (ss : List At) (r : Parts) → (put_all ss r).slots_left ≡ [] → Behind (put_all (bodies_at bs ++ ss) r) (put_all ss r) bs
+put-bodies : (bs : List BodyDecl) (ss : List At) (r : Parts) → (put_all ss r).slots_left ≡ []
+    → Behind (put_all (bodies_at bs ++ ss) r) (put_all ss r) bs
 unfolding put_all
 put-bodies [] ss r none = record { no_slots = none; bodies = refl; same_windows = refl; same_made = refl }
 put-bodies (b ∷ bs) ss r none =
@@ -43,9 +46,15 @@ record After (q p : Parts) (cs : List CaseDecl) : Type 0 where
   same_windows : q.windows_left ≡ p.windows_left
   cases : q.made ≡ record p.made { cases = cs ++ p.made.cases }
 
-put-cases : (cs : List CaseDecl) (ss : List At) (r : Parts) → (put_all ss r).slots_left ≡ [] → (put_all ss r).bodies_left ≡ [] → After (put_all (cases_at cs ++ ss) r) (put_all ss r) cs
+put-cases : (cs : List CaseDecl) (ss : List At) (r : Parts) → (put_all ss r).slots_left ≡ []
+    → (put_all ss r).bodies_left ≡ [] → After (put_all (cases_at cs ++ ss) r) (put_all ss r) cs
 unfolding put_all
-put-cases [] ss r no_slots no_bodies = record { no_slots = no_slots; no_bodies = no_bodies; same_windows = refl; cases = refl }
+put-cases [] ss r no_slots no_bodies = record {
+  no_slots = no_slots;
+  no_bodies = no_bodies;
+  same_windows = refl;
+  cases = refl;
+}
 put-cases (c ∷ cs) ss r no_slots no_bodies =
     let more = put-cases cs ss r no_slots no_bodies in
     let inner = put-bodies c.bodies (cases_at cs ++ ss) r more.no_slots in
@@ -58,7 +67,8 @@ put-cases (c ∷ cs) ss r no_slots no_bodies =
     })
 
 put-windows : (ws : List WindowDecl) (ss : List At) (r : Parts)
-    → ((put_all (windows_at ws ++ ss) r).windows_left ≡ ws ++ (put_all ss r).windows_left) × ((put_all (windows_at ws ++ ss) r).made ≡ (put_all ss r).made)
+    → ((put_all (windows_at ws ++ ss) r).windows_left ≡ ws ++ (put_all ss r).windows_left)
+    × ((put_all (windows_at ws ++ ss) r).made ≡ (put_all ss r).made)
 unfolding put_all
 put-windows [] ss r = (refl, refl)
 put-windows (w ∷ ws) ss r = let more = put-windows ws ss r in (ap (λ vs. w ∷ vs) more.0, more.1)

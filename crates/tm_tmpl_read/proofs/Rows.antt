@@ -40,27 +40,34 @@ t = record {
 }
 
 good : template_of (t0 (codes "template t") (codes "emit addi x6, x5, 1\n")) ≡ Ok t
-unfolding template_of choice token_lines statements put_all tokens_of lines_reading line_fault line_tokens spans words is_word is_separator number_of digits_reading reading_at value_of place_value
+unfolding template_of choice token_lines statements put_all tokens_of lines_reading line_fault line_tokens spans words
+    is_word is_separator number_of digits_reading reading_at value_of place_value
 good = refl
 
 nothing : template_of [] ≡ Err (Early want.Template)
-unfolding template_of choice token_lines statements put_all tokens_of lines_reading line_fault line_tokens spans words is_word is_separator
+unfolding template_of choice token_lines statements put_all tokens_of lines_reading line_fault line_tokens spans words
+    is_word is_separator
 nothing = refl
 
 bad_name : template_of (t0 (codes "template T") []) ≡ Err (Expected (record { line = 1; col = 10 }) want.Name)
-unfolding template_of choice token_lines statements put_all tokens_of lines_reading line_fault line_tokens spans words is_word is_separator number_of digits_reading reading_at value_of place_value
+unfolding template_of choice token_lines statements put_all tokens_of lines_reading line_fault line_tokens spans words
+    is_word is_separator number_of digits_reading reading_at value_of place_value
 bad_name = refl
 
 bad_byte : template_of (codes "template " ++ 7 ∷ codes "t") ≡ Err (Lex (BadByte (record { line = 1; col = 10 }) 7))
-unfolding template_of choice token_lines statements put_all tokens_of lines_reading line_fault line_tokens spans words is_word is_separator
+unfolding template_of choice token_lines statements put_all tokens_of lines_reading line_fault line_tokens spans words
+    is_word is_separator
 bad_byte = refl
 
 no_line : template_of (t0 (codes "template t") (codes "emit")) ≡ Err (Expected (record { line = 6; col = 5 }) want.Asm)
-unfolding template_of choice token_lines statements put_all tokens_of lines_reading line_fault line_tokens spans words is_word is_separator number_of digits_reading reading_at value_of place_value
+unfolding template_of choice token_lines statements put_all tokens_of lines_reading line_fault line_tokens spans words
+    is_word is_separator number_of digits_reading reading_at value_of place_value
 no_line = refl
 
-twice : template_of (codes "template t\npasses 2\npasses 2") ≡ Err (Expected (record { line = 3; col = 1 }) want.Statement)
-unfolding template_of choice token_lines statements put_all tokens_of lines_reading line_fault line_tokens spans words is_word is_separator number_of digits_reading reading_at value_of place_value
+twice : template_of (codes "template t\npasses 2\npasses 2")
+    ≡ Err (Expected (record { line = 3; col = 1 }) want.Statement)
+unfolding template_of choice token_lines statements put_all tokens_of lines_reading line_fault line_tokens spans words
+    is_word is_separator number_of digits_reading reading_at value_of place_value
 twice = refl
 
 -- the tokens of two lines, and the template that they spell
@@ -72,6 +79,19 @@ short =
     (token Word 1 1 0 8, codes "template") ∷ (token Word 1 10 9 10, codes "t") ∷ (token LineEnd 1 11 10 10, [])
     ∷ (token Word 2 1 11 17, codes "passes") ∷ (token Word 2 8 18 19, codes "2") ∷ (token LineEnd 2 9 19 19, []) ∷ []
 
-two_lines : Spells short (record { name = codes "t"; passes = 2; passes_at = record { line = 2; col = 1 }; windows = []; cases = []; end = record { line = 2; col = 9 } })
+two_lines : Spells short (record {
+  name = codes "t";
+  passes = 2;
+  passes_at = record { line = 2; col = 1 };
+  windows = [];
+  cases = [];
+  end = record { line = 2; col = 9 };
+})
 unfolding Spells pieces_of number_of digits_reading reading_at value_of place_value
-two_lines = (record { line = 1; col = 1 }, ((refl, refl, refl), ((refl, refl, refl), (refl, ((refl, refl, refl), ((refl, refl, omega arith), (refl, tt)))))))
+two_lines = (
+  record { line = 1; col = 1 },
+  (
+    (refl, refl, refl),
+    ((refl, refl, refl), (refl, ((refl, refl, refl), ((refl, refl, omega arith), (refl, tt))))),
+  ),
+)

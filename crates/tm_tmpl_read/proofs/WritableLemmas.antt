@@ -5,7 +5,8 @@ use Rattle.tm_tmpl_types.specs.declared.template.SlotText.TheVariants.{Emit, Mix
 use Rattle.tm_tmpl_types.specs.declared.template.Template.{Template}
 use Rattle.tm_tmpl_line.specs.Readings.{Lexeme, is_raw, is_name, template, passes, window, case_of, body, slot, At}
 use Rattle.tm_tmpl_read.specs.Steps.{windows_at, cases_at}
-use Rattle.tm_tmpl_line.specs.Pieces.{Piece, opening, fixed, a_name, a_number, asm_line, the_end, pieces_of, Fits, AreFit}
+use Rattle.tm_tmpl_line.specs.Pieces.{Piece, opening, fixed, a_name, a_number, asm_line, the_end, pieces_of, Fits}
+use Rattle.tm_tmpl_line.specs.Pieces.{AreFit}
 use Rattle.tm_tmpl_read.specs.Spelled.{all_pieces, statements_of, Spells}
 use Rattle.tm_tmpl_read.specs.Writable.{IsAsm, HaveAsm, IsSmall, IsSayable, AreSayable, IsWritable}
 

@@ -21,28 +21,34 @@ earlier opening past = record { opening = opening; steps = past }
 -- a kind that looks at each hart's own steps, and passes to earlier ones
 EachHart-earlier : (p : Program) (P : ℕ → Hart → List Step → Type 0)
     → ((h : ℕ) (first : Hart) (later past : List Step) → P h first (later ++ past) → P h first past)
-    → (o : ℕ → List ℕ) (later past : List Step) → EachHart p P (earlier o (later ++ past)) → EachHart p P (earlier o past)
+    → (o : ℕ → List ℕ) (later past : List Step) → EachHart p P (earlier o (later ++ past))
+    → EachHart p P (earlier o past)
 EachHart-earlier p P down o later past r = record {
   opening = r.opening;
   only = Always-earlier _ later past r.only;
-  each = λ h l. down h (first_of_hart (earlier o past) h) (own h later) (own h past) (subst (λ (x : List Step). P h (first_of_hart (earlier o past) h) x) (own-append h later past) (r.each h l));
+  each = λ h l. down h (first_of_hart (earlier o past) h) (own h later) (own h past)
+      (subst (λ (x : List Step). P h (first_of_hart (earlier o past) h) x) (own-append h later past) (r.each h l));
 }
 
-pub Path-earlier : (p : Program) (o : ℕ → List ℕ) (later past : List Step) → Paths p (earlier o (later ++ past)) → Paths p (earlier o past)
+pub Path-earlier : (p : Program) (o : ℕ → List ℕ) (later past : List Step) → Paths p (earlier o (later ++ past))
+    → Paths p (earlier o past)
 Path-earlier p o later past r = EachHart-earlier p _ (λ h first l q. Always-earlier _ l q) o later past r
 
-pub Legal-earlier : (p : Program) (o : ℕ → List ℕ) (later past : List Step) → Legal p (earlier o (later ++ past)) → Legal p (earlier o past)
+pub Legal-earlier : (p : Program) (o : ℕ → List ℕ) (later past : List Step) → Legal p (earlier o (later ++ past))
+    → Legal p (earlier o past)
 Legal-earlier p o later past r = record {
   paths = Path-earlier p o later past r.paths;
   met = Always-earlier _ later past r.met;
   reads = Always-earlier _ later past r.reads;
 }
 
-pub Plain-earlier : (p : Program) (o : ℕ → List ℕ) (later past : List Step) → Plain p (earlier o (later ++ past)) → Plain p (earlier o past)
+pub Plain-earlier : (p : Program) (o : ℕ → List ℕ) (later past : List Step) → Plain p (earlier o (later ++ past))
+    → Plain p (earlier o past)
 Plain-earlier p o later past r = record {
   paths = Path-earlier p o later past r.paths;
   reads = Always-earlier _ later past r.reads;
 }
 
-pub Half-earlier : (p : Program) (o : ℕ → List ℕ) (later past : List Step) → Half p (earlier o (later ++ past)) → Half p (earlier o past)
+pub Half-earlier : (p : Program) (o : ℕ → List ℕ) (later past : List Step) → Half p (earlier o (later ++ past))
+    → Half p (earlier o past)
 Half-earlier p o later past r = EachHart-earlier p _ (λ h first l q. Always-earlier _ l q) o later past r

@@ -11,7 +11,16 @@ pub loop-piece-init : goal.loop-piece-init
 unfolding printed
 loop-piece-init c =
     let ps = pieces_of (shape_of c.args.i.op) in
-    rw (c.append-2.ensures, c.append.ensures, c.new-line.ensures, c.gap.ensures.gap, c.name.ensures.name, c.pieces-pieces.ensures.pieces, c.shape_of.ensures) (append_assoc (name_of c.args.i.op) (gap ps) (pieces_text ps c.args.i))
+    rw (
+      c.append-2.ensures,
+      c.append.ensures,
+      c.new-line.ensures,
+      c.gap.ensures.gap,
+      c.name.ensures.name,
+      c.pieces-pieces.ensures.pieces,
+      c.shape_of.ensures,
+    )
+    (append_assoc (name_of c.args.i.op) (gap ps) (pieces_text ps c.args.i))
 
 pub print_piece-requires : goal.print_piece-requires
 print_piece-requires c =
@@ -21,7 +30,8 @@ print_piece-requires c =
     let more = pieces_text-more ps k d c.args.i (omega arith) in
     let size = ap length c.loop-piece.invariant in
     let a = length-append c.loop-piece.line (pieces_text (drop k ps) c.args.i) in
-    let b = ap length more ∙ length-append (piece_text (get_or ps k d) c.args.i) (pieces_text (drop (k + 1) ps) c.args.i) in
+    let b = ap length more ∙ length-append (piece_text (get_or ps k d) c.args.i)
+    (pieces_text (drop (k + 1) ps) c.args.i) in
     let room = printed_short c.args.i c.requires in
     omega arith
 

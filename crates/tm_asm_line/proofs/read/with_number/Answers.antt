@@ -13,6 +13,7 @@ pub returns-then-is_in : goal.returns-then-is_in
 returns-then-is_in c =
     let same = to_z-of_z w128 c.args.value c.ranges.value in
     let small = c.if-is_in.ensures.small refl in
-    let kept : to_z w64 (of_z w64 c.args.value) ≡ c.args.value = to_z-of_z w64 c.args.value (omega (arith, ints, small)) in
+    let kept : to_z w64 (of_z w64 c.args.value) ≡ c.args.value =
+    to_z-of_z w64 c.args.value (omega (arith, ints, small)) in
     let test = rw same at c.if-is_in.ensures.test in
     rw (same, kept, ← test)

@@ -18,7 +18,8 @@ pub returns-clause-exit : goal.returns-clause-exit
 returns-clause-exit c =
     let most = meet c.args.h c.args.harts in
     let two = and_then most (fence ∷ []) _ _ _ c.in_ok-put_meet.ensures c.in_ok-put_fence.ensures in
-    c.len-exit.ensures ∙ ap (λ (s : Sheet). length s.items) two ∙ length-puts c.args.code.now (most ++ fence ∷ []) ∙ omega (arith, length-append most (fence ∷ []))
+    c.len-exit.ensures ∙ ap (λ (s : Sheet). length s.items) two ∙ length-puts c.args.code.now (most ++ fence ∷ []) ∙
+    omega (arith, length-append most (fence ∷ []))
 
 pub returns-clause-short : goal.returns-clause-short
 returns-clause-short c = length-barrier c.args.h c.args.harts

@@ -9,4 +9,5 @@ pub returns : goal.returns
 unfolding meet
 returns c =
     let two = and_then prepare (signal c.args.h) _ _ _ c.in_ok-put_prepare.ensures c.in_ok-put_signal.ensures in
-    on_ok_weaker c.put_waits.result (λ h. and_then (prepare ++ signal c.args.h) (waits c.args.h (count_from 0 c.args.harts)) _ _ _ two h) c.put_waits.ensures
+    on_ok_weaker c.put_waits.result (λ h. and_then (prepare ++ signal c.args.h)
+    (waits c.args.h (count_from 0 c.args.harts)) _ _ _ two h) c.put_waits.ensures

@@ -7,7 +7,8 @@ pub loop-g-init : goal.loop-g-init
 loop-g-init c = none_yet (turn c.args.h) 0 0 c.args.code.now (omega arith)
 
 pub loop-g-preserved : goal.loop-g-preserved
-loop-g-preserved c = one_more (turn c.args.h) 0 c.loop-g.g _ _ _ _ _ (omega arith) (omega arith) c.loop-g.invariant c.in_ok-put_turn.ensures
+loop-g-preserved c = one_more (turn c.args.h) 0 c.loop-g.g _ _ _ _ _ (omega arith) (omega arith) c.loop-g.invariant
+    c.in_ok-put_turn.ensures
 
 pub returns : goal.returns
 unfolding waits

@@ -8,7 +8,9 @@ pub loop-i-preserved : goal.loop-i-preserved
 loop-i-preserved c =
     let place : 4 * (c.args.digits - 1 - c.loop-i.i) ≡ 4 * (c.args.digits - (c.loop-i.i + 1)) = omega arith in
     record {
-      same = hex_put c.loop-i.text c.loop-i.i c.args.digits c.args.value c.hex_digit.result (omega arith) (omega (arith, c.loop-i.invariant.size, c.requires.few)) (c.hex_digit.ensures ∙ rw (place, sixteens)) c.loop-i.invariant.same;
+      same = hex_put c.loop-i.text c.loop-i.i c.args.digits c.args.value c.hex_digit.result (omega arith)
+          (omega (arith, c.loop-i.invariant.size, c.requires.few)) (c.hex_digit.ensures ∙ rw (place, sixteens))
+          c.loop-i.invariant.same;
       size = simp length-set c.loop-i.invariant.size;
     }
 

@@ -1,4 +1,5 @@
-use Rattle.tm_blocks_base.proofs.Registers.{load_registers_runs, load_all_but_last_runs, last_load_runs, save_registers_runs}
+use Rattle.tm_blocks_base.proofs.Registers.{load_registers_runs, load_all_but_last_runs, last_load_runs}
+use Rattle.tm_blocks_base.proofs.Registers.{save_registers_runs}
 use Rattle.tm_blocks_base.proofs.laws.registers.Goals as goal
 
 pub returns-clause-load : goal.returns-clause-load

@@ -18,14 +18,16 @@ pub loop-register-preserved : goal.loop-register-preserved
 loop-register-preserved c =
     let place : c.from.result ≡ c.loop-register.register - 1 = omega arith in
     let call : c.put_all.new.code ≡ puts c.loop-register.code (loaded c.loop-register.register) =
-    c.in_ok-put_all.ensures ∙ ap (λ (i : Instr). puts c.loop-register.code (i ∷ [])) (c.ld.ensures.is ∙ ap (λ (p : ℕ). ld c.loop-register.register (8 * p) 31) place) in
+    c.in_ok-put_all.ensures ∙ ap (λ (i : Instr). puts c.loop-register.code (i ∷ []))
+    (c.ld.ensures.is ∙ ap (λ (p : ℕ). ld c.loop-register.register (8 * p) 31) place) in
     one_more loaded 1 c.loop-register.register _ _ _ _ _ (omega arith) (omega arith) c.loop-register.invariant call
 
 pub returns-clause-words : goal.returns-clause-words
 unfolding load_registers
 returns-clause-words c =
     let one : ℕ → Instr = λ r. ld r (8 * (r - 1)) 31 in
-    and_then (constant 31 c.args.table) (map one (count_from 1 31)) _ _ _ c.in_ok-put_constant.ensures.words (all_single one 1 (c.loop-register.register - 1) 31 _ _ (omega arith) c.loop-register.invariant)
+    and_then (constant 31 c.args.table) (map one (count_from 1 31)) _ _ _ c.in_ok-put_constant.ensures.words
+    (all_single one 1 (c.loop-register.register - 1) 31 _ _ (omega arith) c.loop-register.invariant)
 
 pub returns-clause-runs : goal.returns-clause-runs
 returns-clause-runs c = load_registers_runs c.args.table

@@ -8,11 +8,15 @@ use Rattle.tm_blocks_code.proofs.instrs.bne_back.Goals as goal
 
 pub returns-clause-is : goal.returns-clause-is
 returns-clause-is c =
-    let e : negsuc (c.args.n - 1) ≡ to_z w64 (of_z w64 (pos 0 -ℤ to_z w64 (of_z w64 c.from.result))) = omega (arith, ints) in
+    let e : negsuc (c.args.n - 1) ≡ to_z w64 (of_z w64 (pos 0 -ℤ to_z w64 (of_z w64 c.from.result))) =
+    omega (arith, ints) in
     let make : ℤ → Instr = λ z. record { op = Bne; rd = 0; rs1 = c.args.rs1; rs2 = c.args.rs2; imm = z } in
     ap make (sym e)
 
 pub returns-clause-fits : goal.returns-clause-fits
 returns-clause-fits c =
-    let e : negsuc (c.args.n - 1) ≡ to_z w64 (of_z w64 (pos 0 -ℤ to_z w64 (of_z w64 c.from.result))) = omega (arith, ints) in
-    subst (λ (z : ℤ). Fits (record { op = Bne; rd = 0; rs1 = c.args.rs1; rs2 = c.args.rs2; imm = z })) e (bne_back_fits c.args.rs1 c.args.rs2 c.args.n c.requires.registers.0 c.requires.registers.1 c.requires.even c.requires.some c.requires.near)
+    let e : negsuc (c.args.n - 1) ≡ to_z w64 (of_z w64 (pos 0 -ℤ to_z w64 (of_z w64 c.from.result))) =
+    omega (arith, ints) in
+    subst (λ (z : ℤ). Fits (record { op = Bne; rd = 0; rs1 = c.args.rs1; rs2 = c.args.rs2; imm = z })) e
+    (bne_back_fits c.args.rs1 c.args.rs2 c.args.n c.requires.registers.0 c.requires.registers.1 c.requires.even
+    c.requires.some c.requires.near)

@@ -11,7 +11,8 @@ use Rattle.tm_blocks_compare.proofs.Lengths.{no-check}
 use Rattle.tm_blocks_compare.proofs.checks.put_window_check.Goals as goal
 
 pub returns-then-lines-eq0 : goal.returns-then-lines-eq0
-returns-then-lines-eq0 c = no-check c.args.masks c.args.lines c.args.n c.args.b c.args.far c.args.code.now c.if-lines-eq0.true
+returns-then-lines-eq0 c = no-check c.args.masks c.args.lines c.args.n c.args.b c.args.far c.args.code.now
+    c.if-lines-eq0.true
 
 pub returns : goal.returns
 unfolding window_check
@@ -20,5 +21,7 @@ returns c =
     let count : List Instr = addi 4 0 c.args.lines ∷ [] in
     let turn = line_turn c.args.n c.args.b c.args.far in
     let two = and_then front count _ _ _ c.in_ok-put_constant.ensures.words c.in_ok-put_count.ensures in
-    let is : window_check c.args.masks c.args.lines c.args.n c.args.b c.args.far ≡ front ++ count ++ turn = ap (λ (b : Bool). if b then [] else front ++ count ++ turn) (ne_eqb c.args.lines 0 c.if-lines-eq0.false) in
-    on_ok_weaker c.put_line_turn.result (λ h. and_then (front ++ count) turn _ _ _ two h ∙ ap (puts c.args.code.now) (sym is)) c.put_line_turn.ensures
+    let is : window_check c.args.masks c.args.lines c.args.n c.args.b c.args.far ≡ front ++ count ++ turn =
+    ap (λ (b : Bool). if b then [] else front ++ count ++ turn) (ne_eqb c.args.lines 0 c.if-lines-eq0.false) in
+    on_ok_weaker c.put_line_turn.result (λ h. and_then (front ++ count) turn _ _ _ two h ∙ ap (puts c.args.code.now)
+    (sym is)) c.put_line_turn.ensures

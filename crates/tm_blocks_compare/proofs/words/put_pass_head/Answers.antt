@@ -11,4 +11,5 @@ pub returns : goal.returns
 unfolding pass_head
 returns c =
     let rest : List Instr = slli 2 9 13 ∷ add 2 2 1 ∷ addi 8 0 0 ∷ [] in
-    on_ok_weaker c.put_pointers.result (λ h. and_then (constant 1 c.args.first) rest _ _ _ c.in_ok-put_constant.ensures.words h) c.put_pointers.ensures
+    on_ok_weaker c.put_pointers.result (λ h. and_then (constant 1 c.args.first) rest _ _ _
+    c.in_ok-put_constant.ensures.words h) c.put_pointers.ensures

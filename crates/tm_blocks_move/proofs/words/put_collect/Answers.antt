@@ -16,13 +16,18 @@ returns-clause-words c =
     let line = copy_dwords 31 0 9 0 30 in
     let on : List Instr = addi 2 9 240 ∷ [] in
     let two = and_then line on _ _ _ c.in_ok-put_line.ensures c.in_ok-put_target.ensures in
-    on_ok_weaker c.put_collect_windows.result (λ h. and_then (line ++ on) (collect_windows c.args.cases.now c.args.h) _ _ _ two h) c.put_collect_windows.ensures
+    on_ok_weaker c.put_collect_windows.result (λ h. and_then (line ++ on) (collect_windows c.args.cases.now c.args.h) _
+    _ _ two h) c.put_collect_windows.ensures
 
 pub returns-clause-short : goal.returns-clause-short
-returns-clause-short c = on_ok_weaker c.put_collect_windows.result (λ h. length-collect c.args.cases.now c.args.h c.requires.shaped) c.put_collect_windows.ensures
+returns-clause-short c =
+    on_ok_weaker c.put_collect_windows.result (λ h. length-collect c.args.cases.now c.args.h c.requires.shaped)
+    c.put_collect_windows.ensures
 
 pub returns-clause-runs : goal.returns-clause-runs
-returns-clause-runs c = on_ok_weaker c.put_collect_windows.result (λ h. collect_all_runs c.args.cases.now c.args.h) c.put_collect_windows.ensures
+returns-clause-runs c = on_ok_weaker c.put_collect_windows.result (λ h. collect_all_runs c.args.cases.now c.args.h)
+    c.put_collect_windows.ensures
 
 pub returns-clause-once : goal.returns-clause-once
-returns-clause-once c = on_ok_weaker c.put_collect_windows.result (λ h. collected_once c.args.cases.now c.args.h) c.put_collect_windows.ensures
+returns-clause-once c = on_ok_weaker c.put_collect_windows.result (λ h. collected_once c.args.cases.now c.args.h)
+    c.put_collect_windows.ensures

@@ -7,7 +7,8 @@ pub loop-v-init : goal.loop-v-init
 loop-v-init c = none_yet (collect_window c.args.cases.now c.args.h) 0 0 c.args.code.now (omega arith)
 
 pub loop-v-preserved : goal.loop-v-preserved
-loop-v-preserved c = one_more (collect_window c.args.cases.now c.args.h) 0 c.loop-v.v _ _ _ _ _ (omega arith) (omega arith) c.loop-v.invariant c.in_ok-put_collect_window.ensures
+loop-v-preserved c = one_more (collect_window c.args.cases.now c.args.h) 0 c.loop-v.v _ _ _ _ _ (omega arith)
+    (omega arith) c.loop-v.invariant c.in_ok-put_collect_window.ensures
 
 pub returns : goal.returns
 unfolding collect_windows

@@ -14,6 +14,10 @@ returns c =
     let cases = c.args.cases.now in
     let place = line_place cases c.args.h c.args.v in
     let first = constant 2 (windows_base + place) in
-    let lines = move_lines (c.args.from + place) (line_count cases c.args.h c.args.v) (cases.line / 8) (half_stride cases) (half_stride cases) in
-    let one = c.in_ok-put_constant.ensures.words ∙ ap (λ (x : ℕ). puts c.args.code.now (constant 2 x)) c.line_addr.ensures.is in
-    on_ok_weaker c.put_move_lines.result (λ h. and_then first lines _ _ _ one (rw (c.line_place.ensures.is, c.line_count-lines.ensures.is, c.dwords_of.ensures.is, c.half_of-half.ensures.is) at h)) c.put_move_lines.ensures
+    let lines = move_lines (c.args.from + place) (line_count cases c.args.h c.args.v) (cases.line / 8)
+    (half_stride cases) (half_stride cases) in
+    let one = c.in_ok-put_constant.ensures.words ∙ ap (λ (x : ℕ). puts c.args.code.now (constant 2 x))
+    c.line_addr.ensures.is in
+    on_ok_weaker c.put_move_lines.result (λ h. and_then first lines _ _ _ one
+    (rw (c.line_place.ensures.is, c.line_count-lines.ensures.is, c.dwords_of.ensures.is, c.half_of-half.ensures.is)
+    at h)) c.put_move_lines.ensures

@@ -7,4 +7,5 @@ use Rattle.tm_blocks_move.proofs.words.put_lines_loop.Goals as goal
 pub returns : goal.returns
 unfolding lines_loop
 returns c =
-    on_ok_weaker c.put_line_turn.result (λ h. and_then (copy_dwords 1 0 2 0 c.args.n) (line_turn c.args.n c.args.a c.args.b) _ _ _ c.in_ok-put_line.ensures h) c.put_line_turn.ensures
+    on_ok_weaker c.put_line_turn.result (λ h. and_then (copy_dwords 1 0 2 0 c.args.n)
+    (line_turn c.args.n c.args.a c.args.b) _ _ _ c.in_ok-put_line.ensures h) c.put_line_turn.ensures

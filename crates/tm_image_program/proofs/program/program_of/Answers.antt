@@ -1,6 +1,5 @@
 use Rattle.std.proofs.Common.{sym, subst}
 use Rattle.tm_plan_cases.specs.declared.cases.Cases.{Cases}
-use Rattle.tm_plan_cases.specs.declared.masks.Masks.{Masks}
 use Rattle.tm_plan_cases.specs.Shaped.{IsTyped}
 use Rattle.tm_world.specs.Checked.{AreChecked}
 use Rattle.tm_world.specs.Sound.{Sound}
@@ -10,8 +9,10 @@ use Rattle.tm_image_program.proofs.program.program_of.Goals as goal
 
 pub returns-clause-program : goal.returns-clause-program
 returns-clause-program c =
-    program-is c.args.a.now c.args.seed c.in_ok-cases.cases c.in_ok-masks.masks c.in_ok-code.code.marks c.in_ok-code.code.text c.in_ok-tables.tables
-    c.in_ok-cases.ensures.exact c.in_ok-masks.ensures.exact c.in_ok-tables.ensures c.in_ok-code.ensures.text c.in_ok-code.ensures.marks
+    program-is c.args.a.now c.args.seed c.in_ok-cases.cases c.in_ok-masks.masks c.in_ok-code.code.marks
+    c.in_ok-code.code.text c.in_ok-tables.tables
+    c.in_ok-cases.ensures.exact c.in_ok-masks.ensures.exact c.in_ok-tables.ensures c.in_ok-code.ensures.text
+    c.in_ok-code.ensures.marks
 
 pub returns-clause-sound : goal.returns-clause-sound
 returns-clause-sound c =

@@ -5,7 +5,8 @@ use Rattle.tm_lex.proofs.lines.read_lines.Given as goal
 
 abbrev pub invariant-loop-out : goal.invariant-loop-out
 invariant-loop-out l = record {
-  same : before l.out (lines_reading l.number l.from (slice_split (λ b. b == 10) (drop l.from l.text))) ≡ tokens_of l.text;
+  same : before l.out (lines_reading l.number l.from (slice_split (λ b. b == 10) (drop l.from l.text)))
+      ≡ tokens_of l.text;
   within : l.from ≤ length l.text;
   number : l.number ≤ l.from + 1;
 }

@@ -8,15 +8,18 @@ use Rattle.tm_lex.proofs.FaultLemmas.{tokens-are, fault-is}
 use Rattle.tm_lex.proofs.OrderLemmas.{in-order}
 use Rattle.tm_lex.proofs.lines.tokens.Goals as goal
 
-tiled : (text : List ℕ) (r : Result (List Token) LexFault) → IfOk r (λ ts. tokens_of text ≡ Ok ts) → IfOk r (AreTokens text)
+tiled : (text : List ℕ) (r : Result (List Token) LexFault) → IfOk r (λ ts. tokens_of text ≡ Ok ts)
+    → IfOk r (AreTokens text)
 tiled text (Ok ts) h = tokens-are text ts h
 tiled text (Err e) h = h
 
-first : (text : List ℕ) (r : Result (List Token) LexFault) → IfErr r (λ e. e ≢ NoMemory → tokens_of text ≡ Err e) → IfErr r (λ e. e ≢ NoMemory → IsFirstFault text e)
+first : (text : List ℕ) (r : Result (List Token) LexFault) → IfErr r (λ e. e ≢ NoMemory → tokens_of text ≡ Err e)
+    → IfErr r (λ e. e ≢ NoMemory → IsFirstFault text e)
 first text (Ok ts) h = h
 first text (Err e) h = λ other. fault-is text e (h other)
 
-order : (text : List ℕ) (r : Result (List Token) LexFault) → IfOk r (λ ts. tokens_of text ≡ Ok ts) → IfOk r (λ ts. AreInOrder 0 (length text) ts)
+order : (text : List ℕ) (r : Result (List Token) LexFault) → IfOk r (λ ts. tokens_of text ≡ Ok ts)
+    → IfOk r (λ ts. AreInOrder 0 (length text) ts)
 order text (Ok ts) h = in-order text ts h
 order text (Err e) h = h
 

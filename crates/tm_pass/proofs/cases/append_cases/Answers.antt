@@ -21,12 +21,15 @@ loop-c-preserved c =
       least = omega (arith, next, c.loop-c.invariant.least);
       most = omega (arith, next, size, c.loop-c.invariant.most);
       words =
-          ap (λ (at' : ℕ). c.append_next.new.out ++ cases_words (blocks_of cases h) cases.passes (k + 1) (drop (k + 1) (streams_of cases h)) at' barrier) next
-          ∙ words-next cases shaped h c.requires.mine k (k + 1) on few c.loop-c.at barrier c.loop-c.out c.append_next.new.out c.in_ok-at.ensures.words
+          ap (λ (at' : ℕ). c.append_next.new.out ++ cases_words (blocks_of cases h) cases.passes (k + 1)
+          (drop (k + 1) (streams_of cases h)) at' barrier) next
+          ∙ words-next cases shaped h c.requires.mine k (k + 1) on few c.loop-c.at barrier c.loop-c.out
+          c.append_next.new.out c.in_ok-at.ensures.words
           ∙ c.loop-c.invariant.words;
     }
 
 pub returns : goal.returns
 returns c =
-    sym (words-end c.args.cases.now c.requires.shaped c.args.h c.requires.mine c.loop-c.c (omega (arith, c.case_count-c-end.ensures)) c.loop-c.at c.args.barrier c.loop-c.out)
+    sym (words-end c.args.cases.now c.requires.shaped c.args.h c.requires.mine c.loop-c.c
+    (omega (arith, c.case_count-c-end.ensures)) c.loop-c.at c.args.barrier c.loop-c.out)
     ∙ c.loop-c.invariant.words

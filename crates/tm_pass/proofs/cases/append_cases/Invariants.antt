@@ -8,6 +8,8 @@ invariant-loop-c l = record {
   aligned : l.at % 4 ≡ 0;
   least : l.first ≤ l.at;
   most : l.at ≤ l.first + 4096 * l.c;
-  words : l.out ++ cases_words (blocks_of l.cases l.h) l.cases.passes l.c (drop l.c (streams_of l.cases l.h)) l.at l.barrier
-      ≡ l.initial.out ++ cases_words (blocks_of l.cases l.h) l.cases.passes 0 (streams_of l.cases l.h) l.first l.barrier;
+  words : l.out ++ cases_words (blocks_of l.cases l.h) l.cases.passes l.c (drop l.c (streams_of l.cases l.h)) l.at
+      l.barrier
+      ≡ l.initial.out ++ cases_words (blocks_of l.cases l.h) l.cases.passes 0 (streams_of l.cases l.h) l.first
+      l.barrier;
 }

@@ -13,4 +13,11 @@ returns-clause-behind c =
     let before = ap length c.as_slice-before.ensures in
     let behind = ap length (c.as_slice.ensures ∙ c.in_ok-append_case.ensures) in
     let same = ap (λ (s : List ℕ). case_size blocks c.args.c (length s)) c.stream_of.ensures.is in
-    omega (arith, before, behind, length-append c.args.out.now words, length-case blocks cases.passes c.args.c stream c.args.at c.args.barrier, same)
+    omega (
+      arith,
+      before,
+      behind,
+      length-append c.args.out.now words,
+      length-case blocks cases.passes c.args.c stream c.args.at c.args.barrier,
+      same,
+    )

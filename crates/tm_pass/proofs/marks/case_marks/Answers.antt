@@ -26,7 +26,8 @@ loop-c-preserved c =
           ∙ sym (count-on (start_at cases h base) k (k + 1) on);
       ends =
           c.in_ok-mark_case.ensures.ends
-          ∙ ap₂ (λ (l : List ℕ) (b : ℕ). l ++ (b + 4 * before + 4 * long) ∷ []) c.loop-c.invariant.ends c.loop-c.invariant.behind
+          ∙ ap₂ (λ (l : List ℕ) (b : ℕ). l ++ (b + 4 * before + 4 * long) ∷ []) c.loop-c.invariant.ends
+          c.loop-c.invariant.behind
           ∙ sym (count-on (end_at cases h base) k (k + 1) on);
       behind = omega (arith, c.in_ok-mark_case.ensures.behind, c.loop-c.invariant.behind, next);
       most = omega (arith, c.in_ok-mark_case.ensures.behind, c.loop-c.invariant.most, room);

@@ -1,4 +1,5 @@
-use Rattle.std.proofs.Common.{◌≡◌, ℕ, suc, ◌+◌, ◌<◌, List, [], ◌∷◌, ◌++◌, length, map, flat_map, sym, ap, ap₂, ◌∙◌, arith}
+use Rattle.std.proofs.Common.{◌≡◌, ℕ, suc, ◌+◌, ◌<◌, List, [], ◌∷◌, ◌++◌, length, map, flat_map, sym, ap, ap₂, ◌∙◌}
+use Rattle.std.proofs.Common.{arith}
 use Rattle.tm_base.specs.Lists.{count_from}
 use Rattle.tm_plan_cases.specs.declared.program.Marks.{Marks}
 use Rattle.tm_plan_map.specs.Map.{text_base, tables_base}
@@ -58,7 +59,8 @@ loop-h-preserved c =
     let mine : h < cases.harts = omega arith in
     let on : h + 1 ≡ suc h = omega arith in
     let all = count_from 0 (length cases.cases) in
-    let long = ap length c.as_slice.ensures ∙ (ap length code.words ∙ words-many cases c.requires h mine c.loop-h.base) in
+    let long = ap length c.as_slice.ensures ∙ (ap length code.words ∙ words-many cases c.requires h mine c.loop-h.base)
+    in
     let next = base-on cases c.requires h (h + 1) on in
     record {
       text =
@@ -67,7 +69,8 @@ loop-h-preserved c =
           ∙ sym (text-on cases c.requires h (h + 1) on);
       starts =
           made.starts
-          ∙ ap₂ (λ (l r : List ℕ). l ++ r) was.starts (code.starts ∙ ap (λ (b : ℕ). map (start_at cases h b) all) was.base)
+          ∙ ap₂ (λ (l r : List ℕ). l ++ r) was.starts
+          (code.starts ∙ ap (λ (b : ℕ). map (start_at cases h b) all) was.base)
           ∙ sym (rows-on (λ (g : ℕ). map (start_in cases g) all) h (h + 1) on);
       ends =
           made.ends

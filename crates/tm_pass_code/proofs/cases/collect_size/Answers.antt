@@ -7,10 +7,12 @@ use Rattle.tm_pass_code.proofs.cases.collect_size.Goals as goal
 pub returns-clause-is : goal.returns-clause-is
 returns-clause-is c =
     let block = collect_all c.args.cases.now c.args.h in
-    c.len.ensures ∙ plain-length _ block (c.in_ok-put_collect.ensures.words ∙ ap (λ (s : Sheet). puts s block) c.new-code.ensures)
+    c.len.ensures ∙ plain-length _ block (c.in_ok-put_collect.ensures.words ∙ ap (λ (s : Sheet). puts s block)
+    c.new-code.ensures)
 
 pub returns-clause-few : goal.returns-clause-few
 returns-clause-few c =
     let block = collect_all c.args.cases.now c.args.h in
-    let same = c.len.ensures ∙ plain-length _ block (c.in_ok-put_collect.ensures.words ∙ ap (λ (s : Sheet). puts s block) c.new-code.ensures) in
+    let same = c.len.ensures ∙ plain-length _ block
+    (c.in_ok-put_collect.ensures.words ∙ ap (λ (s : Sheet). puts s block) c.new-code.ensures) in
     subst (λ (n : ℕ). n ≤ 211) (sym same) c.in_ok-put_collect.ensures.short

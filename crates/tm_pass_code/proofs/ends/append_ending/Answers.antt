@@ -12,6 +12,7 @@ append_code-requires c =
 pub returns : goal.returns
 returns c =
     let block = barrier c.args.h c.args.harts in
-    c.in_ok-append_code.ensures block (c.in_ok-put_barrier.ensures.words ∙ ap (λ (s : Sheet). puts s block) c.new-code.ensures)
+    c.in_ok-append_code.ensures block (c.in_ok-put_barrier.ensures.words ∙ ap (λ (s : Sheet). puts s block)
+    c.new-code.ensures)
     ∙ ap (λ (w : List ℕ). w ++ words_of block) c.in_ok-push.ensures.ok
     ∙ append_assoc c.args.out.now (0x0000006F ∷ []) (words_of block)

@@ -13,4 +13,5 @@ append_code-requires c =
 pub returns : goal.returns
 returns c =
     let block = gate c.args.h c.args.n ++ constant 31 (private_at c.args.h) in
-    c.in_ok-append_code.ensures block (c.in_ok-put_opening.ensures ∙ ap (λ (s : Sheet). puts s block) c.new-code.ensures)
+    c.in_ok-append_code.ensures block (c.in_ok-put_opening.ensures ∙ ap (λ (s : Sheet). puts s block)
+    c.new-code.ensures)

@@ -8,11 +8,14 @@ use Rattle.tm_pass_code.proofs.instrs.jump_back.Goals as goal
 
 pub returns-clause-is : goal.returns-clause-is
 returns-clause-is c =
-    let e : negsuc (c.args.n - 1) ≡ to_z w64 (of_z w64 (pos 0 -ℤ to_z w64 (of_z w64 c.from.result))) = omega (arith, ints) in
+    let e : negsuc (c.args.n - 1) ≡ to_z w64 (of_z w64 (pos 0 -ℤ to_z w64 (of_z w64 c.from.result))) =
+    omega (arith, ints) in
     let make : ℤ → Instr = λ z. record { op = Jal; rd = 0; rs1 = 0; rs2 = 0; imm = z } in
     ap make (sym e)
 
 pub returns-clause-fits : goal.returns-clause-fits
 returns-clause-fits c =
-    let e : negsuc (c.args.n - 1) ≡ to_z w64 (of_z w64 (pos 0 -ℤ to_z w64 (of_z w64 c.from.result))) = omega (arith, ints) in
-    subst (λ (z : ℤ). Fits (record { op = Jal; rd = 0; rs1 = 0; rs2 = 0; imm = z })) e (jump_back_fits c.args.n c.requires.even c.requires.some c.requires.near)
+    let e : negsuc (c.args.n - 1) ≡ to_z w64 (of_z w64 (pos 0 -ℤ to_z w64 (of_z w64 c.from.result))) =
+    omega (arith, ints) in
+    subst (λ (z : ℤ). Fits (record { op = Jal; rd = 0; rs1 = 0; rs2 = 0; imm = z })) e
+    (jump_back_fits c.args.n c.requires.even c.requires.some c.requires.near)

@@ -15,9 +15,12 @@ returns c =
     let collect = collect_all cases h in
     let compare = compare_case cases c.args.c h in
     let again = turn cases.passes c.args.back in
-    let w5 = c.in_ok-put_turn.ensures ∙ ap (λ (x : ℕ). puts c.put_collect.new.code (turn x c.args.back)) c.passes_of.ensures.is in
+    let w5 = c.in_ok-put_turn.ensures ∙ ap (λ (x : ℕ). puts c.put_collect.new.code (turn x c.args.back))
+    c.passes_of.ensures.is in
     let five = and_then again compare _ _ _ w5 c.in_ok-put_compare.ensures.words in
     let four = and_then collect (again ++ compare) _ _ _ c.in_ok-put_collect.ensures.words five in
     let three = and_then aim (collect ++ (again ++ compare)) _ _ _ c.in_ok-put_aim.ensures four in
-    let two = and_then (call c.args.d ∷ []) (aim ++ (collect ++ (again ++ compare))) _ _ _ c.in_ok-put_call.ensures three in
-    and_then save_registers (call c.args.d ∷ (aim ++ (collect ++ (again ++ compare)))) _ _ _ c.in_ok-put_save_registers.ensures.words two
+    let two = and_then (call c.args.d ∷ []) (aim ++ (collect ++ (again ++ compare))) _ _ _ c.in_ok-put_call.ensures
+    three in
+    and_then save_registers (call c.args.d ∷ (aim ++ (collect ++ (again ++ compare)))) _ _ _
+    c.in_ok-put_save_registers.ensures.words two

@@ -9,4 +9,5 @@ pub returns-in_ok-append-in-Ok : goal.returns-in_ok-append-in-Ok
 returns-in_ok-append-in-Ok c =
     λ block e.
     c.in_ok-append-in-Ok.ensures.ok
-    ∙ ap (λ (ws : List ℕ). c.args.out.now ++ ws) (c.as_slice.ensures ∙ c.in-Ok.ensures.words ∙ plain-words c.args.code block e)
+    ∙ ap (λ (ws : List ℕ). c.args.out.now ++ ws) (c.as_slice.ensures ∙ c.in-Ok.ensures.words ∙ plain-words c.args.code
+    block e)

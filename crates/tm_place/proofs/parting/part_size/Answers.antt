@@ -9,8 +9,10 @@ fits c = omega (arith, line_size-le c.args.line c.requires.size, div-le_self c.a
 pub returns-clause-value : goal.returns-clause-value
 returns-clause-value c =
     shifted c.ilog2.result (fits c)
-    ∙ sym (part_size-is c.args.line c.args.harts c.ilog2.result (line_size-le c.args.line c.requires.size) c.ilog2.ensures.power_le c.ilog2.ensures.next_power_gt)
+    ∙ sym (part_size-is c.args.line c.args.harts c.ilog2.result (line_size-le c.args.line c.requires.size)
+    c.ilog2.ensures.power_le c.ilog2.ensures.next_power_gt)
 
 pub returns-clause-greatest : goal.returns-clause-greatest
 returns-clause-greatest c =
-    rw (shifted c.ilog2.result (fits c)) (part_size-part c.args.line c.args.harts c.ilog2.result c.ilog2.ensures.power_le c.ilog2.ensures.next_power_gt)
+    rw (shifted c.ilog2.result (fits c)) (part_size-part c.args.line c.args.harts c.ilog2.result
+    c.ilog2.ensures.power_le c.ilog2.ensures.next_power_gt)

@@ -9,7 +9,8 @@ returns-clause-is c =
     let cases = c.args.cases.now in
     let x : c.from.result ≡ line_count cases c.args.h c.args.v = omega (arith, c.line_count.ensures.is) in
     let y : c.from-2.result ≡ cases.line / 8 = omega (arith, c.dwords_of.ensures.is) in
-    ap₂ (λ (u v : ℕ). u * v) x y ∙ sym (length-lines (windows_base + line_place cases c.args.h c.args.v) (cases.line / 8) (cases.line * cases.harts) (line_count cases c.args.h c.args.v))
+    ap₂ (λ (u v : ℕ). u * v) x y ∙ sym (length-lines (windows_base + line_place cases c.args.h c.args.v)
+    (cases.line / 8) (cases.line * cases.harts) (line_count cases c.args.h c.args.v))
 
 pub returns-clause-few : goal.returns-clause-few
 returns-clause-few c =

@@ -5,11 +5,13 @@ use Rattle.tm_plane.proofs.planes.has.Goals as goal
 
 pub returns-then-addr-base : goal.returns-then-addr-base
 unfolding window_at
-returns-then-addr-base c = below-none c.args.plane.now c.args.addr c.window_base-base.result (omega arith) c.if-addr-base.true
+returns-then-addr-base c = below-none c.args.plane.now c.args.addr c.window_base-base.result (omega arith)
+    c.if-addr-base.true
 
 pub returns-then-q-ge6144 : goal.returns-then-q-ge6144
 unfolding window_at
-returns-then-q-ge6144 c = above-none c.args.plane.now c.args.addr c.window_base-base.result (omega arith) c.told-plane c.if-q-ge6144.true
+returns-then-q-ge6144 c = above-none c.args.plane.now c.args.addr c.window_base-base.result (omega arith) c.told-plane
+    c.if-q-ge6144.true
 
 pub returns : goal.returns
 unfolding window_at

@@ -10,10 +10,12 @@ first = omega arith
 pub run-requires : goal.run-requires
 run-requires c =
     let base : c.window_base.result ≡ windows_base = c.window_base.ensures ∙ first in
-    subst (λ (a : ℕ). (c.args.addr - a) % 64 + c.args.width ≤ 64) (sym base) (low-near c.args.addr c.args.width c.requires)
+    subst (λ (a : ℕ). (c.args.addr - a) % 64 + c.args.width ≤ 64) (sym base)
+    (low-near c.args.addr c.args.width c.requires)
 
 pub returns : goal.returns
 returns c =
     let base : c.window_base.result ≡ windows_base = c.window_base.ensures ∙ first in
-    spans c.args.addr c.args.width ((c.args.addr - c.window_base.result) / 64) ((c.args.addr - c.window_base.result) % 64) c.run.result c.requires
+    spans c.args.addr c.args.width ((c.args.addr - c.window_base.result) / 64)
+    ((c.args.addr - c.window_base.result) % 64) c.run.result c.requires
     (ap (λ (a : ℕ). (c.args.addr - a) / 64) base) (ap (λ (a : ℕ). (c.args.addr - a) % 64) base) c.run.ensures

@@ -5,5 +5,6 @@ use Rattle.tm_plane.proofs.planes.spoiled.Given as goal
 abbrev pub invariant-loop-e : goal.invariant-loop-e
 invariant-loop-e l = record {
   room : length l.out ≡ 96;
-  made : (k : ℕ) → k < l.e → slice_index l.out k ≡ bit_or (slice_index l.before k) (bit_and (slice_index l.mine k) (bit_or (slice_index l.others k) (slice_index l.held k)));
+  made : (k : ℕ) → k < l.e → slice_index l.out k ≡ bit_or (slice_index l.before k)
+      (bit_and (slice_index l.mine k) (bit_or (slice_index l.others k) (slice_index l.held k)));
 }

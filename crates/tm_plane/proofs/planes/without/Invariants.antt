@@ -6,5 +6,6 @@ use Rattle.tm_plane.proofs.planes.without.Given as goal
 abbrev pub invariant-loop-e : goal.invariant-loop-e
 invariant-loop-e l = record {
   room : length l.out ≡ 96;
-  made : (k : ℕ) → k < l.e → (r : ℕ) → Bit (slice_index l.out k) r ↔ (Bit (slice_index l.x k) r × (Bit (slice_index l.y k) r → ⊥));
+  made : (k : ℕ) → k < l.e → (r : ℕ) → Bit (slice_index l.out k) r
+      ↔ (Bit (slice_index l.x k) r × (Bit (slice_index l.y k) r → ⊥));
 }

@@ -11,5 +11,9 @@ test-back n h = grind arith
 
 pub returns : goal.returns
 returns c =
-    let small : bit_and c.args.held c.args.reads < 2 ^ 64 = (let le = and_le_l c.args.held c.args.reads in let fits : c.args.held < 2 ^ 64 = c.ranges.held.fits in omega (arith, le, fits)) in
-    (λ t. meets-to c.args.held c.args.reads small (test-to (bit_and c.args.held c.args.reads) t), λ s. test-back (bit_and c.args.held c.args.reads) (meets-back c.args.held c.args.reads s))
+    let small : bit_and c.args.held c.args.reads < 2 ^ 64 =
+    (let le = and_le_l c.args.held c.args.reads in let fits : c.args.held < 2 ^ 64 = c.ranges.held.fits in
+    omega (arith, le, fits)) in (
+      λ t. meets-to c.args.held c.args.reads small (test-to (bit_and c.args.held c.args.reads) t),
+      λ s. test-back (bit_and c.args.held c.args.reads) (meets-back c.args.held c.args.reads s),
+    )

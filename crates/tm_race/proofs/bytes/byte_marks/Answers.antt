@@ -7,9 +7,11 @@ pub loop-q-init : goal.loop-q-init
 loop-q-init c = none-yet (λ q mark. mark ≡ mark_of c.args.cases.now c.args.spoil.now q) _ c.new-marks.ensures
 
 pub loop-q-preserved : goal.loop-q-preserved
-loop-q-preserved c = one-more (λ q mark. mark ≡ mark_of c.args.cases.now c.args.spoil.now q) c.loop-q.q c.loop-q.marks _ c.byte_mark.result c.in_ok-push.ensures.ok c.loop-q.invariant c.byte_mark.ensures
+loop-q-preserved c = one-more (λ q mark. mark ≡ mark_of c.args.cases.now c.args.spoil.now q) c.loop-q.q c.loop-q.marks _
+    c.byte_mark.result c.in_ok-push.ensures.ok c.loop-q.invariant c.byte_mark.ensures
 
 pub returns : goal.returns
 returns c =
     let end : c.loop-q.q ≡ 6144 = omega (arith, c.loop-q.auto, c.loop-q-test.false) in
-    subst (λ (n : ℕ). EachIs (λ q mark. mark ≡ mark_of c.args.cases.now c.args.spoil.now q) n c.loop-q.marks) end c.loop-q.invariant
+    subst (λ (n : ℕ). EachIs (λ q mark. mark ≡ mark_of c.args.cases.now c.args.spoil.now q) n c.loop-q.marks) end
+    c.loop-q.invariant

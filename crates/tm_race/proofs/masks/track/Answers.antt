@@ -6,17 +6,22 @@ use Rattle.tm_race.proofs.Exact.{masks-are}
 use Rattle.tm_race.proofs.masks.track.Goals as goal
 
 pub loop-c-preserved : goal.loop-c-preserved
-loop-c-preserved c = one-more (IsMask c.args.cases.now) c.loop-c.c c.loop-c.masks c.push.new.self c.in_ok-mask.mask c.in_ok-push.ensures.ok c.loop-c.invariant c.in_ok-mask.ensures
+loop-c-preserved c = one-more (IsMask c.args.cases.now) c.loop-c.c c.loop-c.masks c.push.new.self c.in_ok-mask.mask
+    c.in_ok-push.ensures.ok c.loop-c.invariant c.in_ok-mask.ensures
 
 pub returns-clause-checked : goal.returns-clause-checked
 returns-clause-checked c =
-    let end : c.loop-c.c ≡ length c.args.cases.now.cases = omega (arith, c.loop-c.auto, c.loop-c-test.false, ap length c.as_slice-c-end.ensures) in
-    are-checked c.args.cases.now c.requires (record { cases = c.loop-c.masks }) (subst (λ (n : ℕ). EachIs (IsMask c.args.cases.now) n c.loop-c.masks) end c.loop-c.invariant)
+    let end : c.loop-c.c ≡ length c.args.cases.now.cases =
+    omega (arith, c.loop-c.auto, c.loop-c-test.false, ap length c.as_slice-c-end.ensures) in
+    are-checked c.args.cases.now c.requires (record { cases = c.loop-c.masks })
+    (subst (λ (n : ℕ). EachIs (IsMask c.args.cases.now) n c.loop-c.masks) end c.loop-c.invariant)
 
 pub returns-clause-fit : goal.returns-clause-fit
 returns-clause-fit c =
-    let end : c.loop-c.c ≡ length c.args.cases.now.cases = omega (arith, c.loop-c.auto, c.loop-c-test.false, ap length c.as_slice-c-end.ensures) in
-    masks-fit c.args.cases.now c.requires (record { cases = c.loop-c.masks }) (subst (λ (n : ℕ). EachIs (IsMask c.args.cases.now) n c.loop-c.masks) end c.loop-c.invariant)
+    let end : c.loop-c.c ≡ length c.args.cases.now.cases =
+    omega (arith, c.loop-c.auto, c.loop-c-test.false, ap length c.as_slice-c-end.ensures) in
+    masks-fit c.args.cases.now c.requires (record { cases = c.loop-c.masks })
+    (subst (λ (n : ℕ). EachIs (IsMask c.args.cases.now) n c.loop-c.masks) end c.loop-c.invariant)
 
 pub returns-clause-exact : goal.returns-clause-exact
 returns-clause-exact c =

@@ -7,7 +7,8 @@ pub loop-r-init : goal.loop-r-init
 loop-r-init c = λ j. ((λ b. absurd (bit-none j b)), (λ p. absurd (omega (arith, p.0, p.1))))
 
 pub loop-r-preserved : goal.loop-r-preserved
-loop-r-preserved c = one-register c.args.held c.loop-r.word _ c.loop-r.r (omega (arith, c.loop-r.auto)) c.with_free-word.ensures c.loop-r.invariant
+loop-r-preserved c = one-register c.args.held c.loop-r.word _ c.loop-r.r (omega (arith, c.loop-r.auto))
+    c.with_free-word.ensures c.loop-r.invariant
 
 pub returns : goal.returns
 returns c = λ j. (

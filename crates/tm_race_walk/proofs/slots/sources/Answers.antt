@@ -7,7 +7,8 @@ pub returns : goal.returns
 returns c = λ r. (
   (λ x. (two-named r c.args.i.rs1 c.args.i.rs2).1 (elim ((c.with_register-2.ensures r).0 x) [
     | inl p ↦ inl ((one-named r c.args.i.rs1).1 p)
-    | inr y ↦ elim ((c.with_register.ensures r).0 y) [ inl p ↦ inr ((one-named r c.args.i.rs2).1 p) | inr z ↦ absurd (bit-none r z) ]
+    | inr y ↦ elim ((c.with_register.ensures r).0 y)
+        [ inl p ↦ inr ((one-named r c.args.i.rs2).1 p) | inr z ↦ absurd (bit-none r z) ]
   ])),
   (λ x. (c.with_register-2.ensures r).1 (elim ((two-named r c.args.i.rs1 c.args.i.rs2).0 x) [
     | inl p ↦ inl ((one-named r c.args.i.rs1).0 p)

@@ -11,7 +11,9 @@ pub loop-word-init : goal.loop-word-init
 loop-word-init c = λ b. false_from_ne_true _ (none-zero 96 b)
 
 pub loop-word-preserved : goal.loop-word-preserved
-loop-word-preserved c = λ b. any-more (is_store_to b) c.args.words.now c.loop-word.word-index (in_plane c.loop-word.plane b) _ c.loop-word-test.true (c.loop-word.invariant b) (c.put_word.ensures b)
+loop-word-preserved c = λ b. any-more (is_store_to b) c.args.words.now c.loop-word.word-index
+    (in_plane c.loop-word.plane b) _ c.loop-word-test.true (c.loop-word.invariant b) (c.put_word.ensures b)
 
 pub returns : goal.returns
-returns c = λ b s e. c.loop-word.invariant b ∙ (ap (any (is_store_to b)) (take_all c.loop-word.word-index c.args.words.now c.loop-word-test.false) ∙ ap (any (is_store_to b)) (sym e))
+returns c = λ b s e. c.loop-word.invariant b ∙ (ap (any (is_store_to b))
+    (take_all c.loop-word.word-index c.args.words.now c.loop-word-test.false) ∙ ap (any (is_store_to b)) (sym e))

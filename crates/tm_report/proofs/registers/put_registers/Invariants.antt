@@ -5,4 +5,5 @@ use Rattle.tm_report.specs.Listing.{is_unchecked, register_entry}
 use Rattle.tm_report.proofs.registers.put_registers.Given as goal
 
 abbrev pub invariant-loop-r : goal.invariant-loop-r
-invariant-loop-r l = l.out ≡ l.initial.out ++ flat_map register_entry (filter (is_unchecked l.mask) (count_from 1 (l.r - 1)))
+invariant-loop-r l =
+    l.out ≡ l.initial.out ++ flat_map register_entry (filter (is_unchecked l.mask) (count_from 1 (l.r - 1)))

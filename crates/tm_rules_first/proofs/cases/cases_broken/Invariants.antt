@@ -4,4 +4,5 @@ use Rattle.tm_rules_first.proofs.TurnLemmas.{rest_of}
 use Rattle.tm_rules_first.proofs.cases.cases_broken.Given as goal
 
 abbrev pub invariant-loop-k : goal.invariant-loop-k
-invariant-loop-k l = first_of (in_turn (case_checks l.topo l.p.shape (length l.cases)) [] l.cases) ≡ rest_of (case_checks l.topo l.p.shape (length l.cases)) l.cases l.k
+invariant-loop-k l = first_of (in_turn (case_checks l.topo l.p.shape (length l.cases)) [] l.cases)
+    ≡ rest_of (case_checks l.topo l.p.shape (length l.cases)) l.cases l.k

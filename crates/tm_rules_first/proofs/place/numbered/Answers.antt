@@ -8,14 +8,17 @@ pub returns-then-window-number : goal.returns-then-window-number
 returns-then-window-number c =
     let same = eq-eqb _ _ c.if-window-number.true in
     ap Some c.window_of.ensures ∙ sym (find-map (λ w. w.number == c.args.number) window_of c.args.windows.now
-    ∙ ap (option_map window_of) (found-at (λ w. w.number == c.args.number) c.args.windows.now c.loop-window.window-index _ c.loop-window-test.true c.loop-window.invariant same))
+    ∙ ap (option_map window_of) (found-at (λ w. w.number == c.args.number) c.args.windows.now c.loop-window.window-index
+    _ c.loop-window-test.true c.loop-window.invariant same))
 
 pub loop-window-preserved : goal.loop-window-preserved
 loop-window-preserved c =
     let other = ne_eqb _ _ c.if-window-number.false in
-    none-more (λ w. w.number == c.args.number) c.args.windows.now c.loop-window.window-index _ c.loop-window-test.true c.loop-window.invariant other
+    none-more (λ w. w.number == c.args.number) c.args.windows.now c.loop-window.window-index _ c.loop-window-test.true
+    c.loop-window.invariant other
 
 pub returns : goal.returns
 returns c =
-    let none = none-all (λ w. w.number == c.args.number) c.args.windows.now c.loop-window.window-index c.loop-window-test.false c.loop-window.invariant in
+    let none = none-all (λ w. w.number == c.args.number) c.args.windows.now c.loop-window.window-index
+    c.loop-window-test.false c.loop-window.invariant in
     sym (find-map (λ w. w.number == c.args.number) window_of c.args.windows.now ∙ ap (option_map window_of) none)

@@ -11,8 +11,10 @@ invariant_of-result c =
     let harts = system-harts topo c.requires.system in
     let sound = numbered-sound topo c.args.windows.now c.requires.sound in
     record {
-      limits = placement-three (harts_of topo) topo.line c.part_size.result c.numbered.result c.numbered-2.result c.numbered-3.result harts.0 harts.1 c.requires.system.line c.part_size.ensures.value
-          (λ v e. sound 0 v (sym c.numbered.ensures ∙ e)) (λ v e. sound 1 v (sym c.numbered-2.ensures ∙ e)) (λ v e. sound 2 v (sym c.numbered-3.ensures ∙ e));
+      limits = placement-three (harts_of topo) topo.line c.part_size.result c.numbered.result c.numbered-2.result
+          c.numbered-3.result harts.0 harts.1 c.requires.system.line c.part_size.ensures.value
+          (λ v e. sound 0 v (sym c.numbered.ensures ∙ e)) (λ v e. sound 1 v (sym c.numbered-2.ensures ∙ e))
+          (λ v e. sound 2 v (sym c.numbered-3.ensures ∙ e));
     }
 
 pub returns-clause-shape : goal.returns-clause-shape

@@ -8,7 +8,9 @@ loop-slot-init c = sym count-none
 
 pub loop-slot-preserved : goal.loop-slot-preserved
 loop-slot-preserved c =
-    let more = count-more c.args.slots.now c.loop-slot.slot-index c.slot-item.result c.loop-slot-test.true c.slot-item.is in
+    let more = count-more c.args.slots.now c.loop-slot.slot-index c.slot-item.result c.loop-slot-test.true
+    c.slot-item.is in
     let one : c.from.result ≡ slots_in c.slot-item.result.what = cc in
-    let sum : c.saturating_add-count.result ≡ slot_count (take (c.loop-slot.slot-index + 1) c.args.slots.now) = omega (arith, more, c.saturating_add-count.ensures, c.loop-slot.invariant) in
+    let sum : c.saturating_add-count.result ≡ slot_count (take (c.loop-slot.slot-index + 1) c.args.slots.now) =
+    omega (arith, more, c.saturating_add-count.ensures, c.loop-slot.invariant) in
     sum

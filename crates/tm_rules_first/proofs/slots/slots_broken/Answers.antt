@@ -6,7 +6,8 @@ use Rattle.tm_rules_first.proofs.StatementLemmas.{slots-more, slots-broken}
 use Rattle.tm_rules_first.proofs.slots.slots_broken.Goals as goal
 
 pub loop-slot-init : goal.loop-slot-init
-loop-slot-init c = (sym total-none, rest-none (slot_checks c.args.topo.now c.args.p.now.shape c.args.whom c.args.len) c.args.slots.now)
+loop-slot-init c =
+    (sym total-none, rest-none (slot_checks c.args.topo.now c.args.p.now.shape c.args.whom c.args.len) c.args.slots.now)
 
 pub slot_fault-requires-clause-within : goal.slot_fault-requires-clause-within
 slot_fault-requires-clause-within c =
@@ -16,7 +17,8 @@ slot_fault-requires-clause-within c =
 
 pub returns-in-Some : goal.returns-in-Some
 returns-in-Some c =
-    sym (c.loop-slot.invariant.1 ∙ slots-broken c.args.topo.now c.args.p.now.shape c.args.whom c.args.len c.loop-slot.at c.args.slots.now c.loop-slot.slot-index c.slot-item.result c.in-Some.fault
+    sym (c.loop-slot.invariant.1 ∙ slots-broken c.args.topo.now c.args.p.now.shape c.args.whom c.args.len c.loop-slot.at
+    c.args.slots.now c.loop-slot.slot-index c.slot-item.result c.in-Some.fault
     c.loop-slot-test.true c.slot-item.is c.loop-slot.invariant.0 c.in-Some.ensures)
 
 pub overflow_add-at : goal.overflow_add-at
@@ -27,10 +29,16 @@ overflow_add-at c =
 
 pub loop-slot-preserved : goal.loop-slot-preserved
 loop-slot-preserved c = (
-  omega (arith, total-more c.args.slots.now c.loop-slot.slot-index c.slot-item.result c.loop-slot-test.true c.slot-item.is),
-  c.loop-slot.invariant.1 ∙ slots-more c.args.topo.now c.args.p.now.shape c.args.whom c.args.len c.loop-slot.at c.args.slots.now c.loop-slot.slot-index c.slot-item.result
+  omega (
+    arith,
+    total-more c.args.slots.now c.loop-slot.slot-index c.slot-item.result c.loop-slot-test.true
+        c.slot-item.is,
+  ),
+  c.loop-slot.invariant.1 ∙ slots-more c.args.topo.now c.args.p.now.shape c.args.whom c.args.len c.loop-slot.at
+      c.args.slots.now c.loop-slot.slot-index c.slot-item.result
       c.loop-slot-test.true c.slot-item.is c.loop-slot.invariant.0 c.in_default.ensures,
 )
 
 pub returns : goal.returns
-returns c = sym (c.loop-slot.invariant.1 ∙ rest-all (slot_checks c.args.topo.now c.args.p.now.shape c.args.whom c.args.len) c.args.slots.now c.loop-slot.slot-index c.loop-slot-test.false)
+returns c = sym (c.loop-slot.invariant.1 ∙ rest-all (slot_checks c.args.topo.now c.args.p.now.shape c.args.whom
+    c.args.len) c.args.slots.now c.loop-slot.slot-index c.loop-slot-test.false)

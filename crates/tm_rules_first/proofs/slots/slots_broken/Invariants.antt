@@ -5,4 +5,5 @@ use Rattle.tm_rules_first.proofs.slots.slots_broken.Given as goal
 
 abbrev pub invariant-loop-slot : goal.invariant-loop-slot
 invariant-loop-slot l = (l.at ≡ total_slots (take l.slot-index l.slots))
-    × (first_of (in_turn (slot_checks l.topo l.p.shape l.whom l.len) [] l.slots) ≡ rest_of (slot_checks l.topo l.p.shape l.whom l.len) l.slots l.slot-index)
+    × (first_of (in_turn (slot_checks l.topo l.p.shape l.whom l.len) [] l.slots)
+    ≡ rest_of (slot_checks l.topo l.p.shape l.whom l.len) l.slots l.slot-index)

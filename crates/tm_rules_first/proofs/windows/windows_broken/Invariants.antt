@@ -4,4 +4,5 @@ use Rattle.tm_rules_first.proofs.TurnLemmas.{rest_of}
 use Rattle.tm_rules_first.proofs.windows.windows_broken.Given as goal
 
 abbrev pub invariant-loop-k : goal.invariant-loop-k
-invariant-loop-k l = first_of (in_turn (window_checks l.topo) [] l.windows) ≡ rest_of (window_checks l.topo) l.windows l.k
+invariant-loop-k l = first_of (in_turn (window_checks l.topo) [] l.windows)
+    ≡ rest_of (window_checks l.topo) l.windows l.k

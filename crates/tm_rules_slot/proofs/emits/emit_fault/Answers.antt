@@ -11,6 +11,7 @@ returns-in-Ok-clause-ruled c = λ e.
     record {
       instr = c.in-Ok.i;
       read = read;
-      each = instr-ruled (sharing_of c.args.p.now) c.args.p.now.shape c.args.topo.now c.args.whom c.args.slot c.args.slots c.in-Ok.i (shown-of c.args.p.now) c.requires.harts
+      each = instr-ruled (sharing_of c.args.p.now) c.args.p.now.shape c.args.topo.now c.args.whom c.args.slot
+          c.args.slots c.in-Ok.i (shown-of c.args.p.now) c.requires.harts
           (line-fits c.args.line.now c.in-Ok.i read) (sym c.instr_fault.ensures ∙ e);
     }

@@ -4,7 +4,8 @@ use Rattle.tm_table.proofs.Decoding.{encoded-in_range, decoded-word, word-lt}
 use Rattle.tm_table.proofs.coding.encode.Goals as goal
 
 pub join-requires : goal.join-requires
-join-requires c = let e : c.parts_as.result ≡ parts_of c.args.i = search rules in subst InRange (sym e) (encoded-in_range c.args.i c.requires)
+join-requires c = let e : c.parts_as.result ≡ parts_of c.args.i = search rules in
+    subst InRange (sym e) (encoded-in_range c.args.i c.requires)
 
 pub returns-clause-value : goal.returns-clause-value
 unfolding word_of

@@ -1,6 +1,5 @@
 use Rattle.std.proofs.Common.{rules}
 use Rattle.tm_table.specs.Row.{row}
-use Rattle.tm_table.specs.State.{hart_of}
 use Rattle.tm_table.proofs.step.exec.Goals as goal
 
 pub returns-clause-state : goal.returns-clause-state

@@ -11,16 +11,19 @@ returns-clause-value c = search rules
 
 pub returns-clause-step : goal.returns-clause-step
 unfolding read_at
-returns-clause-step c = λ bytes. (let e : c.loads.result ≡ read_at (hart_of c.args.cpu.now) c.args.i = search rules in e ∙ read-row (hart_of c.args.cpu.now) c.args.i bytes)
+returns-clause-step c = λ bytes. (let e : c.loads.result ≡ read_at (hart_of c.args.cpu.now) c.args.i = search rules in
+    e ∙ read-row (hart_of c.args.cpu.now) c.args.i bytes)
 
 pub returns-clause-some : goal.returns-clause-some
 unfolding read_at
 returns-clause-some c =
     let e : c.loads.result ≡ read_at (hart_of c.args.cpu.now) c.args.i = search rules in
-    subst (λ (o : Option (ℕ × ℕ)). IsSome o ↔ IsTrue (is_load c.args.i.op)) (sym e) (read-load (hart_of c.args.cpu.now) c.args.i)
+    subst (λ (o : Option (ℕ × ℕ)). IsSome o ↔ IsTrue (is_load c.args.i.op)) (sym e)
+    (read-load (hart_of c.args.cpu.now) c.args.i)
 
 pub returns-clause-width : goal.returns-clause-width
 unfolding read_at
 returns-clause-width c =
     let e : c.loads.result ≡ read_at (hart_of c.args.cpu.now) c.args.i = search rules in
-    subst (λ (o : Option (ℕ × ℕ)). IfSome o (λ (p : ℕ × ℕ). IsWidth p.1)) (sym e) (read-width (hart_of c.args.cpu.now) c.args.i)
+    subst (λ (o : Option (ℕ × ℕ)). IfSome o (λ (p : ℕ × ℕ). IsWidth p.1)) (sym e)
+    (read-width (hart_of c.args.cpu.now) c.args.i)

@@ -8,5 +8,6 @@ loop-body-init c = lines-none c.args.out.now
 
 pub loop-body-preserved : goal.loop-body-preserved
 loop-body-preserved c =
-    printed-more body_at bodies_at bodies-more c.args.bodies.now c.loop-body.body-index c.body-item.result c.body-item.result c.loop-body-test.true c.body-item.is
+    printed-more body_at bodies_at bodies-more c.args.bodies.now c.loop-body.body-index c.body-item.result
+    c.body-item.result c.loop-body-test.true c.body-item.is
     c.args.out.now c.loop-body.out c.put_body.new.out c.loop-body.invariant c.in_ok-put_body.ensures

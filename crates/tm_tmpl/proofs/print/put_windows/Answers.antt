@@ -9,5 +9,7 @@ loop-window-init c = lines-none c.args.out.now
 
 pub loop-window-preserved : goal.loop-window-preserved
 loop-window-preserved c =
-    printed-more (λ w. window_at w ∷ []) windows_at windows-more c.args.windows.now c.loop-window.window-index _ _ c.loop-window-test.true refl
-    c.args.out.now c.loop-window.out c.put_window.new.out c.loop-window.invariant (lines-one _ c.loop-window.out c.put_window.new.out c.in_ok-put_window.ensures)
+    printed-more (λ w. window_at w ∷ []) windows_at windows-more c.args.windows.now c.loop-window.window-index _ _
+    c.loop-window-test.true refl
+    c.args.out.now c.loop-window.out c.put_window.new.out c.loop-window.invariant
+    (lines-one _ c.loop-window.out c.put_window.new.out c.in_ok-put_window.ensures)

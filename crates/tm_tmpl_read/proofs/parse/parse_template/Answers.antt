@@ -23,19 +23,24 @@ returns-in-Err-clause-err c = λ other.
     rw (fault.1, c.in-Err.ensures.err fault.0)
 
 pub returns-in-Ok-clause-spelled : goal.returns-in-Ok-clause-spelled
-returns-in-Ok-clause-spelled c = spelled-result c.args.text.now c.read_tokens.result (returns-in-Ok-clause-ok c) (returns-in-Ok-clause-err c)
+returns-in-Ok-clause-spelled c = spelled-result c.args.text.now c.read_tokens.result (returns-in-Ok-clause-ok c)
+    (returns-in-Ok-clause-err c)
 
 pub returns-in-Ok-clause-left : goal.returns-in-Ok-clause-left
-returns-in-Ok-clause-left c = left-result c.args.text.now c.read_tokens.result (returns-in-Ok-clause-ok c) (returns-in-Ok-clause-err c)
+returns-in-Ok-clause-left c = left-result c.args.text.now c.read_tokens.result (returns-in-Ok-clause-ok c)
+    (returns-in-Ok-clause-err c)
 
 pub returns-in-Ok-clause-only : goal.returns-in-Ok-clause-only
-returns-in-Ok-clause-only c = only-result c.args.text.now c.read_tokens.result (returns-in-Ok-clause-ok c) (returns-in-Ok-clause-err c)
+returns-in-Ok-clause-only c = only-result c.args.text.now c.read_tokens.result (returns-in-Ok-clause-ok c)
+    (returns-in-Ok-clause-err c)
 
 pub returns-in-Ok-clause-writable : goal.returns-in-Ok-clause-writable
-returns-in-Ok-clause-writable c = writable-result c.args.text.now c.read_tokens.result (returns-in-Ok-clause-ok c) (returns-in-Ok-clause-err c)
+returns-in-Ok-clause-writable c = writable-result c.args.text.now c.read_tokens.result (returns-in-Ok-clause-ok c)
+    (returns-in-Ok-clause-err c)
 
 pub returns-in-Ok-clause-stated : goal.returns-in-Ok-clause-stated
-returns-in-Ok-clause-stated c = stated-result c.args.text.now c.read_tokens.result (returns-in-Ok-clause-ok c) (returns-in-Ok-clause-err c)
+returns-in-Ok-clause-stated c = stated-result c.args.text.now c.read_tokens.result (returns-in-Ok-clause-ok c)
+    (returns-in-Ok-clause-err c)
 
 pub returns-in-Err-clause-left : goal.returns-in-Err-clause-left
 returns-in-Err-clause-left c = left-result c.args.text.now (Err c.of_tokens.result) tt (returns-in-Err-clause-err c)

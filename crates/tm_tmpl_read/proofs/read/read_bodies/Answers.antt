@@ -9,7 +9,8 @@ loop-bodies-preserved c =
     let left = rw c.in-Some.is at c.in_ok-body.ensures.left in
     let pushed = was-ok c.push.result _ (sym c.is_err.ensures.value ∙ c.if-is_err.false) c.push.ensures.ok in
     record {
-      same = one-more (body_next c.args.text.now c.args.tokens.now) body_at bodies_at bodies-more c.loop-bodies.bodies c.push.new.self c.in-Some.body _ _ c.loop-bodies.invariant.same next pushed;
+      same = one-more (body_next c.args.text.now c.args.tokens.now) body_at bodies_at bodies-more c.loop-bodies.bodies
+          c.push.new.self c.in-Some.body _ _ c.loop-bodies.invariant.same next pushed;
       spans = left.0;
       less = omega (arith, left.1, c.loop-bodies.invariant.less);
     }

@@ -9,7 +9,8 @@ loop-cases-preserved c =
     let left = rw c.in-Some.is at c.in_ok-case.ensures.left in
     let pushed = was-ok c.push.result _ (sym c.is_err.ensures.value ∙ c.if-is_err.false) c.push.ensures.ok in
     record {
-      same = one-more (case_next c.args.text.now c.args.tokens.now) case_at cases_at cases-more c.loop-cases.cases c.push.new.self c.in-Some.case _ _ c.loop-cases.invariant.same next pushed;
+      same = one-more (case_next c.args.text.now c.args.tokens.now) case_at cases_at cases-more c.loop-cases.cases
+          c.push.new.self c.in-Some.case _ _ c.loop-cases.invariant.same next pushed;
       spans = left.0;
       less = omega (arith, left.1, c.loop-cases.invariant.less);
     }

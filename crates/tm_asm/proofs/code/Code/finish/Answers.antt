@@ -15,14 +15,19 @@ nothing = Plain (record { op = Lui; rd = 0; rs1 = 0; rs2 = 0; imm = pos 0 })
 
 pub resolve-requires : goal.resolve-requires
 resolve-requires c =
-    let items : c.deref-item-items.result.now ≡ c.args.self.items = c.deref-item-items.ensures.value ∙ ap (λ (s : Sheet). s.items) c.self.view_is in
-    let places : c.as_slice.result.now ≡ c.args.self.places = c.as_slice.ensures.value ∙ ap (λ (s : Sheet). s.places) c.self.view_is in
-    rw (items, places) (placed_at c.args.self.places c.args.self.items c.loop-at.at nothing (rw items at c.loop-at-test.true) c.requires)
+    let items : c.deref-item-items.result.now ≡ c.args.self.items =
+    c.deref-item-items.ensures.value ∙ ap (λ (s : Sheet). s.items) c.self.view_is in
+    let places : c.as_slice.result.now ≡ c.args.self.places =
+    c.as_slice.ensures.value ∙ ap (λ (s : Sheet). s.places) c.self.view_is in
+    rw (items, places) (placed_at c.args.self.places c.args.self.items c.loop-at.at nothing
+    (rw items at c.loop-at-test.true) c.requires)
 
 pub returns-in_err-i-clause-far : goal.returns-in_err-i-clause-far
 returns-in_err-i-clause-far c =
-    let items : c.deref-item-items.result.now ≡ c.args.self.items = c.deref-item-items.ensures.value ∙ ap (λ (s : Sheet). s.items) c.self.view_is in
-    let places : c.as_slice.result.now ≡ c.args.self.places = c.as_slice.ensures.value ∙ ap (λ (s : Sheet). s.places) c.self.view_is in
+    let items : c.deref-item-items.result.now ≡ c.args.self.items =
+    c.deref-item-items.ensures.value ∙ ap (λ (s : Sheet). s.items) c.self.view_is in
+    let places : c.as_slice.result.now ≡ c.args.self.places =
+    c.as_slice.ensures.value ∙ ap (λ (s : Sheet). s.places) c.self.view_is in
     let p = err_from_is_err_and c.from_residual.result c.from_residual.ensures.1 in
     let far = rw (items, places) at c.in_err-i.ensures.far in
     let there = get_at c.args.self.items c.loop-at.at nothing (rw items at c.loop-at-test.true) in
@@ -30,25 +35,29 @@ returns-in_err-i-clause-far c =
 
 pub encode-requires : goal.encode-requires
 encode-requires c =
-    let good = good_at c.self.inside.items.items c.loop-at.at nothing (rw c.deref-item-items.ensures.value at c.loop-at-test.true) c.self.invariant in
+    let good = good_at c.self.inside.items.items c.loop-at.at nothing
+    (rw c.deref-item-items.ensures.value at c.loop-at-test.true) c.self.invariant in
     let good_here = rw (← c.deref-item-items.ensures.value) at good in
     rw c.in_ok-i.ensures.ok (fits_resolved c.as_slice.result.now c.loop-at.at _ good_here c.in_ok-i.ensures.near)
 
 pub loop-at-preserved : goal.loop-at-preserved
 loop-at-preserved c =
-    let places : c.as_slice.result.now ≡ c.args.self.places = c.as_slice.ensures.value ∙ ap (λ (s : Sheet). s.places) c.self.view_is in
+    let places : c.as_slice.result.now ≡ c.args.self.places =
+    c.as_slice.ensures.value ∙ ap (λ (s : Sheet). s.places) c.self.view_is in
     let ok : is_err c.push.result ≡ false = sym c.is_err.ensures.value ∙ c.if-is_err.false in
     let put = pushed c.push.result ok c.push.ensures.ok in
     let more = words-more c.args.self.places c.deref-item-items.result.now c.loop-at.at nothing c.loop-at-test.true in
     let value = rw places at c.in_ok-i.ensures.ok in
     record {
       words = rw (put, c.encode.ensures.value, value, c.loop-at.invariant.words) (sym more);
-      near = near_more c.args.self.places c.deref-item-items.result.now c.loop-at.at nothing c.loop-at-test.true c.loop-at.invariant.near (rw places at c.in_ok-i.ensures.near);
+      near = near_more c.args.self.places c.deref-item-items.result.now c.loop-at.at nothing c.loop-at-test.true
+          c.loop-at.invariant.near (rw places at c.in_ok-i.ensures.near);
     }
 
 pub returns-clause-near : goal.returns-clause-near
 returns-clause-near c =
-    let items : c.deref-item-items.result.now ≡ c.args.self.items = c.deref-item-items.ensures.value ∙ ap (λ (s : Sheet). s.items) c.self.view_is in
+    let items : c.deref-item-items.result.now ≡ c.args.self.items =
+    c.deref-item-items.ensures.value ∙ ap (λ (s : Sheet). s.items) c.self.view_is in
     let near = rw items at c.loop-at.invariant.near in
     let past = rw items at c.loop-at-test.false in
     λ k x there. near k x (omega (arith, slice_get_within c.args.self.items k x there, past)) there

@@ -4,4 +4,6 @@ use Rattle.tm_asm.proofs.Words.{good_push}
 use Rattle.tm_asm.proofs.code.Code.put.Goals as goal
 
 pub invariant_of-self : goal.invariant_of-self
-invariant_of-self c = rw c.push.ensures.items (good_push (is_ok c.push.result) c.self.inside.items.items (Plain c.args.i) c.self.invariant c.requires)
+invariant_of-self c =
+    rw c.push.ensures.items (good_push (is_ok c.push.result) c.self.inside.items.items (Plain c.args.i) c.self.invariant
+    c.requires)

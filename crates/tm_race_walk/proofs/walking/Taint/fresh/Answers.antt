@@ -8,5 +8,7 @@ use Rattle.tm_race_walk.proofs.walking.Taint.fresh.Goals as goal
 pub returns-clause-stands : goal.returns-clause-stands
 returns-clause-stands c = λ case h. record {
   stands = λ cases k a at.
-      stands_as (slots_in cases k h) 0 (λ r. ⊥) _ 0 0 (λ r. ((λ s. elim s [ inl p ↦ bit-none r p.1 | inr t ↦ none-zero 96 r t ]), (λ b. absurd b))) (stands_zero (slots_in cases k h));
+      stands_as (slots_in cases k h) 0 (λ r. ⊥) _ 0 0
+      (λ r. ((λ s. elim s [ inl p ↦ bit-none r p.1 | inr t ↦ none-zero 96 r t ]), (λ b. absurd b)))
+      (stands_zero (slots_in cases k h));
 }
