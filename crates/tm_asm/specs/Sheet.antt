@@ -4,7 +4,7 @@ use Rattle.std.specs.Prelude.{Some, None, slice_get, if◌then◌else◌, ℤ, p
 use Rattle.tm_table.specs.declared.instr.Op.{Op}
 use Rattle.tm_table.specs.declared.instr.Op.TheVariants.{Jal, Beq, Bne, Blt, Bge, Bltu, Bgeu}
 use Rattle.tm_table.specs.declared.instr.Instr.{Instr}
-use Rattle.tm_table.specs.Words.{Fits, word_of}
+use Rattle.tm_table.specs.Words.{Fits}
 use Rattle.tm_asm.specs.declared.code.Item.{Item}
 use Rattle.tm_asm.specs.declared.fault.CodeFault.{CodeFault}
 use Rattle.tm_asm.specs.declared.fault.CodeFault.TheVariants.{FarBranch, NoMemory}
@@ -47,11 +47,6 @@ resolved ps at (Jump rd label) = jumping rd (distance at (place_of ps label))
 abbrev pub instrs : List (Option ℕ) → ℕ → List Item → List Instr
 instrs ps at [] = []
 instrs ps at (x ∷ xs) = resolved ps at x ∷ instrs ps (at + 1) xs
-
--- the words of instructions
-abbrev pub words_of : List Instr → List ℕ
-words_of [] = []
-words_of (i ∷ is) = word_of i ∷ words_of is
 
 -- ---- what may be put
 

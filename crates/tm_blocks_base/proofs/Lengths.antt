@@ -3,9 +3,10 @@ use Rattle.std.proofs.Common.{◌≡◌, ℕ, zero, suc, ◌+◌, ◌*◌, List,
 use Rattle.std.proofs.Common.{length-append}
 use Rattle.tm_table.specs.declared.instr.Instr.{Instr}
 use Rattle.tm_base.specs.Lists.{count_from}
-use Rattle.tm_blocks_base.specs.Instrs.{ld, words_of}
+use Rattle.tm_blocks_base.specs.Instrs.{ld}
 use Rattle.tm_blocks_base.specs.Blocks.{constant, load_registers, load_registers_but_last, save_registers, copy_dword}
 use Rattle.tm_blocks_base.specs.Blocks.{copy_dwords}
+use Rattle.tm_table.specs.Words.{words_of}
 
 pub length-words_of : (code : List Instr) → length (words_of code) ≡ length code
 length-words_of [] = refl

@@ -5,9 +5,8 @@ use Rattle.std.proofs.lemmas.List.{map-append}
 use Rattle.std.proofs.lemmas.Grind.{flat_map-append}
 use Rattle.std.proofs.lemmas.List.Concat.{flat_map_single}
 use Rattle.tm_table.specs.declared.instr.Instr.{Instr}
-use Rattle.tm_table.specs.Words.{word_of}
+use Rattle.tm_table.specs.Words.{word_of, words_of}
 use Rattle.tm_base.specs.Lists.{count_from}
-use Rattle.tm_blocks_base.specs.Instrs.{words_of}
 
 pub words_of-append : (a b : List Instr) → words_of (a ++ b) ≡ words_of a ++ words_of b
 words_of-append a b = map-append word_of a b

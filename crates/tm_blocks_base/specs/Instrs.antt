@@ -1,9 +1,8 @@
 -- The instructions of which support code is made (RV64I 2.1), and the words of a list of them.
-use Rattle.std.specs.Prelude.{ℕ, ◌-◌, pos, negsuc, List, map}
+use Rattle.std.specs.Prelude.{ℕ, ◌-◌, pos, negsuc}
 use Rattle.tm_table.specs.declared.instr.Instr.{Instr}
 use Rattle.tm_table.specs.declared.instr.Op.TheVariants.{Addi, Slli, Add, Xor, And, Ld, Sd, Beq, Bne, Bltu, Jal, Jalr}
 use Rattle.tm_table.specs.declared.instr.Op.TheVariants.{Fence}
-use Rattle.tm_table.specs.Words.{word_of}
 
 -- rd = x[rs1] + n
 abbrev pub addi : (rd rs1 n : ℕ) → Instr
@@ -68,7 +67,3 @@ go_to rs1 = record { op = Jalr; rd = 0; rs1 = rs1; rs2 = 0; imm = pos 0 }
 -- all reads and writes before come before all behind it (RV64I 2.7)
 abbrev pub fence : Instr
 fence = record { op = Fence; rd = 0; rs1 = 0; rs2 = 0; imm = pos 51 }
-
--- the words of instructions
-abbrev pub words_of : List Instr → List ℕ
-words_of code = map word_of code

@@ -3,7 +3,7 @@ use Rattle.std.proofs.Common.{◌≡◌, inl, inr, ℕ, zero, suc, ◌+◌, ◌-
 use Rattle.std.proofs.Common.{refl, sym, ap, ap₂, ◌∙◌, arith, append_assoc}
 use Rattle.std.specs.Prelude.{slice_get, Some}
 use Rattle.tm_table.specs.declared.instr.Instr.{Instr}
-use Rattle.tm_table.specs.Words.{Fits, word_of}
+use Rattle.tm_table.specs.Words.{Fits, word_of, words_of}
 use Rattle.tm_table.proofs.Decoding.{decoded-word}
 use Rattle.tm_base.specs.Lists.{count_from}
 use Rattle.tm_plan_cases.specs.declared.cases.Cases.{Cases}
@@ -14,7 +14,7 @@ use Rattle.tm_runs.specs.Machine.{put}
 use Rattle.tm_runs.specs.Runs.{Now}
 use Rattle.tm_runs.proofs.Steps.{step_addi, step_beq_on, step_jal}
 use Rattle.tm_runs.proofs.Tables.{get_put_other, get_put_zero}
-use Rattle.tm_blocks_base.specs.Instrs.{addi, beq, jump, words_of}
+use Rattle.tm_blocks_base.specs.Instrs.{addi, beq, jump}
 use Rattle.tm_blocks_base.specs.Blocks.{constant}
 use Rattle.tm_blocks_base.proofs.Fitting.{addi_fits, beq_fits, jump_fits}
 use Rattle.tm_barrier.specs.Words.{barrier}

@@ -1,6 +1,6 @@
 -- The parts of a case are its words.
 use Rattle.std.proofs.Common.{◌≡◌, ℕ, ◌+◌, ◌-◌, ◌*◌, List, ◌++◌, length, ap, ap₂, ◌∙◌, append_assoc}
-use Rattle.tm_blocks_base.specs.Instrs.{words_of}
+use Rattle.tm_table.specs.Words.{words_of}
 use Rattle.tm_pass_text.specs.Words.{Blocks, before_size, back_words, case_before, case_behind, case_words}
 
 pub case_built : (b : Blocks) (passes c : ℕ) (stream : List ℕ) (at' barrier d1 d2 back : ℕ) (o w1 w2 w3 : List ℕ)

@@ -2,7 +2,7 @@
 use Rattle.std.specs.Prelude.{◌≡◌, ℕ, List, [], ◌++◌}
 use Rattle.tm_table.specs.declared.instr.Instr.{Instr}
 use Rattle.tm_asm.specs.Sheet.{Sheet, puts}
-use Rattle.tm_blocks_base.specs.Instrs.{words_of}
+use Rattle.tm_table.specs.Words.{words_of}
 use Rattle.tm_plan_cases.specs.declared.cases.Cases.{Cases}
 use Rattle.tm_pass_text.specs.Words.{case_words}
 use Rattle.tm_pass_steps.specs.Hart.{blocks_of}

@@ -1,7 +1,7 @@
 // The words of one case.
 ghost use Rattle.std.specs.Prelude.{◌≡◌, ◌+◌, ◌*◌, ◌%◌, ◌^◌, ◌<◌, ◌≤◌, ◌++◌, length, OnOk, IfOk};
 ghost use Rattle.tm_plan_cases.specs.Shaped.{AreShaped};
-ghost use Rattle.tm_blocks_base.specs.Instrs.{words_of};
+ghost use Rattle.tm_table.specs.Words.{words_of};
 ghost use Rattle.tm_pass_text.specs.Words.{case_before, case_behind};
 ghost use Rattle.tm_pass_steps.specs.Hart.{blocks_of, first_at};
 ghost use Rattle.tm_blocks_move.specs.Lines.{first_bytes, collect_all};

@@ -2,7 +2,7 @@
 ghost use Rattle.std.specs.Prelude.{◌≡◌, ◌%◌, ◌<◌, ◌≤◌, ◌∷◌, ◌++◌, length, OnOk, IfOk};
 ghost use Rattle.tm_plan_map.specs.Map.{private_at};
 ghost use Rattle.tm_blocks_base.specs.Blocks.{constant};
-ghost use Rattle.tm_blocks_base.specs.Instrs.{words_of};
+ghost use Rattle.tm_table.specs.Words.{words_of};
 ghost use Rattle.tm_barrier.specs.Words.{barrier};
 ghost use Rattle.tm_pass_text.specs.Words.{gate};
 

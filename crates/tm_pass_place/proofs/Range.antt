@@ -11,7 +11,7 @@ use Rattle.tm_plan_cases.specs.declared.masks.Masks.{Masks}
 use Rattle.tm_plan_cases.specs.Shaped.{AreShaped}
 use Rattle.tm_plan_map.specs.Map.{text_base, private_at}
 use Rattle.tm_legal.proofs.Streams.{case-of, stream-of}
-use Rattle.tm_blocks_base.specs.Instrs.{words_of}
+use Rattle.tm_table.specs.Words.{words_of}
 use Rattle.tm_blocks_base.specs.Blocks.{constant}
 use Rattle.tm_pass_text.specs.Words.{Blocks, back_words, base_of, before_size, case_before, case_behind, case_size}
 use Rattle.tm_pass_text.specs.Words.{case_words, cases_words, gate, hart_size, hart_words, opening_size, skip}

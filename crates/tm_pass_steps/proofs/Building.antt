@@ -8,7 +8,7 @@ use Rattle.tm_world.specs.Place.{harts, case_count, end_of, halt_of}
 use Rattle.tm_runs.specs.Runs.{At}
 use Rattle.tm_runs.specs.World.{support_at}
 use Rattle.tm_runs.proofs.Arrivals.{stream-none, inside-false}
-use Rattle.tm_blocks_base.specs.Instrs.{words_of, fence, go_to}
+use Rattle.tm_blocks_base.specs.Instrs.{fence, go_to}
 use Rattle.tm_asm.specs.Sheet.{AllFit}
 use Rattle.tm_barrier.specs.Words.{meet, barrier}
 use Rattle.tm_pass_text.specs.Words.{streams_of, head_of, base_of}
@@ -19,6 +19,7 @@ use Rattle.tm_pass_steps.specs.Hart.{blocks_of, IsBuilt}
 use Rattle.tm_pass_steps.specs.Sites.{BarrierSite}
 use Rattle.tm_pass_steps.specs.Building.{BarrierIsPlaced}
 use Rattle.tm_pass_steps.proofs.Placing.{IsOutside, stands-code}
+use Rattle.tm_table.specs.Words.{words_of}
 
 module _ (p : Program) (is : IsBuilt p) (some : (h c : ℕ) → h < harts p → c < case_count p
     → 1 ≤ length (slice_index_or (streams_of p.cases h) c [])) (h : ℕ) (number : h < harts p)

@@ -12,7 +12,7 @@ use Rattle.tm_world.specs.Place.{harts, case_count, start_of, halt_of, word_at}
 use Rattle.tm_world.specs.Writers.{stream_in}
 use Rattle.tm_world.specs.Whole.{Laid}
 use Rattle.tm_runs.proofs.Worlds.{text-at}
-use Rattle.tm_blocks_base.specs.Instrs.{words_of}
+use Rattle.tm_table.specs.Words.{words_of}
 use Rattle.tm_blocks_base.specs.Blocks.{constant}
 use Rattle.tm_blocks_base.proofs.Lengths.{length-words_of, length-constant}
 use Rattle.tm_pass_text.specs.Spread.{Spread}

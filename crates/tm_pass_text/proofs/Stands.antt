@@ -4,7 +4,7 @@ use Rattle.std.proofs.Common.{subst, arith, length-append}
 use Rattle.std.specs.Prelude.{slice_get, slice_index_or}
 use Rattle.tm_plan_cases.specs.declared.cases.Cases.{Cases}
 use Rattle.tm_plan_map.specs.Map.{private_at}
-use Rattle.tm_blocks_base.specs.Instrs.{words_of}
+use Rattle.tm_table.specs.Words.{words_of}
 use Rattle.tm_blocks_base.specs.Blocks.{constant}
 use Rattle.tm_blocks_base.proofs.Lengths.{length-words_of, length-constant}
 use Rattle.tm_pass_text.specs.Words.{Blocks, call, gate, aim, turn, before_size, behind_size, case_size, case_before}

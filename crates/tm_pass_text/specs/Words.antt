@@ -28,8 +28,9 @@ use Rattle.tm_plan_cases.specs.declared.program.Program.{Program}
 use Rattle.tm_plan_map.specs.Map.{text_base, private_at}
 use Rattle.tm_world.specs.Place.{harts, case_count, passes, start_of, end_of, exit_of, halt_of}
 use Rattle.tm_world.specs.Whole.{Laid}
-use Rattle.tm_blocks_base.specs.Instrs.{addi, slli, add, ld, sd, beq, jump, jump_back, words_of}
+use Rattle.tm_blocks_base.specs.Instrs.{addi, slli, add, ld, sd, beq, jump, jump_back}
 use Rattle.tm_blocks_base.specs.Blocks.{constant}
+use Rattle.tm_table.specs.Words.{words_of}
 
 -- ---- the words between blocks
 

@@ -8,7 +8,7 @@ use Rattle.tm_plan_map.specs.declared.windows.Kind2.TheVariants.{True, False, Ow
 use Rattle.tm_place.specs.declared.placement.Placement.{Placement}
 use Rattle.tm_place.specs.Placed.{sharing_of}
 use Rattle.tm_place.specs.Sharing.{Sharing, StandsAt, StoresAt, LoadsAt, MayStoreByte, MayLoadByte, MayStore, MayLoad}
-use Rattle.tm_place.specs.Sharing.{IsWidth}
+use Rattle.tm_table.specs.Row.{IsWidth}
 use Rattle.tm_place.proofs.PartLemmas.{part-at, part-from}
 use Rattle.tm_place.proofs.SpotLemmas.{Sound, sound-of, stands-one, stands-next}
 

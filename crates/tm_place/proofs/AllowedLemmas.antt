@@ -7,7 +7,7 @@ use Rattle.tm_plan_map.specs.declared.windows.Kind2.{Kind2}
 use Rattle.tm_plan_map.specs.declared.windows.Kind2.TheVariants.{True, False, Own}
 use Rattle.tm_plan_map.specs.Map.{windows_base}
 use Rattle.tm_place.specs.declared.placement.Placement.{Placement}
-use Rattle.tm_place.specs.Sharing.{Sharing, StandsAt, MayStore, MayLoad, IsWidth}
+use Rattle.tm_place.specs.Sharing.{Sharing, StandsAt, MayStore, MayLoad}
 use Rattle.tm_place.specs.Placed.{sharing_by, sharing_of}
 use Rattle.tm_place.specs.Allowed.{line_stores, line_loads, window_stores, window_loads, window_of, place_of}
 use Rattle.tm_place.specs.Allowed.{may_store_at, may_load_at}
@@ -16,6 +16,7 @@ use Rattle.tm_place.proofs.SpotLemmas.{spotted-stands}
 use Rattle.tm_place.proofs.AccessLemmas.{Begins, same-test, test-same, may_store-nowhere, may_load-nowhere}
 use Rattle.tm_place.proofs.AccessLemmas.{may_store-true, may_store-own, may_store-within, may_store-outside}
 use Rattle.tm_place.proofs.AccessLemmas.{may_load-free, may_load-own}
+use Rattle.tm_table.specs.Row.{IsWidth}
 
 -- A sharing whose window of each number stands there in a shape.
 pub record Shown (s : Sharing) (shape : List (Option Window)) : Type 0 where

@@ -8,9 +8,10 @@ use Rattle.tm_plan_map.specs.Map.{window_at, windows_base}
 use Rattle.tm_place.specs.declared.placement.Placement.{Placement}
 use Rattle.tm_place.specs.Numbers.{is_line_size, part_size}
 use Rattle.tm_place.specs.Limits.{IsWindow}
-use Rattle.tm_place.specs.Sharing.{Sharing, StandsAt, IsWidth}
+use Rattle.tm_place.specs.Sharing.{Sharing, StandsAt}
 use Rattle.tm_place.specs.Placed.{standing, sharing_by, sharing_of}
 use Rattle.tm_place.proofs.PartLemmas.{IsSize, line_size-cases, part_size-some, size-some}
+use Rattle.tm_table.specs.Row.{IsWidth}
 
 -- What is used of the limits.
 pub record Sound (s : Sharing) : Type 0 where

@@ -1,5 +1,5 @@
 -- Who may store to and load from which byte of the windows (this project's own).
-use Rattle.std.specs.Prelude.{ℕ, ◌+◌, ◌*◌, ◌%◌, ◌<◌, ◌≤◌, ◌≡◌, ◌⊎◌, Option, Some}
+use Rattle.std.specs.Prelude.{ℕ, ◌+◌, ◌*◌, ◌%◌, ◌<◌, ◌≤◌, ◌≡◌, Option, Some}
 use Rattle.tm_plan_map.specs.declared.windows.Window.{Window}
 use Rattle.tm_plan_map.specs.declared.windows.Kind2.{Kind2}
 use Rattle.tm_plan_map.specs.declared.windows.Kind2.TheVariants.{True, False, Own}
@@ -49,10 +49,6 @@ pub record MayLoadByte (s : Sharing) (h b : ℕ) : Type 0 where
   pub byte : ℕ
   pub stands : StandsAt s b window line byte
   pub may : LoadsAt window.kind s h line byte
-
--- the bytes of an access
-abbrev pub IsWidth : ℕ → Type 0
-IsWidth n = (n ≡ 1) ⊎ ((n ≡ 2) ⊎ ((n ≡ 4) ⊎ (n ≡ 8)))
 
 -- An access is allowed where it is aligned and all its bytes are: hart h may store width bytes at addr.
 pub record MayStore (s : Sharing) (h addr width : ℕ) : Type 0 where

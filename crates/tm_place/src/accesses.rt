@@ -1,7 +1,8 @@
 ghost use Rattle.std.specs.Prelude.{◌<◌, ◌↔◌, ◌≡◌, ◌%◌, IsTrue};
-ghost use Rattle.tm_place.specs.Sharing.{IsWidth, MayStore, MayLoad};
+ghost use Rattle.tm_place.specs.Sharing.{MayStore, MayLoad};
 ghost use Rattle.tm_place.specs.Placed.{sharing_of};
 ghost use Rattle.tm_place.specs.Allowed.{may_store_at, may_load_at};
+ghost use Rattle.tm_table.specs.Row.{IsWidth};
 
 use crate::placement::Placement;
 use crate::spot::spot_of;

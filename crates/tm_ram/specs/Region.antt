@@ -1,7 +1,8 @@
 -- A region of memory, and little-endian numbers in it. Numbers stand with the lowest byte first (RV64I 2.1); the
 -- region is this project's own.
-use Rattle.std.specs.Prelude.{◌≡◌, ℕ, zero, suc, ◌+◌, ◌*◌, ◌/◌, ◌%◌, ◌^◌, ◌<◌, ◌≤◌, ◌⊎◌, List, length, slice_index}
+use Rattle.std.specs.Prelude.{◌≡◌, ℕ, zero, suc, ◌+◌, ◌*◌, ◌/◌, ◌%◌, ◌^◌, ◌<◌, ◌≤◌, List, length, slice_index}
 use Rattle.std.specs.Prelude.{slice_set}
+use Rattle.tm_table.specs.Row.{IsWidth}
 
 -- the bytes from an address on
 pub record Region : Type 0 where
@@ -15,10 +16,6 @@ pub record IsRegion (r : Region) : Type 0 where
   pub some : 8 ≤ length r.bytes
   pub few : length r.bytes ≤ 16777216
   pub end : r.base + length r.bytes < 2 ^ 64
-
--- a width of accesses, in bytes (RV64I 2.1)
-abbrev pub IsWidth : ℕ → Type 0
-IsWidth width = (width ≡ 1) ⊎ ((width ≡ 2) ⊎ ((width ≡ 4) ⊎ (width ≡ 8)))
 
 -- so many bytes at an address lie in the region, at a multiple of their number
 pub record IsPlace (r : Region) (addr width : ℕ) : Type 0 where

@@ -1,6 +1,7 @@
 // Little-endian numbers in a list of bytes.
 ghost use Rattle.std.specs.Prelude.{◌≡◌, ◌+◌, ◌<◌, ◌≤◌, ◌^◌, ◌*◌, ◌/◌, ◌%◌, ℕ, slice_index, length};
-ghost use Rattle.tm_ram.specs.Region.{number_at, with_number, IsWidth};
+ghost use Rattle.tm_ram.specs.Region.{number_at, with_number};
+ghost use Rattle.tm_table.specs.Row.{IsWidth};
 
 // A bigger number is two halves, so that each step is one that the machine has: the compiler joins them into one load.
 #[tactic(auto, unfolding(crate::specs::Region::number_at))]

@@ -20,7 +20,7 @@ use Rattle.tm_tmpl_types.specs.declared.template.Template.{Template}
 use Rattle.tm_topo.specs.declared.system.Topology.{Topology}
 use Rattle.tm_rules_slot.specs.Teams.{IsSystem, harts_of, in_team}
 use Rattle.tm_rules_slot.specs.Slots.{first}
-use Rattle.tm_rules_first.specs.Windows.{window_of, windows_of, shape_of}
+use Rattle.tm_rules_first.specs.Windows.{window_of, windows_of}
 use Rattle.tm_rules_first.specs.Rules.{first_of, in_turn, window_checks, slot_count, slot_checks, body_rules}
 use Rattle.tm_rules_first.specs.Rules.{body_checks, case_rules, case_checks, broken_rule}
 use Rattle.tm_rules_first.proofs.FirstLemmas.{first-both, put-none}
@@ -32,6 +32,7 @@ use Rattle.tm_rules_first.proofs.TemplateLemmas.{parts-none}
 use Rattle.tm_rules.specs.Admitting.{nothing, slots_in, written_out, hart_slots, admitted_case, admitted_of}
 use Rattle.tm_rules.proofs.EachLemmas.{all-images, pair-images, any-fails, stands-at, counted-at, length-counted}
 use Rattle.tm_rules.proofs.SlotLemmas.{shared, shared-shown, Has, written-count, written-ruled}
+use Rattle.tm_place.specs.Placing.{shape_of}
 
 -- ---- the slots of a hart
 

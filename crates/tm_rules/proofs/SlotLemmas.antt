@@ -19,13 +19,15 @@ use Rattle.tm_tmpl_types.specs.declared.template.Selector.{Selector}
 use Rattle.tm_topo.specs.declared.system.Topology.{Topology}
 use Rattle.tm_rules_slot.specs.Teams.{IsSystem, harts_of, in_team}
 use Rattle.tm_rules_slot.proofs.Ruling.{emit-ruled, mix-ruled}
-use Rattle.tm_rules_first.specs.Windows.{windows_of, numbered, shape_of}
+use Rattle.tm_rules_first.specs.Windows.{windows_of}
 use Rattle.tm_rules_first.specs.Rules.{first_of, in_turn, window_checks, slots_in, total_slots, slot_fault, slot_checks}
 use Rattle.tm_rules_slot.proofs.Checking.{first-none}
 use Rattle.tm_rules_first.proofs.FirstLemmas.{first-both, put-none}
 use Rattle.tm_rules_first.proofs.SoundLemmas.{numbered-sound}
 use Rattle.tm_rules.specs.Admitting.{or_nothing, slots_of, written_out}
 use Rattle.tm_rules.proofs.EachLemmas.{joined-at, replicated-at}
+use Rattle.tm_place.specs.Placing.{numbered}
+use Rattle.tm_place.specs.Placing.{shape_of}
 
 -- how a system shares windows
 abbrev pub shared : Topology → List Window → Sharing
@@ -33,19 +35,19 @@ shared topo windows = record {
   harts = harts_of topo;
   line = topo.line;
   part = part_size topo.line (harts_of topo);
-  window = λ n. numbered n windows;
+  window = λ n. numbered windows n;
 }
 
 -- ---- windows in their shape
 
 reads-past : (topo : Topology) (ws : List WindowDecl) → first_of (in_turn (window_checks topo) [] ws) ≡ None → (n : ℕ)
-    → 3 ≤ n → (o : Option Window) → numbered n (windows_of ws) ≡ o → o ≡ None
+    → 3 ≤ n → (o : Option Window) → numbered (windows_of ws) n ≡ o → o ≡ None
 reads-past topo ws none n past None is = refl
 reads-past topo ws none n past (Some v) is = let below = (numbered-sound topo ws none n v is).below in
     absurd (omega arith)
 
 shape-reads : (topo : Topology) (ws : List WindowDecl) → first_of (in_turn (window_checks topo) [] ws) ≡ None → (n : ℕ)
-    → numbered n (windows_of ws) ≡ get_or (shape_of (windows_of ws)) n None
+    → numbered (windows_of ws) n ≡ get_or (shape_of (windows_of ws)) n None
 unfolding shape_of
 shape-reads topo ws none zero = refl
 shape-reads topo ws none (suc zero) = refl
@@ -65,7 +67,7 @@ shared-shown topo ws system none = record {
 }
 
 -- where a window stands in the shape, there is one
-some-first : (n : ℕ) (windows : List Window) (v : Window) → numbered n windows ≡ Some v → 1 ≤ length windows
+some-first : (n : ℕ) (windows : List Window) (v : Window) → numbered windows n ≡ Some v → 1 ≤ length windows
 some-first n [] v found = cc
 some-first n (w ∷ windows) v found = omega arith
 

@@ -20,12 +20,13 @@ use Rattle.tm_tmpl_types.specs.declared.template.BodyDecl.{BodyDecl}
 use Rattle.tm_tmpl_types.specs.declared.template.CaseDecl.{CaseDecl}
 use Rattle.tm_tmpl_types.specs.declared.template.Selector.{Selector}
 use Rattle.tm_topo.specs.declared.system.Topology.{Topology}
-use Rattle.tm_rules_first.specs.Windows.{kind_of, window_of, windows_of, numbered}
+use Rattle.tm_rules_first.specs.Windows.{kind_of, window_of, windows_of}
 use Rattle.tm_rules_first.specs.Rules.{unless, first_of, in_turn, has_each, window_rules, window_checks, is_there}
 use Rattle.tm_rules_first.specs.Rules.{twice_fault, body_rules, case_rules}
 use Rattle.tm_rules_first.proofs.FirstLemmas.{put-none}
 use Rattle.tm_rules_first.proofs.TurnLemmas.{turn-each}
 use Rattle.tm_rules_first.proofs.FindLemmas.{found-in}
+use Rattle.tm_place.specs.Placing.{numbered}
 
 -- ---- single rules
 
@@ -74,7 +75,7 @@ mapped-at f (x ∷ xs) (suc k) y at = mapped-at f xs k y at
 
 -- the window of a number, where windows break no rule
 pub numbered-sound : (topo : Topology) (ws : List WindowDecl) → first_of (in_turn (window_checks topo) [] ws) ≡ None
-    → (n : ℕ) (v : Window) → numbered n (windows_of ws) ≡ Some v
+    → (n : ℕ) (v : Window) → numbered (windows_of ws) n ≡ Some v
     → IsWindow (harts_of topo) topo.line n v
 numbered-sound topo ws none n v found =
     let stands = found-in (λ w. w.number == n) (windows_of ws) v found in

@@ -5,13 +5,14 @@ use Rattle.tm_faults.specs.declared.rule.RuleFault.TheVariants.{Cases, Passes}
 use Rattle.tm_tmpl_types.specs.declared.template.Template.{Template}
 use Rattle.tm_topo.specs.declared.system.Topology.{Topology}
 use Rattle.tm_faults.specs.declared.rule.RuleAt.{RuleAt}
-use Rattle.tm_rules_first.specs.Windows.{windows_of, shape_of}
+use Rattle.tm_rules_first.specs.Windows.{windows_of}
 use Rattle.tm_rules_first.specs.Rules.{Check, unless, first_of, in_turn, are_passes, window_checks, case_checks}
 use Rattle.tm_rules_first.specs.Rules.{checks_of, broken_rule}
 use Rattle.tm_rules_slot.proofs.Checking.{first-none}
 use Rattle.tm_rules_first.proofs.SoundLemmas.{unless-true}
 use Rattle.tm_rules_first.proofs.FirstLemmas.{at_place, first-passes, first-stops, first-both, put-passes, put-stops}
 use Rattle.tm_rules_first.proofs.FirstLemmas.{put-none}
+use Rattle.tm_place.specs.Placing.{shape_of}
 
 -- the checks of a template's windows, of its cases, and of its end
 abbrev pub in_windows : Topology → Template → List Check

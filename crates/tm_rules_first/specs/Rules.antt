@@ -27,7 +27,8 @@ use Rattle.tm_faults.specs.declared.rule.RuleFault.TheVariants.{TwiceBody, Twice
 use Rattle.tm_rules_slot.specs.Teams.{harts_of, in_team, team}
 use Rattle.tm_rules_slot.specs.Slots.{emit_fault, mix_fault}
 use Rattle.tm_faults.specs.declared.rule.RuleAt.{RuleAt}
-use Rattle.tm_rules_first.specs.Windows.{windows_of, shape_of}
+use Rattle.tm_rules_first.specs.Windows.{windows_of}
+use Rattle.tm_place.specs.Placing.{shape_of}
 
 -- ---- checks
 

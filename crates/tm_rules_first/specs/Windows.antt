@@ -1,5 +1,5 @@
 -- The windows that a template's statements declare. This project's own.
-use Rattle.std.specs.Prelude.{ℕ, ◌==◌, List, [], ◌∷◌, map, find, Option}
+use Rattle.std.specs.Prelude.{List, map}
 use Rattle.tm_tmpl_types.specs.declared.template.Kind.{Kind}
 use Rattle.tm_tmpl_types.specs.declared.template.Kind.TheVariants as said
 use Rattle.tm_tmpl_types.specs.declared.template.WindowDecl.{WindowDecl}
@@ -20,11 +20,3 @@ window_of w = record { number = w.number; kind = kind_of w.kind; lines = w.lines
 -- the windows that statements declare, in their order (this project)
 abbrev pub windows_of : List WindowDecl → List Window
 windows_of ws = map window_of ws
-
--- the first of some windows with a number, if there is one (this project)
-abbrev pub numbered : ℕ → List Window → Option Window
-numbered n ws = find (λ w. w.number == n) ws
-
--- of some windows, the first with number w at place w (this project)
-unfoldable pub shape_of : List Window → List (Option Window)
-shape_of ws = numbered 0 ws ∷ numbered 1 ws ∷ numbered 2 ws ∷ []

@@ -1,6 +1,7 @@
 // Where the windows of a template stand.
 ghost use Rattle.std.specs.Prelude.{◌≡◌, ◌*◌, [], None};
 ghost use Rattle.tm_rules_slot.specs.Teams.{IsSystem, harts_of};
+ghost use Rattle.tm_place.specs.Placing as placing;
 ghost use Rattle.tm_rules_first.specs.Windows as placed;
 ghost use Rattle.tm_rules_first.specs.Rules as rules;
 
@@ -15,7 +16,7 @@ pub fn placement(topo: &Topology, windows: &[WindowDecl]) -> Placement
     requires sound { rules.first_of (rules.in_turn (rules.window_checks topo.now) [] windows.now) ≡ None }
     ensures harts { result.harts ≡ harts_of topo.now }
     ensures line { result.line ≡ topo.now.line }
-    ensures shape { result.shape ≡ placed.shape_of (placed.windows_of windows.now) }
+    ensures shape { result.shape ≡ placing.shape_of (placed.windows_of windows.now) }
 {
     let harts = topo.cores * topo.threads;
     Placement {
@@ -33,7 +34,7 @@ pub fn placement(topo: &Topology, windows: &[WindowDecl]) -> Placement
 
 // The first of some windows with a number.
 fn numbered(windows: &[WindowDecl], number: u32) -> Option<Window>
-    ensures { result ≡ placed.numbered number (placed.windows_of windows.now) }
+    ensures { result ≡ placing.numbered (placed.windows_of windows.now) number }
 {
     for window in windows {
         if window.number == number {

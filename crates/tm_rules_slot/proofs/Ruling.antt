@@ -21,7 +21,7 @@ use Rattle.tm_tmpl_types.specs.declared.template.Selector.{Selector}
 use Rattle.tm_plan_map.specs.declared.windows.Window.{Window}
 use Rattle.tm_plan_map.specs.Map.{window_at, within}
 use Rattle.tm_plan_map.specs.Slots.{is_access, is_barred, is_jump, load_width, store_width, slot_addr, slot_target}
-use Rattle.tm_place.specs.Sharing.{Sharing, IsWidth}
+use Rattle.tm_place.specs.Sharing.{Sharing}
 use Rattle.tm_place.specs.Ruled.{IsBased, IsRuledEmit}
 use Rattle.tm_place.specs.Allowed.{may_store_at, may_load_at}
 use Rattle.tm_place.proofs.PartLemmas.{size-some}
@@ -37,6 +37,7 @@ use Rattle.tm_rules_slot.specs.Laws.{IsRuledLine, HasWindow, AreRuledWeights}
 use Rattle.tm_rules_slot.proofs.Finding.{team-fails}
 use Rattle.tm_rules_slot.proofs.Checking.{first-none, unbroken, stops-second, stops-third, comes-last, only-check}
 use Rattle.tm_rules_slot.proofs.Reading.{line-fits}
+use Rattle.tm_table.specs.Row.{IsWidth}
 
 -- a rule that asks something where a test holds, and isn't broken
 held : (b c : Bool) (f : RuleFault) → broken (b && not c) f ≡ None → b ≡ true → c ≡ true

@@ -1,6 +1,6 @@
 -- Words and instructions.
 use Rattle.std.specs.Prelude.{◌≡◌, ℕ, ◌+◌, ◌-◌, ◌*◌, ◌/◌, ◌%◌, ◌^◌, ◌<◌, ℤ, pos, negsuc, ◌≤ℤ◌, Bool, true, ◌&&◌}
-use Rattle.std.specs.Prelude.{nat_lt, ◌==◌, Option, option_map, find, if◌then◌else◌}
+use Rattle.std.specs.Prelude.{nat_lt, ◌==◌, List, map, Option, option_map, find, if◌then◌else◌}
 use Rattle.tm_table.specs.declared.instr.Op.{Op}
 use Rattle.tm_table.specs.declared.table.Layout.{Layout}
 use Rattle.tm_table.specs.declared.table.Layout.TheVariants.{R, I, S, B, U, J, Shift6, Shift5, Order, Whole}
@@ -237,3 +237,7 @@ FitsAs Whole i = (i.rd ≡ 0) × (i.rs1 ≡ 0) × (i.rs2 ≡ 0) × (i.imm ≡ po
 -- the fields are in the ranges of the op's row (RV64I 2.1)
 unfoldable pub Fits : Instr → Type 0
 Fits i = FitsAs (row_of i.op).layout i
+
+-- the words of instructions, one after another
+abbrev pub words_of : List Instr → List ℕ
+words_of code = map word_of code

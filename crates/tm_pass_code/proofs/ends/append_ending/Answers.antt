@@ -1,6 +1,6 @@
 use Rattle.std.proofs.Common.{ℕ, List, [], ◌∷◌, ◌++◌, ap, ◌∙◌, append_assoc}
 use Rattle.tm_asm.specs.Sheet.{Sheet, puts}
-use Rattle.tm_blocks_base.specs.Instrs.{words_of}
+use Rattle.tm_table.specs.Words.{words_of}
 use Rattle.tm_barrier.specs.Words.{barrier}
 use Rattle.tm_pass_code.proofs.ends.append_ending.Goals as goal
 

@@ -1,7 +1,7 @@
 use Rattle.std.proofs.Common.{◌∙◌, sym, refl}
 use Rattle.tm_rules_slot.specs.Teams.{harts_of}
 use Rattle.tm_place.proofs.PlacementLemmas.{placement-three}
-use Rattle.tm_rules_first.specs.Windows.{shape_of}
+use Rattle.tm_place.specs.Placing.{shape_of}
 use Rattle.tm_rules_first.proofs.SoundLemmas.{numbered-sound, system-harts}
 use Rattle.tm_rules_first.proofs.place.placement.Goals as goal
 

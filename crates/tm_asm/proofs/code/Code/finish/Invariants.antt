@@ -1,8 +1,9 @@
 use Rattle.std.proofs.Common.{◌≡◌, ℕ, ◌<◌, true, take, Some}
 use Rattle.std.specs.Prelude.{slice_get}
 use Rattle.tm_asm.specs.declared.code.Item.{Item}
-use Rattle.tm_asm.specs.Sheet.{instrs, words_of, reaches}
+use Rattle.tm_asm.specs.Sheet.{instrs, reaches}
 use Rattle.tm_asm.proofs.code.Code.finish.Given as goal
+use Rattle.tm_table.specs.Words.{words_of}
 
 abbrev pub invariant-loop-at : goal.invariant-loop-at
 invariant-loop-at l = record {
