@@ -6,11 +6,7 @@ use Rattle.tm_desk.specs.Causes.{Files}
 use Rattle.tm_desk.specs.declared.desk.DeskError.TheVariants.{TooLong, Failed}
 use Rattle.tm_faults.specs.declared.role.Role.TheVariants.{Topology, Template}
 use Rattle.tm_faults.specs.declared.inputs.InputFault.{InputFault}
-use Rattle.tm_image_inputs.specs.Inputs.{topology_refusal, refusal_of as topology_refusal_of, behind_topology, inputs}
-use Rattle.tm_topo.specs.declared.system.Topology.{Topology as Topology_}
-use Rattle.tm_topo.specs.declared.system.TopoFault.{TopoFault}
-use Rattle.tm_topo.specs.Reading.{topology_of}
-use Rattle.tm_faults.specs.declared.inputs.InputFault.TheVariants.{Topo}
+use Rattle.tm_image_inputs.specs.Inputs.{topology_refusal, inputs}
 use Rattle.tm_faults.specs.Named.{IsNamed}
 use Rattle.tm_top_line.proofs.Named.{input_calm}
 use Rattle.tm_image_build.specs.Built.{built, built_of}
