@@ -1,5 +1,5 @@
 -- How a call ended, and what follows of it.
-use Rattle.std.proofs.Common.{◌≡◌, ◌∙◌, ap, sym, refl, ℕ, List, IsTrue, ◌⊎◌, inl, inr, Option, None, Some, Result, Ok, Err}
+use Rattle.std.proofs.Common.{◌≡◌, ◌∙◌, ap, sym, refl, ℕ, List, IsTrue, ◌⊎◌, inl, inr, Option, None, Some}
 use Rattle.tm_desk.specs.declared.desk.DeskError.TheVariants.{Failed}
 use Rattle.tm_faults.specs.declared.role.Role.{Role}
 use Rattle.tm_top_line.specs.declared.fault.AnyFault.{AnyFault}
@@ -9,20 +9,10 @@ use Rattle.tm_top_owed.specs.declared.stop.Stop.TheVariants as stop
 use Rattle.tm_words.specs.Words.{Command}
 use Rattle.tm_words.specs.Words.Command.{to_build, to_list, to_run, to_sample}
 use Rattle.tm_top_line.specs.Lines.{fault_text}
-use Rattle.tm_top_owed.specs.Texts.{usage}
-use Rattle.tm_top_owed.specs.Inputs.{first_fault, fault_of_texts}
-use Rattle.tm_top_owed.specs.Sample.{sample_topology, sample_template}
+use Rattle.tm_top_owed.specs.Inputs.{first_fault}
 use Rattle.tm_plan_cases.specs.declared.journal.Event.{Event}
-use Rattle.tm_plan_cases.specs.declared.program.Program.{Program}
-use Rattle.tm_plan_map.specs.declared.admitted.Admitted.{Admitted}
-use Rattle.tm_topo.specs.declared.system.Topology.{Topology}
-use Rattle.tm_topo.specs.declared.system.TopoFault.{TopoFault}
-use Rattle.tm_topo.specs.Reading.{topology_of}
-use Rattle.tm_faults.specs.declared.inputs.InputFault.{InputFault}
-use Rattle.tm_image_inputs.specs.Inputs.{inputs, behind_topology, topology_refusal, refusal_of}
-use Rattle.tm_image_build.specs.Built.{program_from}
-use Rattle.tm_top_owed.specs.Changes.{DeskChange, SinkChange, DeskFailed, SinkFailed, FilesStay, OtherFilesStay, Silent}
-use Rattle.tm_top_owed.specs.Owed.{Ending, IsSampleOf, Owes, Ended, IsReady, IsRefusal, IsFailure, IsUntouched, RestStays}
+use Rattle.tm_top_owed.specs.Changes.{DeskChange, SinkChange, DeskFailed, SinkFailed, FilesStay, OtherFilesStay}
+use Rattle.tm_top_owed.specs.Owed.{Ending, Owes, Ended, IsReady, IsRefusal, IsFailure, IsUntouched, RestStays}
 use Rattle.tm_top_owed.specs.Owed.{AlwaysAtFault, AlwaysDone, status_of}
 use Rattle.tm_top_owed.specs.Owed.MayBegin.{no_line, refusal_line, failure_line}
 use Rattle.tm_top_owed.specs.Owed.Ended.{done, no_command, refused, failed, no_memory_for_usage, no_memory}
@@ -104,28 +94,9 @@ same_fault : (c : Command) (desk : DeskChange) (role other_role : Role) (fault o
 same_fault c desk role other_role fault other is is_other =
     ap (λ (p : Role × AnyFault). p.1) (same_first (role, fault) (other_role, other) (sym is ∙ is_other))
 
--- what is built has no fault in its texts
-refused_none : (r : Result Topology TopoFault) (template : List ℕ) (a : Admitted) → behind_topology r template ≡ Ok a → refusal_of r ≡ None
-refused_none (Ok topo) template a h = refl
-refused_none (Err e) template a h = absurd (cc)
-
-read_none : (topo template : List ℕ) (a : Admitted) → inputs topo template ≡ Ok a → topology_refusal topo ≡ None
-unfolding inputs topology_refusal
-read_none topo template a h = refused_none (topology_of topo) template a h
-
-read_of : (seed : ℕ) (r : Result Admitted InputFault) (p : Program) → program_from seed r ≡ Ok p → (a : Admitted) × (r ≡ Ok a)
-read_of seed (Ok a) p h = (a, refl)
-read_of seed (Err f) p h = absurd (cc)
-
-texts_accepted : (topo template : List ℕ) (seed : ℕ) (p : Program) → program_from seed (inputs topo template) ≡ Ok p → fault_of_texts topo template ≡ None
-texts_accepted topo template seed p h =
-    let test = read_of seed (inputs topo template) p h in
-    rw (read_none topo template test.0 test.1, test.1) refl
-
-sample_accepted : (number : ℕ) (desk : DeskChange) (e : Ending) → IsSampleOf number e → first_fault (to_sample number) desk.held ≡ None
+no_input : (number : ℕ) (desk : DeskChange) → first_fault (to_sample number) desk.held ≡ None
 unfolding first_fault
-sample_accepted number desk e ready =
-    texts_accepted (sample_topology number) (sample_template number) number ready.program ready.its.its_program
+no_input number desk = refl
 
 -- where an end is ready, no input is at fault
 ready_accepted : (c : Command) (desk : DeskChange) (e : Ending) → IsReady c desk e → IsTrue desk.tells
@@ -133,7 +104,7 @@ ready_accepted : (c : Command) (desk : DeskChange) (e : Ending) → IsReady c de
 ready_accepted (to_build b) desk e ready tells = ready.0.image.accepted tells
 ready_accepted (to_list image) desk e ready tells = ready.0.accepted tells
 ready_accepted (to_run r) desk e ready tells = ready.accepted tells
-ready_accepted (to_sample number) desk e ready tells = sample_accepted number desk e ready
+ready_accepted (to_sample number) desk e ready tells = no_input number desk
 
 -- a failure with no count risen is that of the first fault
 failure_first : (c : Command) (desk : DeskChange) (out : SinkChange) (role wrong : Role) (fault : AnyFault) → IsFailure c desk out role → IsTrue desk.tells

@@ -6,11 +6,7 @@ use Rattle.tm_desk.specs.Causes.{Files}
 use Rattle.tm_desk.specs.declared.desk.DeskError.TheVariants.{TooLong, Failed}
 use Rattle.tm_faults.specs.declared.role.Role.TheVariants.{Topology, Template}
 use Rattle.tm_faults.specs.declared.inputs.InputFault.{InputFault}
-use Rattle.tm_image_inputs.specs.Inputs.{topology_refusal, refusal_of as topology_refusal_of, behind_topology, inputs}
-use Rattle.tm_topo.specs.declared.system.Topology.{Topology as Topology_}
-use Rattle.tm_topo.specs.declared.system.TopoFault.{TopoFault}
-use Rattle.tm_topo.specs.Reading.{topology_of}
-use Rattle.tm_faults.specs.declared.inputs.InputFault.TheVariants.{Topo}
+use Rattle.tm_image_inputs.specs.Inputs.{topology_refusal, inputs}
 use Rattle.tm_faults.specs.Named.{IsNamed}
 use Rattle.tm_top_line.proofs.Named.{input_calm}
 use Rattle.tm_image_build.specs.Built.{built, built_of}
@@ -63,6 +59,7 @@ topology_read b files text held h = rw held (short topology_limit refused_topolo
 pub topology_stop : (s : Stop) (b : Build) (desk : DeskChange)
     → ReadStop s Topology (IsTrue desk.tells) (desk.held b.topo) topology_limit desk.faults desk.faults_after → InputStop s (to_build b) desk
 topology_stop (stop.Refused by fault) b desk (role_is, fault_is, h) = rw (role_is, fault_is) (record {
+  read = refl;
   status = refl;
   has_line = refl;
   first = λ told. at_topology b desk.held _ (topology_long b desk.held (h told));
@@ -77,6 +74,7 @@ pub topology_refused : (b : Build) (desk : DeskChange) (text : List ℕ) (refusa
     → (IsTrue desk.tells → desk.held b.topo ≡ Some text) → length text ≤ topology_limit → Some refusal ≡ topology_refusal text → IsNamed refusal
     → IsRefusal (to_build b) desk Topology (Input refusal)
 topology_refused b desk text refusal held h is named = record {
+  read = refl;
   status = refl;
   has_line = input_calm refusal named;
   first = λ told.
@@ -109,6 +107,7 @@ pub template_stop : (s : Stop) (b : Build) (desk : DeskChange) (text : List ℕ)
     → IsTopology b desk.tells desk.held text → (IsTrue desk.tells → there ≡ desk.held b.template) → desk.faults ≤ faults
     → ReadStop s Template (IsTrue desk.tells) there template_limit faults desk.faults_after → InputStop s (to_build b) desk
 template_stop (stop.Refused by fault) b desk text there faults topology same later (role_is, fault_is, h) = rw (role_is, fault_is) (record {
+  read = refl;
   status = refl;
   has_line = refl;
   first = λ told. at_template b desk.held _ (topology_accepted b desk text topology told)
@@ -127,6 +126,7 @@ pub image_stop : (s : Stop) (b : Build) (desk : DeskChange) (text template : Lis
     → (IsTrue desk.tells → desk.held b.template ≡ Some template) → length template ≤ template_limit
     → ImageStop s (inputs text template) → InputStop s (to_build b) desk
 image_stop (stop.Refused by fault) b desk text template topology there h (refusal, refused, role_is, fault_is, calm) = rw (role_is, fault_is) (record {
+  read = refl;
   status = refl;
   has_line = calm;
   first = λ told. at_template b desk.held _ (topology_accepted b desk text topology told)

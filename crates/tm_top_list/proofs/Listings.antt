@@ -47,6 +47,7 @@ none_first image files is = rw is refl
 pub image_stop : (s : Stop) (image : List ℕ) (desk : DeskChange)
     → ReadStop s roles.Image (IsTrue desk.tells) (desk.held image) image_limit desk.faults desk.faults_after → InputStop s (to_list image) desk
 image_stop (stop.Refused by fault) image desk (role_is, fault_is, h) = rw (role_is, fault_is) (record {
+  read = refl;
   status = refl;
   has_line = refl;
   first = λ told. at_image image desk.held _ (image_long image desk.held (h told));
@@ -60,6 +61,7 @@ image_stop stop.NoMemory image desk h = tt
 pub open_stop : (s : Stop) (image : List ℕ) (desk : DeskChange) (file : List ℕ) → (IsTrue desk.tells → desk.held image ≡ Some file)
     → length file ≤ image_limit → OpenStop s (opened file) → InputStop s (to_list image) desk
 open_stop (stop.Refused by fault) image desk file there h (refusal, refused, role_is, fault_is, has_line) = rw (role_is, fault_is) (record {
+  read = refl;
   status = refl;
   has_line = has_line;
   first = λ told. at_image image desk.held _ (image_read image desk.held file (there told) h ∙ ap not_opened refused);

@@ -1,7 +1,6 @@
 -- What goes to the error sink.
-use Rattle.std.proofs.Common.{◌≡◌, ◌++◌, ◌∙◌, ap, sym, refl, ℕ, List, [], ◌∷◌, length, take, append-nil, IsTrue, Result, Ok, Err, OnOk, OnErr}
-use Rattle.tm_top_owed.specs.Texts.{no_memory}
-use Rattle.tm_top_owed.specs.Changes.{SinkChange, Took, TookFront, TookFronts, Said}
+use Rattle.std.proofs.Common.{◌≡◌, ◌++◌, ◌∙◌, ap, sym, refl, ℕ, List, [], ◌∷◌, length, take, IsTrue, Result, Ok, Err, OnOk, OnErr}
+use Rattle.tm_top_owed.specs.Changes.{SinkChange, Took, TookFront, Said}
 
 take_whole : (xs : List ℕ) → take (length xs) xs ≡ xs
 take_whole [] = refl

@@ -1,12 +1,12 @@
 -- Where a command stops, step by step.
-use Rattle.std.proofs.Common.{◌≡◌, ◌≤◌, ℕ, List, None, IsTrue, arith, refl}
+use Rattle.std.proofs.Common.{◌≡◌, ◌≤◌, ℕ, None, IsTrue, arith, refl}
 use Rattle.tm_top_owed.specs.declared.stop.Stop.{Stop}
 use Rattle.tm_top_owed.specs.declared.stop.Stop.TheVariants as stop
 use Rattle.tm_words.specs.Words.{Build, Command}
 use Rattle.tm_words.specs.Words.Command.{to_build}
 use Rattle.tm_top_owed.specs.Inputs.{first_fault}
 use Rattle.tm_top_owed.specs.Changes.{DeskChange, SinkChange, DeskFailed, FilesStay, Silent, TookFront}
-use Rattle.tm_top_owed.specs.Owed.{Ending, IsReady, IsUntouched, IsUnwritten, IsUnprinted}
+use Rattle.tm_top_owed.specs.Owed.{Ending, IsReady}
 use Rattle.tm_top_owed.specs.Owed.IsUnfinished.{untouched, unwritten, unprinted}
 use Rattle.tm_top_owed.specs.Owed.IsFailure.{at_input, at_write, at_print}
 use Rattle.tm_top_owed.specs.Steps.{InputStop, PutStop, Stopped}

@@ -14,7 +14,6 @@ use Rattle.tm_top_line.specs.declared.fault.AnyFault.{AnyFault}
 use Rattle.tm_top_line.specs.declared.fault.AnyFault.TheVariants.{Input, Image, Desk}
 use Rattle.tm_words.specs.Words.{Build, Command}
 use Rattle.tm_words.specs.Words.Command.{to_build, to_list, to_run, to_sample}
-use Rattle.tm_top_owed.specs.Sample.{sample_topology, sample_template}
 
 -- the most bytes of a topology
 abbrev pub topology_limit : ℕ
@@ -86,18 +85,14 @@ abbrev pub or_behind : Role → Option AnyFault → Option (Role × AnyFault) �
 or_behind role None behind = behind
 or_behind role (Some fault) behind = Some (role, fault)
 
--- the first fault of two texts of a build, if there is one
-abbrev pub fault_of_texts : (topo template : List ℕ) → Option (Role × AnyFault)
-fault_of_texts topo template =
-    or_behind roles.Topology (refused_topology topo) (or_behind roles.Template (refused_template topo template) None)
-
--- the first fault of a command's inputs; those of a sample are the two texts that its number stands for
+-- the first fault of a command's inputs; a sample has no input, since its two texts are accepted whatever its number
+-- (tm_sample, `always_accepted`)
 unfoldable pub first_fault : Command → Files → Option (Role × AnyFault)
 first_fault (to_build b) files =
     or_behind roles.Topology (fault_of_topology b files) (or_behind roles.Template (fault_of_template b files) None)
 first_fault (to_list image) files = or_behind roles.Image (fault_of_image image files) None
 first_fault (to_run r) files = or_behind roles.Image (fault_of_image r.image files) None
-first_fault (to_sample number) files = fault_of_texts (sample_topology number) (sample_template number)
+first_fault (to_sample number) files = None
 
 -- the first fault of the inputs that are read before that of a role
 abbrev pub fault_before : Command → Role → Files → Option AnyFault

@@ -25,7 +25,8 @@ use Rattle.tm_words.specs.Words.Command.{to_build, to_list, to_run, to_sample}
 use Rattle.tm_top_owed.specs.Texts.{usage, built_line}
 use Rattle.tm_top_owed.specs.Inputs.{first_fault, fault_before}
 use Rattle.tm_top_owed.specs.Runs.{guest_of, IsSimulated, IsRoundOrder, InOrder, IsTold, IsFull, verdicts_in, halted_of}
-use Rattle.tm_top_owed.specs.Sample.{sample_topology, sample_template, summary}
+use Rattle.tm_sample.specs.Texts.{sample_topology, sample_template}
+use Rattle.tm_top_owed.specs.Sample.{summary}
 use Rattle.tm_guest.specs.Guested.{Guested}
 use Rattle.tm_guest.specs.Rounds.{AllHalted}
 use Rattle.tm_report_run.specs.Report.{full_line}
@@ -188,8 +189,10 @@ status_of (Desk (TooLong max)) = 3
 status_of (Desk Failed) = 5
 status_of (Desk NoMemory) = 6
 
--- The fault is a refusal, and the first fault of the command's inputs.
+-- The fault is a refusal of a file that the command reads, and the first fault of the command's inputs. A sample reads
+-- no file, so that it is never refused.
 pub record IsRefusal (c : Command) (desk : DeskChange) (role : Role) (fault : AnyFault) : Type 0 where
+  pub read : IsTrue (reads c role)
   pub status : status_of fault ≡ 3
   pub has_line : IsFalse (wants_memory fault)
   pub first : IsTrue desk.tells → first_fault c desk.held ≡ Some (role, fault)

@@ -64,6 +64,7 @@ pub image_stop : (s : Stop) (r : Run) (desk : DeskChange)
     → ReadStop s roles.Image (IsTrue desk.tells) (desk.held r.image) image_limit desk.faults desk.faults_after
     → InputStop s (to_run r) desk
 image_stop (stop.Refused by fault) r desk (role_is, fault_is, h) = rw (role_is, fault_is) (record {
+  read = refl;
   status = refl;
   has_line = refl;
   first = λ told. at_image r desk.held _ (image_long r.image desk.held (h told));
@@ -79,6 +80,7 @@ pub open_stop : (s : Stop) (r : Run) (desk : DeskChange) (file : List ℕ)
     → InputStop s (to_run r) desk
 open_stop (stop.Refused by fault) r desk file there h (refusal, refused, role_is, fault_is, has_line) =
     rw (role_is, fault_is) (record {
+      read = refl;
       status = refl;
       has_line = has_line;
       first = λ told.

@@ -1,58 +1,30 @@
--- What is made of two texts, or why nothing is.
-use Rattle.std.proofs.Common.{◌≡◌, ◌∙◌, ℕ, List, Option, None, Some, Result, Ok, Err, refl, sym, ap}
+-- What is built of the texts of a sample.
+use Rattle.std.proofs.Common.{◌≡◌, ◌∙◌, ℕ, List, Result, Ok, Err, refl, sym, ap}
 use Rattle.tm_plan_map.specs.declared.admitted.Admitted.{Admitted}
 use Rattle.tm_plan_cases.specs.declared.program.Program.{Program}
 use Rattle.tm_gen.specs.Gen.{gen_of}
 use Rattle.tm_world.specs.Sound.{Sound}
-use Rattle.tm_faults.specs.declared.role.Role.TheVariants as roles
 use Rattle.tm_faults.specs.declared.inputs.InputFault.{InputFault}
-use Rattle.tm_faults.specs.Named.{IsNamed}
-use Rattle.tm_image_inputs.specs.Inputs.{inputs, topology_refusal}
+use Rattle.tm_image_inputs.specs.Inputs.{inputs}
 use Rattle.tm_pass_place.specs.Built.{built as built_program}
 use Rattle.tm_image_program.specs.Program.{program_for}
 use Rattle.tm_image_build.specs.Built.{built, built_of, image_file, program_from}
-use Rattle.tm_top_line.specs.declared.fault.AnyFault.TheVariants.{Input}
-use Rattle.tm_top_line.proofs.Named.{input_calm}
-use Rattle.tm_top_owed.specs.declared.stop.Stop.TheVariants as stop
-use Rattle.tm_top_owed.specs.Inputs.{or_behind, as_fault, refusal_of, refused_template}
+use Rattle.tm_sample.specs.Texts.{AreAccepted}
 use Rattle.tm_top_owed.specs.Owed.{IsBuiltOf}
-use Rattle.tm_top_sample.specs.Steps.{TextsStop}
 
--- ---- refusals
-
--- a topology that is refused
-pub topology_refused : (topo template : List ℕ) (refusal : InputFault) → Some refusal ≡ topology_refusal topo
-    → IsNamed refusal
-    → TextsStop (stop.Refused roles.Topology (Input refusal)) topo template
-topology_refused topo template refusal is named = (
-  ap (λ (r : Option InputFault). or_behind roles.Topology (as_fault r) (or_behind roles.Template
-      (refused_template topo template) None)) (sym is),
-  refl,
-  input_calm refusal named,
-)
+-- ---- what is not refused
 
 refused_at : (r : Result Admitted InputFault) (topo template : List ℕ) (seed : ℕ) (refusal : InputFault)
-    → built_of topo template seed r ≡ Err refusal → r ≡ Err refusal
-refused_at (Ok test) topo template seed refusal h = cc
-refused_at (Err fault) topo template seed refusal h = cc
+    → built_of topo template seed r ≡ Err refusal → (a : Admitted) → r ≡ Ok a → ⊥
+refused_at (Ok test) topo template seed refusal h a e = absurd (cc)
+refused_at (Err fault) topo template seed refusal h a e = absurd (cc)
 
-image_refused : (topo template : List ℕ) (seed : ℕ) (refusal : InputFault)
-    → built topo template seed ≡ Err refusal → inputs topo template ≡ Err refusal
+-- texts that are accepted have no fault
+pub never_refused : (topo template : List ℕ) (seed : ℕ) (refusal : InputFault) → AreAccepted topo template
+    → built topo template seed ≡ Err refusal → ⊥
 unfolding built
-image_refused topo template seed refusal h = refused_at (inputs topo template) topo template seed refusal h
-
--- a template that is refused, behind a topology that is accepted
-pub template_refused : (topo template : List ℕ) (seed : ℕ) (refusal : InputFault) → topology_refusal topo ≡ None
-    → built topo template seed ≡ Err refusal → IsNamed refusal
-    → TextsStop (stop.Refused roles.Template (Input refusal)) topo template
-template_refused topo template seed refusal accepted h named = (
-  ap (λ (r : Option InputFault). or_behind roles.Topology (as_fault r) (or_behind roles.Template
-      (refused_template topo template) None)) accepted
-      ∙ ap (λ (r : Result Admitted InputFault). or_behind roles.Template (as_fault (refusal_of r)) None)
-      (image_refused topo template seed refusal h),
-  refl,
-  input_calm refusal named,
-)
+never_refused topo template seed refusal (a, is) h =
+    refused_at (inputs topo template) topo template seed refusal h a is
 
 -- ---- what is built
 

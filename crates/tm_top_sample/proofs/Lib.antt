@@ -1,8 +1,4 @@
-mod Rows
-mod Puts
 mod Sums
 mod Halting
 mod Building
 mod Running
-mod Stopping
-pub mod Lengths

@@ -18,7 +18,8 @@ use Rattle.tm_words.specs.Words.{default_events}
 use Rattle.tm_top_owed.specs.Runs.{guest_of, halted_of, IsFull}
 use Rattle.tm_top_owed.specs.Owed.IsSummed.{summed, cut}
 use Rattle.tm_top_owed.specs.Owed.{IsBuiltOf, IsSampleOf}
-use Rattle.tm_top_owed.specs.Sample.{summary, sample_topology, sample_template}
+use Rattle.tm_sample.specs.Texts.{sample_topology, sample_template}
+use Rattle.tm_top_owed.specs.Sample.{summary}
 use Rattle.tm_top_sample.specs.Steps.{IsSummary}
 
 -- A guest that went on in round order from its start under no script.

@@ -1,16 +1,9 @@
-use Rattle.std.proofs.Common.{refl, Some}
+use Rattle.std.proofs.Common.{Some}
 use Rattle.tm_words.specs.Words.Command.{to_sample}
 use Rattle.tm_top_owed.specs.Changes.{sink_change}
 use Rattle.tm_top_owed.proofs.Stops.{print_stopped}
-use Rattle.tm_top_sample.proofs.Stopping.{texts_stopped}
 use Rattle.tm_top_sample.proofs.Running.{sample_of}
 use Rattle.tm_top_sample.proofs.command.sample_command.Goals as goal
-
-pub returns-in-Err-clause-stopped : goal.returns-in-Err-clause-stopped
-returns-in-Err-clause-stopped g c = λ desk stay.
-    texts_stopped c.in-Err.stop c.args.n desk
-    (sink_change g.O.Sink.tells g.O.Sink.taken g.O.Sink.faults c.args.out.now c.args.out.now)
-    c.in-Err.ensures.err stay (λ told. refl)
 
 pub returns-clause-stopped : goal.returns-clause-stopped
 returns-clause-stopped g c = λ desk stay.

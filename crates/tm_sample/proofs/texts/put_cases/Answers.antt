@@ -1,6 +1,6 @@
-use Rattle.tm_top_owed.specs.Sample.{sample_case}
-use Rattle.tm_top_sample.proofs.Rows.{row-more}
-use Rattle.tm_top_sample.proofs.texts.put_cases.Goals as goal
+use Rattle.tm_sample.specs.Texts.{sample_case}
+use Rattle.tm_sample.proofs.Rows.{row-more}
+use Rattle.tm_sample.proofs.texts.put_cases.Goals as goal
 
 pub loop-c-preserved : goal.loop-c-preserved
 loop-c-preserved c =

@@ -1,7 +1,7 @@
 use Rattle.std.proofs.Common.{codes, ◌+◌, ◌%◌}
-use Rattle.tm_top_owed.specs.Sample.{key_line, sample_line, sample_topology}
-use Rattle.tm_top_sample.proofs.Puts.{four-put}
-use Rattle.tm_top_sample.proofs.texts.topology_text.Goals as goal
+use Rattle.tm_sample.specs.Texts.{key_line, sample_line, sample_topology}
+use Rattle.tm_sample.proofs.Puts.{four-put}
+use Rattle.tm_sample.proofs.texts.topology_text.Goals as goal
 
 pub returns : goal.returns
 unfolding sample_topology

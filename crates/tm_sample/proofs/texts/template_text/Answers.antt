@@ -2,9 +2,9 @@ use Rattle.std.proofs.Common.{codes, ◌+◌, ◌%◌}
 use Rattle.std.specs.Prelude.{flat_map}
 use Rattle.std.specs.Fmt.{decimal}
 use Rattle.tm_base.specs.Lists.{count_from}
-use Rattle.tm_top_owed.specs.Sample.{sample_case, sample_template}
-use Rattle.tm_top_sample.proofs.Puts.{four-put}
-use Rattle.tm_top_sample.proofs.texts.template_text.Goals as goal
+use Rattle.tm_sample.specs.Texts.{sample_case, sample_template}
+use Rattle.tm_sample.proofs.Puts.{four-put}
+use Rattle.tm_sample.proofs.texts.template_text.Goals as goal
 
 pub returns : goal.returns
 unfolding sample_template

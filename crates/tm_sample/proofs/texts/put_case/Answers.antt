@@ -1,7 +1,7 @@
 use Rattle.std.proofs.Common.{codes}
 use Rattle.std.specs.Fmt.{decimal}
-use Rattle.tm_top_sample.proofs.Puts.{three-put}
-use Rattle.tm_top_sample.proofs.texts.put_case.Goals as goal
+use Rattle.tm_sample.proofs.Puts.{three-put}
+use Rattle.tm_sample.proofs.texts.put_case.Goals as goal
 
 pub returns : goal.returns
 returns c =

@@ -1,8 +1,7 @@
 // The two texts of a sample.
 ghost use Rattle.std.specs.Prelude.{◌≡◌, ◌≤◌, ◌++◌, ℕ, IfOk, OnOk, length, flat_map};
 ghost use Rattle.tm_base.specs.Lists.{count_from};
-ghost use Rattle.tm_top_owed.specs.Inputs.{topology_limit, template_limit};
-ghost use Rattle.tm_top_owed.specs.Sample as form;
+ghost use Rattle.tm_sample.specs.Texts as form;
 
 use std::alloc::Global;
 use tm_base::{Bytes, NoMemory, Text, push_decimal};
@@ -31,7 +30,7 @@ fn line_size(turn: u64) -> u64
     }
 }
 
-#[tactic(auto, unfolding(tm_top_owed::specs::Sample::sample_topology))]
+#[tactic(auto, unfolding(crate::specs::Texts::sample_topology))]
 fn topology_text(alloc: Global, n: u64) -> Result<Text, NoMemory>
     ensures { IfOk result (λ text. text ≡ form.sample_topology n) }
 {
@@ -62,7 +61,7 @@ fn put_cases(out: &mut Bytes) -> Result<(), NoMemory>
     Ok(())
 }
 
-#[tactic(auto, unfolding(tm_top_owed::specs::Sample::sample_template))]
+#[tactic(auto, unfolding(crate::specs::Texts::sample_template))]
 fn template_text(alloc: Global, n: u64) -> Result<Text, NoMemory>
     ensures { IfOk result (λ text. text ≡ form.sample_template n) }
 {
@@ -74,13 +73,14 @@ fn template_text(alloc: Global, n: u64) -> Result<Text, NoMemory>
     Ok(out)
 }
 
-/// The topology and the template of the sample of a number: up to 4 harts, and 8 cases of 100 drawn slots.
+/// The topology and the template of the sample of a number, of at most 60 and 1,075 bytes: up to 4 harts, and 8 cases of
+/// 100 drawn slots.
 #[tactic(auto, using(crate::proofs::Lengths::topology_short, crate::proofs::Lengths::template_short))]
 pub fn sample_texts(alloc: Global, n: u64) -> Result<(Text, Text), NoMemory>
     ensures topology { IfOk result (λ texts. texts.0 ≡ form.sample_topology n) }
     ensures template { IfOk result (λ texts. texts.1 ≡ form.sample_template n) }
-    ensures topology_short { IfOk result (λ texts. length texts.0 ≤ topology_limit) }
-    ensures template_short { IfOk result (λ texts. length texts.1 ≤ template_limit) }
+    ensures topology_short { IfOk result (λ texts. length texts.0 ≤ 60) }
+    ensures template_short { IfOk result (λ texts. length texts.1 ≤ 1075) }
 {
     let topology = topology_text(alloc, n)?;
     let template = template_text(alloc, n)?;

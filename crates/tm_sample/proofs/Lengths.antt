@@ -4,8 +4,7 @@ use Rattle.std.specs.Prelude.{flat_map, Bool, true, false, ◌==◌, if◌then�
 use Rattle.std.specs.Fmt.{decimal}
 use Rattle.std.proofs.lemmas.Fmt.{length-decimal-le}
 use Rattle.tm_base.specs.Lists.{count_from}
-use Rattle.tm_top_owed.specs.Inputs.{topology_limit, template_limit}
-use Rattle.tm_top_owed.specs.Sample.{key_line, sample_line, sample_topology, sample_case, sample_template}
+use Rattle.tm_sample.specs.Texts.{key_line, sample_line, sample_topology, sample_case, sample_template}
 
 -- a number below 1000 has at most 3 digits
 few_digits : (v : ℕ) → v < 1000 → length (decimal v) ≤ 3
@@ -35,7 +34,7 @@ key_short : (key : List ℕ) (v : ℕ) → length key ≤ 8 → v < 1000 → len
 key_short key v named h =
     short-4 key (codes " = ") (decimal v) (codes "\n") 8 3 3 1 named (omega arith) (few_digits v h) (omega arith)
 
-pub topology_short : (n : ℕ) → length (sample_topology n) ≤ topology_limit
+pub topology_short : (n : ℕ) → length (sample_topology n) ≤ 60
 unfolding sample_topology
 topology_short n =
     let all = short-4 (key_line (codes "cores") (1 + n % 2)) (codes "threads = 2\n")
@@ -57,7 +56,7 @@ cases_short (suc k) a h =
     (case_short a (omega arith)) (cases_short k (suc a) (omega arith)) in
     omega (arith, both)
 
-pub template_short : (n : ℕ) → length (sample_template n) ≤ template_limit
+pub template_short : (n : ℕ) → length (sample_template n) ≤ 1075
 unfolding sample_template
 template_short n =
     let all = short-4 (codes "template sample\npasses ") (decimal (2 + n % 3))
