@@ -3,7 +3,7 @@ use Rattle.std.proofs.Common.{◌≡◌, ◌<◌, ℕ, zero, suc, ◌+◌, None,
 use Rattle.std.specs.Fmt.{digits}
 use Rattle.tm_rules_slot.specs.Teams.{in_team, team}
 use Rattle.tm_rules_slot.specs.Slots.{mix_fault}
-use Rattle.tm_rules_first.specs.Windows.{shape_of}
+use Rattle.tm_place.specs.Placing.{shape_of}
 use Rattle.tm_rules_first.specs.Rules.{broken_rule, first_of, in_turn, checks_of, window_rules, window_checks}
 use Rattle.tm_rules_first.specs.Rules.{total_slots, slot_count, slot_fault, slot_checks, twice_fault, body_rules}
 use Rattle.tm_rules_first.specs.Rules.{body_checks, case_rules, case_checks}
