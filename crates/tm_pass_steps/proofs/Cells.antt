@@ -41,7 +41,7 @@ no e f = absurd (true≢false (sym f ∙ e))
 pub got-none : (W : ℕ → Type 0) (x : Access) (b : ℕ) → windows_base ≤ b → Uses IsBelow W x → got x b ≡ None
 got-none W Quiet b l u = refl
 got-none W (Write addr width v) b l u = refl
-pub got-none W (Read addr width v) b l u = ap (λ (t : Bool). if t then Some (byte_of v (b - addr))
+got-none W (Read addr width v) b l u = ap (λ (t : Bool). if t then Some (byte_of v (b - addr))
     else None) (within-false addr width b (inr (let w = u.0 in let m = u.1 in omega arith)))
 
 pub some-map : {P Q : ℕ → Type 0} (o : Option ℕ) → ((x : ℕ) → P x → Q x) → IfSome o P → IfSome o Q

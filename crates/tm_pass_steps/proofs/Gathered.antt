@@ -47,8 +47,8 @@ index-row (suc n) p j (suc i) xs l = index-row n p (suc j) i xs (omega arith) �
 
 pub index-behind : (n p j i : ℕ) (xs : List ℕ) → slice_index (map (λ i. p + 8 * i) (count_from j n) ++ xs) (n + i)
     ≡ slice_index xs i
-pub index-behind zero p j i xs = let e : 0 + i ≡ i = omega arith in ap (slice_index xs) e
-pub index-behind (suc n) p j i xs = let e : suc n + i ≡ suc (n + i) = omega arith in
+index-behind zero p j i xs = let e : 0 + i ≡ i = omega arith in ap (slice_index xs) e
+index-behind (suc n) p j i xs = let e : suc n + i ≡ suc (n + i) = omega arith in
     ap (slice_index (map (λ i. p + 8 * i) (count_from j (suc n)) ++ xs)) e ∙ index-behind n p (suc j) i xs
 
 pub length-row : (n p j : ℕ) (xs : List ℕ) → length (map (λ i. p + 8 * i) (count_from j n) ++ xs) ≡ n + length xs
