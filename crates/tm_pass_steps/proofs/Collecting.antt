@@ -56,7 +56,7 @@ use Rattle.tm_pass_steps.proofs.Mixed.{roomier}
 use Rattle.tm_pass_steps.proofs.Setting.{all-among, accesses-append}
 use Rattle.tm_pass_steps.proofs.Sources.{Rises, rises-row, first_access, first-append}
 use Rattle.tm_pass_steps.proofs.Sources.{got-off, first-is, value-is, AreFirst, first-both, collect-first}
-use Rattle.tm_pass_steps.proofs.Gathered.{placed, among-row, index-row, index-behind, index-behind, index-behind}
+use Rattle.tm_pass_steps.proofs.Gathered.{placed, among-row, index-row, index-behind}
 use Rattle.tm_pass_steps.proofs.Gathered.{length-row, all-moves, any-access, first-tail, reads-self, widen, newest-to}
 
 module _ (p : Program) (formed : Formed p) (fit : MasksFit p.cases p.masks) (h : ℕ) (number : h < harts p) (lo : ℕ)

@@ -50,7 +50,7 @@ use Rattle.tm_pass_steps.specs.Sites.{BarrierSite, CallSite}
 use Rattle.tm_pass_steps.specs.Meeting.{CallMeets, meet_cost}
 use Rattle.tm_pass_steps.proofs.Barring.{keeping-here, passes as passes-of, phase-there, now-there, trail-same}
 use Rattle.tm_pass_steps.proofs.Barring.{few-there, told-there, uses, low, set-one}
-use Rattle.tm_pass_steps.proofs.Cells.{two-other, two-first, two-small, no, got-none, got-none, some-map, cells-apart}
+use Rattle.tm_pass_steps.proofs.Cells.{two-other, two-first, two-small, no, got-none, some-map, cells-apart}
 use Rattle.tm_pass_steps.proofs.Cells.{memo-apart, area-high, few-phases}
 
 module _ (p : Program) (formed : Formed p) (fit : MasksFit p.cases p.masks) (h : ℕ) (number : h < harts p) (limit : ℕ
