@@ -20,6 +20,3 @@ pub use mem_desk::MemDesk;
 pub use mem_sink::MemSink;
 pub use real::{RealDesk, RealSink};
 pub use sink::{Sink, SinkError, put_all};
-
-#[cfg(test)]
-mod tests;

@@ -15,7 +15,7 @@ use tm_base::Bytes;
 pub struct RealDesk<R: Files> {
     alloc: Global,
     files: R,
-    pub(crate) faults: u64,
+    faults: u64,
 }
 
 impl<R: Files> RealDesk<R> {
@@ -28,6 +28,13 @@ impl<R: Files> RealDesk<R> {
             files,
             faults: 0,
         }
+    }
+
+    /// How often the outside has failed.
+    pub fn faults(&self) -> u64
+        ensures { result ≡ self.now.faults }
+    {
+        self.faults
     }
 
     /// Counts an error as a fault, unless it is want of memory.
@@ -90,7 +97,7 @@ impl<R: Files> Desk for RealDesk<R> {
 #[derive(Drop)]
 pub struct RealSink<P: Print> {
     stream: P,
-    pub(crate) faults: u64,
+    faults: u64,
 }
 
 impl<P: Print> RealSink<P> {
@@ -99,6 +106,13 @@ impl<P: Print> RealSink<P> {
         ensures { result.faults ≡ 0 }
     {
         RealSink { stream, faults: 0 }
+    }
+
+    /// How often the outside has failed.
+    pub fn faults(&self) -> u64
+        ensures { result ≡ self.now.faults }
+    {
+        self.faults
     }
 
     /// Counts an error as a fault, unless it is want of memory.

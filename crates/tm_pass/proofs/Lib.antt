@@ -1,4 +1,3 @@
 pub mod CaseLemmas
 pub mod Gates
 pub mod Harts
-pub mod Small

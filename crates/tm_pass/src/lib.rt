@@ -10,6 +10,3 @@ mod text;
 pub use hart::{HartCode, hart_code};
 pub use text::{ProgramText, program_text};
 pub use tm_pass_place::laws;
-
-#[cfg(test)]
-mod tests;

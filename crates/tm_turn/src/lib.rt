@@ -16,6 +16,3 @@ mod table;
 
 pub use kept::Kept;
 pub use line::{Line, LineSeat};
-
-#[cfg(test)]
-mod tests;

@@ -1,40 +1,15 @@
+// Threads that come by at one value.
 ghost use Rattle.std.specs.Prelude.{◌≡◌, ◌≤◌, ℕ, false, Some, take, length, slice_get};
 ghost use Rattle.tm_turn.specs.History.{AddsAtMostOne};
 ghost use Rattle.tm_turn.specs.Seats.{SeatState, AreNew};
 
-use super::*;
+use std::alloc::Global;
 use std::sync::Wait;
 use std::sync::atomic::{AtomicU64, Ordering};
-use std::test::Fail;
 use std::thread;
 use std::thread::Threads;
-
-#[test]
-fn threads_take_turns(rt: HostRuntime) -> Result<(), Fail> {
-    let visits = Visits {
-        numbers: [0; 3],
-        count: 0,
-    };
-    let (line, mut seats) = Line::start(rt.alloc(), visits, 3)?;
-    crosses_threads(&line, &seats);
-    let most = AtomicU64::new(0);
-    visit_by_threads(&rt, &line, seats.as_mut_slice(), &most);
-    assert_eq!(rt; most.load(Ordering::SeqCst), 3);
-    let mut visits = line.close(seats);
-    visits.numbers.as_mut_slice().sort_unstable();
-    assert_eq!(rt; visits.numbers, [0, 1, 2]);
-    Ok(())
-}
-
-/// A line is shared and seats are sent wherever the value may be sent.
-fn crosses_threads<T: Kept + Send>(line: &Line<T>, seats: &Vec<LineSeat<T>>) {
-    share(line);
-    send(seats);
-}
-
-fn share<X: Sync>(_shared: &X) {}
-
-fn send<X: Send>(_sent: &X) {}
+use tm_base::NoMemory;
+use tm_turn::{Kept, Line, LineSeat};
 
 /// The numbers of the seats that came by, at most three.
 #[derive(Drop)]
@@ -114,4 +89,32 @@ fn visit_by_threads<R: Threads + Wait + Sync>(
             most.fetch_max(visit(rt, line, seat), Ordering::SeqCst);
         },
     );
+}
+
+/// A line is shared and seats are sent wherever the value may be sent.
+fn crosses_threads<T: Kept + Send>(line: &Line<T>, seats: &Vec<LineSeat<T>>) {
+    share(line);
+    send(seats);
+}
+
+fn share<X: Sync>(_shared: &X) {}
+
+fn send<X: Send>(_sent: &X) {}
+
+/// Three threads come by: the greatest count that they read, and the numbers of their seats in order.
+pub fn come_by<R: Threads + Wait + Sync>(
+    rt: &R,
+    alloc: Global,
+) -> Result<(u64, [u32; 3]), NoMemory> {
+    let visits = Visits {
+        numbers: [0; 3],
+        count: 0,
+    };
+    let (line, mut seats) = Line::start(alloc, visits, 3)?;
+    crosses_threads(&line, &seats);
+    let most = AtomicU64::new(0);
+    visit_by_threads(rt, &line, seats.as_mut_slice(), &most);
+    let mut visits = line.close(seats);
+    visits.numbers.as_mut_slice().sort_unstable();
+    Ok((most.load(Ordering::SeqCst), visits.numbers))
 }

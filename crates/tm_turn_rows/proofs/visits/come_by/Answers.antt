@@ -2,7 +2,7 @@ use Rattle.std.proofs.Common.{◌≡◌, ℕ, List, Some, length, slice_get, sym
 use Rattle.tm_turn.specs.Seats.{SeatState, AreAllOutside}
 use Rattle.tm_turn.proofs.Places.{written_back}
 use Rattle.tm_turn.proofs.Closing.{worked_through}
-use Rattle.tm_turn.proofs.tests.threads_take_turns.Goals as goal
+use Rattle.tm_turn_rows.proofs.visits.come_by.Goals as goal
 
 pub close-visits-requires : goal.close-visits-requires
 close-visits-requires g c =

@@ -1,0 +1,88 @@
+// Real files, in the folder where the program runs.
+use crate::shown::{demand, show, show_text};
+use std::alloc::Global;
+use std::fs;
+use std::io::{self, ErrorKind};
+use tm_base::{Bytes, NoMemory};
+use tm_desk::{Desk, DeskError, RealDesk};
+
+const SHORT_FILE: &str = "short";
+
+const LONG_FILE: &str = "long";
+
+/// How many bytes the long file has.
+const LONG: u64 = 100_000;
+
+/// Prints what a read answered.
+fn show_read(rt: &HostRuntime, what: &str, answer: Result<Bytes, DeskError>) -> io::Result<()> {
+    match answer {
+        Ok(bytes) => show_text(rt, what, bytes.as_slice()),
+        Err(error) => show(rt, what, error),
+    }
+}
+
+/// Prints what a write answered.
+fn show_write(rt: &HostRuntime, what: &str, answer: Result<(), DeskError>) -> io::Result<()> {
+    match answer {
+        Ok(()) => show(rt, what, "done"),
+        Err(error) => show(rt, what, error),
+    }
+}
+
+/// A file is written twice, the second time shorter, and read. What isn't there is read and written in vain.
+pub fn short_file(rt: &HostRuntime) -> io::Result<()> {
+    let mut desk = RealDesk::new(rt.alloc(), rt.clone()?);
+    println!(rt; "a short file")?;
+    show_write(
+        rt,
+        "write of 15 bytes",
+        desk.write(SHORT_FILE, b"some more bytes"),
+    )?;
+    show_write(
+        rt,
+        "write of 10 bytes",
+        desk.write(SHORT_FILE, b"some bytes"),
+    )?;
+    show_read(rt, "read of up to 10 bytes", desk.read(SHORT_FILE, 10))?;
+    show_read(rt, "read of any length", desk.read(SHORT_FILE, u64::MAX))?;
+    show_read(rt, "read of up to 9 bytes", desk.read(SHORT_FILE, 9))?;
+    show(rt, "faults", desk.faults())?;
+    show_read(rt, "read of no file", desk.read("none", 9))?;
+    show_write(rt, "write into no folder", desk.write("none/x", b""))?;
+    show(rt, "faults", desk.faults())?;
+    fs::remove_file(rt, SHORT_FILE)
+}
+
+/// The bytes of the long file. They come again after 251, so that no two blocks of it are alike.
+fn long_text(alloc: Global) -> Result<Bytes, NoMemory> {
+    let mut bytes = Bytes::new(alloc);
+    for place in 0..LONG {
+        bytes.push((place % 251) as u8)?;
+    }
+    Ok(bytes)
+}
+
+/// A file of many blocks is written and read whole.
+pub fn long_file(rt: &HostRuntime) -> io::Result<()> {
+    let Ok(bytes) = long_text(rt.alloc()) else {
+        return Err(ErrorKind::OutOfMemory.into());
+    };
+    let mut desk = RealDesk::new(rt.alloc(), rt.clone()?);
+    println!(rt; "a long file")?;
+    show_write(
+        rt,
+        "write of 100000 bytes",
+        desk.write(LONG_FILE, bytes.as_slice()),
+    )?;
+    let same = match desk.read(LONG_FILE, LONG) {
+        Ok(read) => read.as_slice() == bytes.as_slice(),
+        Err(_) => false,
+    };
+    demand(rt, "read of up to 100000 bytes, which gives them", same)?;
+    show_read(
+        rt,
+        "read of up to 99999 bytes",
+        desk.read(LONG_FILE, LONG - 1),
+    )?;
+    fs::remove_file(rt, LONG_FILE)
+}

@@ -1,0 +1,19 @@
+//! Three threads come by at a value in a line, once each. It prints the greatest count that they read and which seats
+//! came by: no contract says that a thread runs, or that its turn comes.
+#![tactic(auto)]
+
+mod visits;
+
+use std::io::{self, ErrorKind};
+use visits::come_by;
+
+fn main(rt: HostRuntime) -> io::Result<()> {
+    let Ok((most, numbers)) = come_by(&rt, rt.alloc()) else {
+        return Err(ErrorKind::OutOfMemory.into());
+    };
+    println!(rt; "greatest count: {most}")?;
+    for number in numbers {
+        println!(rt; "seat {number} came by")?;
+    }
+    Ok(())
+}
