@@ -12,56 +12,66 @@ use tm_top::{Outcome, top};
 
 /// What a command did.
 #[derive(Drop)]
-struct Called {
+struct Ended {
     outcome: Outcome,
     printed: CalmSink,
     told: CalmSink,
 }
 
-/// Calls the program with these words, on a desk that holds the image as `a.elf`.
-fn call<R: Threads + Wait + Sync, G: Gate>(
-    rt: &R,
-    alloc: Global,
-    image: &Image,
-    line: &str,
-    gate: &G,
-) -> Result<Called, NoMemory> {
-    let mut desk = MemDesk::new(alloc, List::new(alloc));
-    desk.put_file("a.elf", image.file.as_slice())?;
+/// The words between blanks.
+fn words_of(alloc: Global, line: &str) -> Result<Vec<String>, NoMemory> {
     let mut words = Vec::new(alloc);
     for word in line.split(' ') {
         let word = String::from_str(alloc, word).map_err(|_| NoMemory)?;
         words.push(word).map_err(|_| NoMemory)?;
     }
+    Ok(words)
+}
+
+/// Calls the whole program with the words of a line, on a desk that holds the image as `a.elf`.
+fn done<R: Threads + Wait + Sync, G: Gate>(
+    rt: &R,
+    alloc: Global,
+    image: &Image,
+    line: &str,
+    gate: &G,
+) -> Result<Ended, NoMemory> {
+    let words = words_of(alloc, line)?;
+    let mut desk = MemDesk::new(alloc, List::new(alloc));
+    desk.put_file("a.elf", image.file.as_slice())?;
     let mut printed = CalmSink::new(alloc);
     let mut told = CalmSink::new(alloc);
     let outcome = top(rt, alloc, &words, &mut desk, &mut printed, &mut told, gate);
-    Ok(Called {
+    Ok(Ended {
         outcome,
         printed,
         told,
     })
 }
 
-/// Appends the status, and what was printed and told. The last line of a report has the number of the journal's
-/// events, which is only compared, since it isn't the same in each run.
-fn put_call(alloc: Global, call: &Called, out: &mut Bytes) -> Result<(), NoMemory> {
-    out.append(b"status ")?;
-    push_decimal(out, u64::from(call.outcome.status))?;
-    out.append(b"\n")?;
-    put_printed(alloc, call.printed.taken(), &call.outcome.journal, out)?;
-    out.append(call.told.taken())
+/// The line of a command, its status, and what it printed and told.
+fn text_of(alloc: Global, line: &str, done: &Ended) -> Result<Bytes, NoMemory> {
+    let mut out = Bytes::new(alloc);
+    out.append(line.as_bytes())?;
+    out.append(b"\nstatus ")?;
+    push_decimal(&mut out, u64::from(done.outcome.status))?;
+    out.push(b'\n')?;
+    match &done.outcome.journal {
+        Some(journal) => put_printed(alloc, done.printed.taken(), journal, &mut out)?,
+        None => out.append(done.printed.taken())?,
+    }
+    out.append(done.told.taken())?;
+    Ok(out)
 }
 
+/// Appends what was printed. The number of events in a report is compared with the journal's alone, since it isn't the
+/// same in each run.
 fn put_printed(
     alloc: Global,
     printed: &[u8],
-    journal: &Option<Journal>,
+    journal: &Journal,
     out: &mut Bytes,
 ) -> Result<(), NoMemory> {
-    let Some(journal) = journal else {
-        return out.append(printed);
-    };
     let mut last = Bytes::new(alloc);
     last.append(b"events ")?;
     push_decimal(&mut last, journal.len())?;
@@ -75,35 +85,30 @@ fn put_printed(
     }
 }
 
-/// Appends a command and what it did, with no gate that holds a hart.
+/// A command, where the gate is open, and what it did.
 pub fn command<R: Threads + Wait + Sync>(
     rt: &R,
     alloc: Global,
     image: &Image,
     line: &str,
-    out: &mut Bytes,
-) -> Result<(), NoMemory> {
-    out.append(line.as_bytes())?;
-    out.append(b"\n")?;
-    let call = call(rt, alloc, image, line, &OpenGate)?;
-    put_call(alloc, &call, out)
+) -> Result<Bytes, NoMemory> {
+    let done = done(rt, alloc, image, line, &OpenGate)?;
+    text_of(alloc, line, &done)
 }
 
-/// Appends a run by threads through the holding gate, and what is demanded of it.
+/// A run by threads through the holding gate, and what is demanded of it.
 pub fn held<R: Threads + Wait + Sync>(
     rt: &R,
     alloc: Global,
     image: &Image,
     line: &str,
-    out: &mut Bytes,
-) -> Result<(), NoMemory> {
-    out.append(line.as_bytes())?;
-    out.append(b"\n")?;
+) -> Result<Bytes, NoMemory> {
     let gate = HoldingGate::new();
-    let call = call(rt, alloc, image, line, &gate)?;
-    put_call(alloc, &call, out)?;
-    match &call.outcome.journal {
-        Some(journal) => put_gate(&gate, image.program.cases.harts, journal, out),
-        None => put_demand(out, "there is a journal", false),
+    let done = done(rt, alloc, image, line, &gate)?;
+    let mut out = text_of(alloc, line, &done)?;
+    match &done.outcome.journal {
+        Some(journal) => put_gate(&gate, image.program.cases.harts, journal, &mut out)?,
+        None => put_demand(&mut out, "there is a journal", false)?,
     }
+    Ok(out)
 }

@@ -1,6 +1,5 @@
 // What is demanded, and whether it holds.
 use crate::gate::HoldingGate;
-use std::alloc::Global;
 use tm_base::{Bytes, NoMemory, push_decimal};
 use tm_plan_journal::Journal;
 

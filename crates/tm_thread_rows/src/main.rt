@@ -1,6 +1,9 @@
-//! Runs images with a thread for each hart, and prints what is demanded of such runs, and whether it holds. Most of
-//! what it demands no contract can say: that threads drive the harts at all, and that they come to their ends.
+//! Runs images with a thread for each hart, and prints what is demanded of such runs and whether it holds. Much of it
+//! no contract can say: that threads drive the harts at all, and that the harts come to their ends.
 #![tactic(auto)]
+
+ghost use Rattle.tm_plan_cases.specs.Shaped.{IsTyped};
+ghost use Rattle.tm_world.specs.Sound.{Sound};
 
 mod commands;
 mod demands;
@@ -16,58 +19,71 @@ use std::process::ExitCode;
 use std::sync::Wait;
 use std::thread::Threads;
 use tm_base::{Bytes, NoMemory};
-use tm_desk::{RealSink, put_all};
+use tm_desk::{RealSink, Sink, put_all};
+use tm_image_build::Image;
 
-/// The drawn test: its harts driven through the gate, by the mill and by the whole program.
-fn put_drawn<R: Threads + Wait + Sync>(
-    rt: &R,
-    alloc: Global,
-    out: &mut Bytes,
-) -> Result<(), NoMemory> {
-    let Some(image) = image_of(alloc, DRAWN) else {
-        return out.append(b"no image\n");
-    };
-    out.append(b"harts driven by threads\n")?;
-    driven(rt, alloc, &image, out)?;
-    held(rt, alloc, &image, "run a.elf --order threads", out)?;
-    command(rt, alloc, &image, "sample 7", out)
-}
-
-/// The racing test: turns one by one, and whole runs.
-fn put_racing<R: Threads + Wait + Sync>(
-    rt: &R,
-    alloc: Global,
-    out: &mut Bytes,
-) -> Result<(), NoMemory> {
-    let Some(image) = image_of(alloc, RACING) else {
-        return out.append(b"no image\n");
-    };
-    out.append(b"a hart alone\n")?;
-    alone(rt, alloc, &image, out)?;
-    out.append(b"two turns\n")?;
-    in_turn(rt, alloc, &image, out)?;
-    for _ in 0..10 {
-        command(rt, alloc, &image, "run a.elf --order threads", out)?;
+/// Prints a part, or gives the status of a failure.
+fn print<O: Sink>(out: &mut O, part: Result<Bytes, NoMemory>) -> Result<(), u8> {
+    match part {
+        Ok(text) => put_all(out, text.as_slice()).map_err(|_| 5),
+        Err(NoMemory) => Err(6),
     }
-    command(rt, alloc, &image, "run a.elf", out)?;
-    command(rt, alloc, &image, "run a.elf --events 500", out)
 }
 
-fn answers<R: Threads + Wait + Sync>(rt: &R, alloc: Global) -> Result<Bytes, NoMemory> {
-    let mut out = Bytes::new(alloc);
-    put_drawn(rt, alloc, &mut out)?;
-    put_racing(rt, alloc, &mut out)?;
-    Ok(out)
+/// Four harts go through the gate, driven by a mill alone and by the whole program.
+fn print_drawn<R: Threads + Wait + Sync, O: Sink>(
+    rt: &R,
+    alloc: Global,
+    image: &Image,
+    out: &mut O,
+) -> Result<(), u8>
+    requires typed { IsTyped image.now.program }
+    requires sound { Sound image.now.program }
+{
+    print(out, driven(rt, alloc, image))?;
+    print(out, held(rt, alloc, image, "run a.elf --order threads"))?;
+    print(out, command(rt, alloc, image, "sample 7"))
+}
+
+/// Two harts race, in single turns and in whole runs.
+fn print_racing<R: Threads + Wait + Sync, O: Sink>(
+    rt: &R,
+    alloc: Global,
+    image: &Image,
+    out: &mut O,
+) -> Result<(), u8>
+    requires typed { IsTyped image.now.program }
+    requires sound { Sound image.now.program }
+{
+    print(out, alone(rt, alloc, image))?;
+    print(out, in_turn(rt, alloc, image))?;
+    for _ in 0..10 {
+        print(out, command(rt, alloc, image, "run a.elf --order threads"))?;
+    }
+    print(out, command(rt, alloc, image, "run a.elf"))?;
+    print(out, command(rt, alloc, image, "run a.elf --events 500"))
+}
+
+/// Prints all parts. An image that isn't built has the status of a refused input.
+fn print_all<R: Threads + Wait + Sync, O: Sink>(
+    rt: &R,
+    alloc: Global,
+    out: &mut O,
+) -> Result<(), u8> {
+    let Some(drawn) = image_of(alloc, DRAWN) else {
+        return Err(3);
+    };
+    print_drawn(rt, alloc, &drawn, out)?;
+    let Some(racing) = image_of(alloc, RACING) else {
+        return Err(3);
+    };
+    print_racing(rt, alloc, &racing, out)
 }
 
 fn main(rt: HostRuntime) -> ExitCode {
-    let alloc = rt.alloc();
-    let Ok(text) = answers(&rt, alloc) else {
-        return ExitCode::from(6);
-    };
     let mut out = RealSink::new(rt.stdout());
-    match put_all(&mut out, text.as_slice()) {
+    match print_all(&rt, rt.alloc(), &mut out) {
         Ok(()) => ExitCode::SUCCESS,
-        Err(_) => ExitCode::from(5),
+        Err(status) => ExitCode::from(status),
     }
 }

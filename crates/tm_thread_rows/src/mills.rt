@@ -1,5 +1,5 @@
 // Mills over an image: harts that threads drive, and turns one by one.
-ghost use Rattle.std.specs.Prelude.{IfOk, ◌≤◌};
+ghost use Rattle.std.specs.Prelude.{IfOk};
 ghost use Rattle.tm_plan_cases.specs.Shaped.{IsTyped};
 ghost use Rattle.tm_world.specs.Sound.{Sound};
 ghost use Rattle.tm_harts.specs.Mills.{AreAllOf};
@@ -43,10 +43,10 @@ fn turn_at<'a, R: Wait>(
     requires { AreAllOf mill.now seats.old.items }
     ensures { AreAllOf mill.now seats.new.items }
 {
-    match seats.get_mut(place) {
-        Some(seat) => mill.turn(rt, seat),
-        None => None,
+    if place >= seats.len() {
+        return None;
     }
+    mill.turn(rt, &mut seats[place])
 }
 
 /// How many events the seat at a place is told, if there is one.
@@ -54,81 +54,94 @@ fn told_at<'a>(mill: &Mill<'a>, seats: &mut Vec<Seat<'a>>, place: usize) -> Opti
     requires { AreAllOf mill.now seats.old.items }
     ensures { AreAllOf mill.now seats.new.items }
 {
-    match seats.get_mut(place) {
-        Some(seat) => Some(mill.progress(seat)),
-        None => None,
+    if place >= seats.len() {
+        return None;
     }
+    Some(mill.progress(&mut seats[place]))
 }
 
-/// Whether a turn answered the event at a place of a journal, with this place.
+/// Takes turns of the seat at a place until one of them makes no event. How many made one.
+fn turns_at<'a, R: Wait>(rt: &R, mill: &Mill<'a>, seats: &mut Vec<Seat<'a>>, place: usize) -> u64
+    requires { AreAllOf mill.now seats.old.items }
+    ensures { AreAllOf mill.now seats.new.items }
+{
+    for steps in 0..EVENTS {
+        match turn_at(rt, mill, seats, place) {
+            Some(Turn::Stepped { .. }) => {}
+            _ => return steps,
+        }
+    }
+    EVENTS
+}
+
+/// Whether a turn answered the event at a place of a journal, and this place.
 fn is_event_at(turn: Option<Turn>, journal: &Journal, place: u64) -> bool {
-    place < journal.len()
-        && turn
-            == Some(Turn::Stepped {
-                place,
-                event: journal.at(place),
-            })
+    if place >= journal.len() {
+        return false;
+    }
+    let event = journal.at(place);
+    turn == Some(Turn::Stepped { place, event })
 }
 
-/// Harts that threads drive through a gate come to halt, and each passes the gate before each of its events.
+/// Harts that threads drive through the gate: they come to halt, and each passes the gate for each of its events.
 pub fn driven<R: Threads + Wait + Sync>(
     rt: &R,
     alloc: Global,
     image: &Image,
-    out: &mut Bytes,
-) -> Result<(), NoMemory>
-    requires { IsTyped image.now.program }
+) -> Result<Bytes, NoMemory>
+    requires typed { IsTyped image.now.program }
+    requires sound { Sound image.now.program }
 {
+    let mut out = Bytes::new(alloc);
+    out.append(b"harts that threads drive\n")?;
     let (mill, mut seats) = mill_of(alloc, &image.program)?;
     let gate = HoldingGate::new();
     run_threads(rt, &mill, &mut seats, &gate);
     let guest = mill.close(seats);
-    put_gate(&gate, guest.harts(), guest.journal(), out)?;
-    put_demand(out, "all harts are at halt", guest.all_halted())
+    put_gate(&gate, guest.harts(), guest.journal(), &mut out)?;
+    put_demand(&mut out, "all harts are at halt", guest.all_halted())?;
+    Ok(out)
 }
 
-/// A hart that alone takes turns comes to where it waits for the other one, and then makes no event. What is left is
+/// A hart that takes turns alone comes to where it waits for another one, and then makes no event. What is left is
 /// finished in round order.
-pub fn alone<R: Wait>(rt: &R, alloc: Global, image: &Image, out: &mut Bytes) -> Result<(), NoMemory>
-    requires { IsTyped image.now.program }
+pub fn alone<R: Wait>(rt: &R, alloc: Global, image: &Image) -> Result<Bytes, NoMemory>
+    requires typed { IsTyped image.now.program }
+    requires sound { Sound image.now.program }
 {
+    let mut out = Bytes::new(alloc);
+    out.append(b"turns of one hart alone\n")?;
     let (mill, mut seats) = mill_of(alloc, &image.program)?;
-    let mut steps: u64 = 0;
-    for _ in 0..EVENTS {
-        match turn_at(rt, &mill, &mut seats, 0) {
-            Some(_) => steps += 1,
-            None => break,
-        }
-    }
-    put_demand(
-        out,
-        "hart 0 takes steps, and then waits",
-        steps > 0 && steps < EVENTS,
-    )?;
+    let steps = turns_at(rt, &mill, &mut seats, 0);
     let mut waits = true;
     for _ in 0..1000 {
-        waits = waits && turn_at(rt, &mill, &mut seats, 0).is_none();
+        waits = turn_at(rt, &mill, &mut seats, 0).is_none() && waits;
     }
-    put_demand(out, "each further turn makes no event", waits)?;
     let mut guest = mill.close(seats);
+    put_demand(&mut out, "it makes events", steps > 0)?;
+    put_demand(&mut out, "then it waits, at each further turn", waits)?;
+    let events = guest.journal().len();
     put_demand(
-        out,
-        "the journal has its steps alone",
-        guest.journal().len() == steps,
+        &mut out,
+        "the journal has its events alone",
+        events == steps,
     )?;
     let end = guest.run_round();
-    put_demand(out, "round order comes to an end", end == RoundEnd::Done)
+    put_demand(
+        &mut out,
+        "round order brings all to halt",
+        end == RoundEnd::Done,
+    )?;
+    Ok(out)
 }
 
 /// Two harts that take a turn each make the first two events.
-pub fn in_turn<R: Wait>(
-    rt: &R,
-    alloc: Global,
-    image: &Image,
-    out: &mut Bytes,
-) -> Result<(), NoMemory>
-    requires { IsTyped image.now.program }
+pub fn in_turn<R: Wait>(rt: &R, alloc: Global, image: &Image) -> Result<Bytes, NoMemory>
+    requires typed { IsTyped image.now.program }
+    requires sound { Sound image.now.program }
 {
+    let mut out = Bytes::new(alloc);
+    out.append(b"a turn of each of two harts\n")?;
     let (mill, mut seats) = mill_of(alloc, &image.program)?;
     let first = turn_at(rt, &mill, &mut seats, 0);
     let second = turn_at(rt, &mill, &mut seats, 1);
@@ -136,15 +149,20 @@ pub fn in_turn<R: Wait>(
     let guest = mill.close(seats);
     let journal = guest.journal();
     put_demand(
-        out,
-        "hart 0's turn made event 0",
+        &mut out,
+        "hart 0 makes the event at place 0",
         is_event_at(first, journal, 0),
     )?;
     put_demand(
-        out,
-        "hart 1's turn made event 1",
+        &mut out,
+        "hart 1 makes the event at place 1",
         is_event_at(second, journal, 1),
     )?;
-    put_demand(out, "the seat of hart 0 is told 2 events", told == Some(2))?;
-    put_demand(out, "the journal has 2 events", journal.len() == 2)
+    put_demand(
+        &mut out,
+        "the seat of hart 0 is told of 2 events",
+        told == Some(2),
+    )?;
+    put_demand(&mut out, "the journal has 2 events", journal.len() == 2)?;
+    Ok(out)
 }
