@@ -1,5 +1,5 @@
 // Whole commands, over a desk and sinks in memory.
-use crate::demands::{put_demand, put_gate};
+use crate::demands::{all_passed, none_gave_up, put_demands};
 use crate::gate::HoldingGate;
 use std::alloc::Global;
 use std::sync::Wait;
@@ -10,9 +10,9 @@ use tm_image_build::Image;
 use tm_plan_journal::Journal;
 use tm_top::{Outcome, top};
 
-/// What a command did.
+/// How a command ended, and what it printed and told.
 #[derive(Drop)]
-struct Ended {
+struct CommandEnd {
     outcome: Outcome,
     printed: CalmSink,
     told: CalmSink,
@@ -29,20 +29,20 @@ fn words_of(alloc: Global, line: &str) -> Result<Vec<String>, NoMemory> {
 }
 
 /// Calls the whole program with the words of a line, on a desk that holds the image as `a.elf`.
-fn done<R: Threads + Wait + Sync, G: Gate>(
+fn ended<R: Threads + Wait + Sync, G: Gate>(
     rt: &R,
     alloc: Global,
     image: &Image,
     line: &str,
     gate: &G,
-) -> Result<Ended, NoMemory> {
+) -> Result<CommandEnd, NoMemory> {
     let words = words_of(alloc, line)?;
     let mut desk = MemDesk::new(alloc, List::new(alloc));
     desk.put_file("a.elf", image.file.as_slice())?;
     let mut printed = CalmSink::new(alloc);
     let mut told = CalmSink::new(alloc);
     let outcome = top(rt, alloc, &words, &mut desk, &mut printed, &mut told, gate);
-    Ok(Ended {
+    Ok(CommandEnd {
         outcome,
         printed,
         told,
@@ -50,17 +50,17 @@ fn done<R: Threads + Wait + Sync, G: Gate>(
 }
 
 /// The line of a command, its status, and what it printed and told.
-fn text_of(alloc: Global, line: &str, done: &Ended) -> Result<Bytes, NoMemory> {
+fn text_of(alloc: Global, line: &str, ended: &CommandEnd) -> Result<Bytes, NoMemory> {
     let mut out = Bytes::new(alloc);
     out.append(line.as_bytes())?;
     out.append(b"\nstatus ")?;
-    push_decimal(&mut out, u64::from(done.outcome.status))?;
+    push_decimal(&mut out, u64::from(ended.outcome.status))?;
     out.push(b'\n')?;
-    match &done.outcome.journal {
-        Some(journal) => put_printed(alloc, done.printed.taken(), journal, &mut out)?,
-        None => out.append(done.printed.taken())?,
+    match &ended.outcome.journal {
+        Some(journal) => put_printed(alloc, ended.printed.taken(), journal, &mut out)?,
+        None => out.append(ended.printed.taken())?,
     }
-    out.append(done.told.taken())?;
+    out.append(ended.told.taken())?;
     Ok(out)
 }
 
@@ -92,8 +92,8 @@ pub fn command<R: Threads + Wait + Sync>(
     image: &Image,
     line: &str,
 ) -> Result<Bytes, NoMemory> {
-    let done = done(rt, alloc, image, line, &OpenGate)?;
-    text_of(alloc, line, &done)
+    let ended = ended(rt, alloc, image, line, &OpenGate)?;
+    text_of(alloc, line, &ended)
 }
 
 /// A run by threads through the holding gate, and what is demanded of it.
@@ -104,11 +104,11 @@ pub fn held<R: Threads + Wait + Sync>(
     line: &str,
 ) -> Result<Bytes, NoMemory> {
     let gate = HoldingGate::new();
-    let done = done(rt, alloc, image, line, &gate)?;
-    let mut out = text_of(alloc, line, &done)?;
-    match &done.outcome.journal {
-        Some(journal) => put_gate(&gate, image.program.cases.harts, journal, &mut out)?,
-        None => put_demand(&mut out, "there is a journal", false)?,
+    let ended = ended(rt, alloc, image, line, &gate)?;
+    let mut out = text_of(alloc, line, &ended)?;
+    if let Some(journal) = &ended.outcome.journal {
+        let passed = all_passed(&gate, image.program.cases.harts, journal);
+        put_demands(&mut out, &[none_gave_up(&gate), passed])?;
     }
     Ok(out)
 }

@@ -1,34 +1,47 @@
 // What is demanded, and whether it holds.
 use crate::gate::HoldingGate;
-use tm_base::{Bytes, NoMemory, push_decimal};
+use tm_base::{Bytes, NoMemory};
 use tm_plan_journal::Journal;
 
-/// Appends a line: what is demanded, and whether it holds.
-pub fn put_demand(out: &mut Bytes, what: &str, holds: bool) -> Result<(), NoMemory> {
-    out.append(what.as_bytes())?;
-    out.append(if holds { b": ok\n" } else { b": FAILED\n" })
+/// What is demanded, and whether it holds.
+#[derive(Clone, Copy)]
+pub struct Demand {
+    pub what: &'static str,
+    pub holds: bool,
 }
 
-/// Appends what is demanded of a run through a gate, by its journal: that no hold gave up, and that each hart has
-/// passed the gate at least as often as it has events.
-pub fn put_gate(
-    gate: &HoldingGate,
-    harts: u32,
-    journal: &Journal,
-    out: &mut Bytes,
-) -> Result<(), NoMemory> {
-    put_demand(out, "no hold gave up", !gate.gave_up())?;
-    for hart in 0..harts {
-        let events = events_of(journal, hart);
-        out.append(b"hart ")?;
-        push_decimal(out, u64::from(hart))?;
-        put_demand(
-            out,
-            " has events, and passed the gate for each",
-            events > 0 && gate.passes(hart) >= events,
-        )?;
+/// Appends a line for each demand: `ok` where it holds.
+pub fn put_demands(out: &mut Bytes, demands: &[Demand]) -> Result<(), NoMemory> {
+    for demand in demands {
+        out.append(demand.what.as_bytes())?;
+        out.append(if demand.holds {
+            b": ok\n"
+        } else {
+            b": FAILED\n"
+        })?;
     }
     Ok(())
+}
+
+/// No hold of the gate gave up.
+pub fn none_gave_up(gate: &HoldingGate) -> Demand {
+    Demand {
+        what: "no hold gave up",
+        holds: !gate.gave_up(),
+    }
+}
+
+/// Each hart has events in the journal, and has passed the gate at least as often.
+pub fn all_passed(gate: &HoldingGate, harts: u32, journal: &Journal) -> Demand {
+    let mut holds = true;
+    for hart in 0..harts {
+        let events = events_of(journal, hart);
+        holds = holds && events > 0 && gate.passes(hart) >= events;
+    }
+    Demand {
+        what: "each hart passed the gate at least as often as it has events",
+        holds,
+    }
 }
 
 /// How many events of a journal are of a hart.

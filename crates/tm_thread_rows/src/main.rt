@@ -12,6 +12,7 @@ mod images;
 mod mills;
 
 use commands::{command, held};
+use demands::{Demand, put_demands};
 use images::{DRAWN, RACING, image_of};
 use mills::{alone, driven, in_turn};
 use std::alloc::Global;
@@ -30,6 +31,19 @@ fn print<O: Sink>(out: &mut O, part: Result<Bytes, NoMemory>) -> Result<(), u8> 
     }
 }
 
+/// A part of demands, with its title.
+fn part(
+    alloc: Global,
+    title: &str,
+    demands: Result<[Demand; 4], NoMemory>,
+) -> Result<Bytes, NoMemory> {
+    let demands = demands?;
+    let mut out = Bytes::new(alloc);
+    out.append(title.as_bytes())?;
+    put_demands(&mut out, &demands)?;
+    Ok(out)
+}
+
 /// Four harts go through the gate, driven by a mill alone and by the whole program.
 fn print_drawn<R: Threads + Wait + Sync, O: Sink>(
     rt: &R,
@@ -40,7 +54,8 @@ fn print_drawn<R: Threads + Wait + Sync, O: Sink>(
     requires typed { IsTyped image.now.program }
     requires sound { Sound image.now.program }
 {
-    print(out, driven(rt, alloc, image))?;
+    let drive = driven(rt, alloc, &image.program);
+    print(out, part(alloc, "harts that threads drive\n", drive))?;
     print(out, held(rt, alloc, image, "run a.elf --order threads"))?;
     print(out, command(rt, alloc, image, "sample 7"))
 }
@@ -55,8 +70,10 @@ fn print_racing<R: Threads + Wait + Sync, O: Sink>(
     requires typed { IsTyped image.now.program }
     requires sound { Sound image.now.program }
 {
-    print(out, alone(rt, alloc, image))?;
-    print(out, in_turn(rt, alloc, image))?;
+    let one = alone(rt, alloc, &image.program);
+    print(out, part(alloc, "turns of one hart alone\n", one))?;
+    let two = in_turn(rt, alloc, &image.program);
+    print(out, part(alloc, "a turn of each of two harts\n", two))?;
     for _ in 0..10 {
         print(out, command(rt, alloc, image, "run a.elf --order threads"))?;
     }

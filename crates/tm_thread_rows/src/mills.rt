@@ -4,15 +4,14 @@ ghost use Rattle.tm_plan_cases.specs.Shaped.{IsTyped};
 ghost use Rattle.tm_world.specs.Sound.{Sound};
 ghost use Rattle.tm_harts.specs.Mills.{AreAllOf};
 
-use crate::demands::{put_demand, put_gate};
+use crate::demands::{Demand, all_passed, none_gave_up};
 use crate::gate::HoldingGate;
 use std::alloc::Global;
 use std::sync::Wait;
 use std::thread::Threads;
-use tm_base::{Bytes, NoMemory};
+use tm_base::NoMemory;
 use tm_guest::{Guest, RoundEnd, Turn};
 use tm_harts::{Mill, Seat, run_threads};
-use tm_image_build::Image;
 use tm_plan_cases::Program;
 use tm_plan_journal::Journal;
 use tm_plan_script::Faults;
@@ -87,82 +86,95 @@ fn is_event_at(turn: Option<Turn>, journal: &Journal, place: u64) -> bool {
 pub fn driven<R: Threads + Wait + Sync>(
     rt: &R,
     alloc: Global,
-    image: &Image,
-) -> Result<Bytes, NoMemory>
-    requires typed { IsTyped image.now.program }
-    requires sound { Sound image.now.program }
+    program: &Program,
+) -> Result<[Demand; 4], NoMemory>
+    requires typed { IsTyped program.now }
+    requires sound { Sound program.now }
 {
-    let mut out = Bytes::new(alloc);
-    out.append(b"harts that threads drive\n")?;
-    let (mill, mut seats) = mill_of(alloc, &image.program)?;
+    let (mill, mut seats) = mill_of(alloc, program)?;
     let gate = HoldingGate::new();
     run_threads(rt, &mill, &mut seats, &gate);
-    let guest = mill.close(seats);
-    put_gate(&gate, guest.harts(), guest.journal(), &mut out)?;
-    put_demand(&mut out, "all harts are at halt", guest.all_halted())?;
-    Ok(out)
+    let mut guest = mill.close(seats);
+    let passed = all_passed(&gate, guest.harts(), guest.journal());
+    let halted = guest.all_halted();
+    let events = guest.journal().len();
+    let _ = guest.run_round();
+    Ok([
+        none_gave_up(&gate),
+        passed,
+        Demand {
+            what: "all harts are at halt",
+            holds: halted,
+        },
+        Demand {
+            what: "nothing is left to round order",
+            holds: guest.journal().len() == events,
+        },
+    ])
 }
 
 /// A hart that takes turns alone comes to where it waits for another one, and then makes no event. What is left is
 /// finished in round order.
-pub fn alone<R: Wait>(rt: &R, alloc: Global, image: &Image) -> Result<Bytes, NoMemory>
-    requires typed { IsTyped image.now.program }
-    requires sound { Sound image.now.program }
+pub fn alone<R: Wait>(rt: &R, alloc: Global, program: &Program) -> Result<[Demand; 4], NoMemory>
+    requires typed { IsTyped program.now }
+    requires sound { Sound program.now }
 {
-    let mut out = Bytes::new(alloc);
-    out.append(b"turns of one hart alone\n")?;
-    let (mill, mut seats) = mill_of(alloc, &image.program)?;
+    let (mill, mut seats) = mill_of(alloc, program)?;
     let steps = turns_at(rt, &mill, &mut seats, 0);
     let mut waits = true;
     for _ in 0..1000 {
         waits = turn_at(rt, &mill, &mut seats, 0).is_none() && waits;
     }
     let mut guest = mill.close(seats);
-    put_demand(&mut out, "it makes events", steps > 0)?;
-    put_demand(&mut out, "then it waits, at each further turn", waits)?;
     let events = guest.journal().len();
-    put_demand(
-        &mut out,
-        "the journal has its events alone",
-        events == steps,
-    )?;
     let end = guest.run_round();
-    put_demand(
-        &mut out,
-        "round order brings all to halt",
-        end == RoundEnd::Done,
-    )?;
-    Ok(out)
+    Ok([
+        Demand {
+            what: "it makes events",
+            holds: steps > 0,
+        },
+        Demand {
+            what: "then each further turn answers nothing",
+            holds: waits,
+        },
+        Demand {
+            what: "the journal has its events alone",
+            holds: events == steps,
+        },
+        Demand {
+            what: "round order brings all harts to halt",
+            holds: end == RoundEnd::Done,
+        },
+    ])
 }
 
 /// Two harts that take a turn each make the first two events.
-pub fn in_turn<R: Wait>(rt: &R, alloc: Global, image: &Image) -> Result<Bytes, NoMemory>
-    requires typed { IsTyped image.now.program }
-    requires sound { Sound image.now.program }
+pub fn in_turn<R: Wait>(rt: &R, alloc: Global, program: &Program) -> Result<[Demand; 4], NoMemory>
+    requires typed { IsTyped program.now }
+    requires sound { Sound program.now }
 {
-    let mut out = Bytes::new(alloc);
-    out.append(b"a turn of each of two harts\n")?;
-    let (mill, mut seats) = mill_of(alloc, &image.program)?;
+    let (mill, mut seats) = mill_of(alloc, program)?;
     let first = turn_at(rt, &mill, &mut seats, 0);
     let second = turn_at(rt, &mill, &mut seats, 1);
     let told = told_at(&mill, &mut seats, 0);
     let guest = mill.close(seats);
     let journal = guest.journal();
-    put_demand(
-        &mut out,
-        "hart 0 makes the event at place 0",
-        is_event_at(first, journal, 0),
-    )?;
-    put_demand(
-        &mut out,
-        "hart 1 makes the event at place 1",
-        is_event_at(second, journal, 1),
-    )?;
-    put_demand(
-        &mut out,
-        "the seat of hart 0 is told of 2 events",
-        told == Some(2),
-    )?;
-    put_demand(&mut out, "the journal has 2 events", journal.len() == 2)?;
-    Ok(out)
+    Ok([
+        Demand {
+            what: "hart 0 makes the event at place 0",
+            holds: is_event_at(first, journal, 0),
+        },
+        Demand {
+            what: "hart 1 makes the event at place 1",
+            holds: is_event_at(second, journal, 1),
+        },
+        Demand {
+            what: "the seat of hart 0 is told of 2 events",
+            holds: told == Some(2),
+        },
+        Demand {
+            what: "the journal has 2 events",
+            holds: journal.len() == 2,
+        },
+    ])
 }
