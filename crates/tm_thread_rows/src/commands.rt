@@ -1,5 +1,5 @@
 // Whole commands, over a desk and sinks in memory.
-use crate::demands::{all_passed, none_gave_up, put_demands};
+use crate::demands::{ALL_PASSED, NONE_GAVE_UP, all_passed, put_demands};
 use crate::gate::HoldingGate;
 use std::alloc::Global;
 use std::sync::Wait;
@@ -108,7 +108,8 @@ pub fn held<R: Threads + Wait + Sync>(
     let mut out = text_of(alloc, line, &ended)?;
     if let Some(journal) = &ended.outcome.journal {
         let passed = all_passed(&gate, image.program.cases.harts, journal);
-        put_demands(&mut out, &[none_gave_up(&gate), passed])?;
+        let hold = [!gate.gave_up(), passed];
+        put_demands(&mut out, &[NONE_GAVE_UP, ALL_PASSED], &hold)?;
     }
     Ok(out)
 }

@@ -3,45 +3,28 @@ use crate::gate::HoldingGate;
 use tm_base::{Bytes, NoMemory};
 use tm_plan_journal::Journal;
 
-/// What is demanded, and whether it holds.
-#[derive(Clone, Copy)]
-pub struct Demand {
-    pub what: &'static str,
-    pub holds: bool,
-}
+/// What is demanded of each run through the gate.
+pub const NONE_GAVE_UP: &str = "no hold gave up";
+
+pub const ALL_PASSED: &str = "each hart passed the gate at least as often as it has events";
 
 /// Appends a line for each demand: `ok` where it holds.
-pub fn put_demands(out: &mut Bytes, demands: &[Demand]) -> Result<(), NoMemory> {
-    for demand in demands {
-        out.append(demand.what.as_bytes())?;
-        out.append(if demand.holds {
-            b": ok\n"
-        } else {
-            b": FAILED\n"
-        })?;
+pub fn put_demands(out: &mut Bytes, demands: &[&str], hold: &[bool]) -> Result<(), NoMemory> {
+    for (demand, holds) in demands.iter().zip(hold) {
+        out.append(demand.as_bytes())?;
+        out.append(if *holds { b": ok\n" } else { b": FAILED\n" })?;
     }
     Ok(())
 }
 
-/// No hold of the gate gave up.
-pub fn none_gave_up(gate: &HoldingGate) -> Demand {
-    Demand {
-        what: "no hold gave up",
-        holds: !gate.gave_up(),
-    }
-}
-
-/// Each hart has events in the journal, and has passed the gate at least as often.
-pub fn all_passed(gate: &HoldingGate, harts: u32, journal: &Journal) -> Demand {
+/// Whether each hart has events in the journal, and has passed the gate at least as often.
+pub fn all_passed(gate: &HoldingGate, harts: u32, journal: &Journal) -> bool {
     let mut holds = true;
     for hart in 0..harts {
         let events = events_of(journal, hart);
         holds = holds && events > 0 && gate.passes(hart) >= events;
     }
-    Demand {
-        what: "each hart passed the gate at least as often as it has events",
-        holds,
-    }
+    holds
 }
 
 /// How many events of a journal are of a hart.

@@ -12,9 +12,9 @@ mod images;
 mod mills;
 
 use commands::{command, held};
-use demands::{Demand, put_demands};
+use demands::put_demands;
 use images::{DRAWN, RACING, image_of};
-use mills::{alone, driven, in_turn};
+use mills::{ALONE, DRIVEN, IN_TURN, alone, driven, in_turn};
 use std::alloc::Global;
 use std::process::ExitCode;
 use std::sync::Wait;
@@ -31,16 +31,17 @@ fn print<O: Sink>(out: &mut O, part: Result<Bytes, NoMemory>) -> Result<(), u8> 
     }
 }
 
-/// A part of demands, with its title.
+/// The title of some demands, and whether they hold.
 fn part(
     alloc: Global,
     title: &str,
-    demands: Result<[Demand; 4], NoMemory>,
+    demands: &[&str; 4],
+    hold: Result<[bool; 4], NoMemory>,
 ) -> Result<Bytes, NoMemory> {
-    let demands = demands?;
+    let hold = hold?;
     let mut out = Bytes::new(alloc);
     out.append(title.as_bytes())?;
-    put_demands(&mut out, &demands)?;
+    put_demands(&mut out, demands, &hold)?;
     Ok(out)
 }
 
@@ -55,7 +56,10 @@ fn print_drawn<R: Threads + Wait + Sync, O: Sink>(
     requires sound { Sound image.now.program }
 {
     let drive = driven(rt, alloc, &image.program);
-    print(out, part(alloc, "harts that threads drive\n", drive))?;
+    print(
+        out,
+        part(alloc, "harts that threads drive\n", &DRIVEN, drive),
+    )?;
     print(out, held(rt, alloc, image, "run a.elf --order threads"))?;
     print(out, command(rt, alloc, image, "sample 7"))
 }
@@ -71,9 +75,12 @@ fn print_racing<R: Threads + Wait + Sync, O: Sink>(
     requires sound { Sound image.now.program }
 {
     let one = alone(rt, alloc, &image.program);
-    print(out, part(alloc, "turns of one hart alone\n", one))?;
+    print(out, part(alloc, "turns of one hart alone\n", &ALONE, one))?;
     let two = in_turn(rt, alloc, &image.program);
-    print(out, part(alloc, "a turn of each of two harts\n", two))?;
+    print(
+        out,
+        part(alloc, "a turn of each of two harts\n", &IN_TURN, two),
+    )?;
     for _ in 0..10 {
         print(out, command(rt, alloc, image, "run a.elf --order threads"))?;
     }

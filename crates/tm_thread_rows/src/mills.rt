@@ -4,7 +4,7 @@ ghost use Rattle.tm_plan_cases.specs.Shaped.{IsTyped};
 ghost use Rattle.tm_world.specs.Sound.{Sound};
 ghost use Rattle.tm_harts.specs.Mills.{AreAllOf};
 
-use crate::demands::{Demand, all_passed, none_gave_up};
+use crate::demands::{ALL_PASSED, NONE_GAVE_UP, all_passed};
 use crate::gate::HoldingGate;
 use std::alloc::Global;
 use std::sync::Wait;
@@ -82,12 +82,20 @@ fn is_event_at(turn: Option<Turn>, journal: &Journal, place: u64) -> bool {
     turn == Some(Turn::Stepped { place, event })
 }
 
+/// What `driven` answers.
+pub const DRIVEN: [&str; 4] = [
+    NONE_GAVE_UP,
+    ALL_PASSED,
+    "all harts are at halt",
+    "nothing is left to round order",
+];
+
 /// Harts that threads drive through the gate: they come to halt, and each passes the gate for each of its events.
 pub fn driven<R: Threads + Wait + Sync>(
     rt: &R,
     alloc: Global,
     program: &Program,
-) -> Result<[Demand; 4], NoMemory>
+) -> Result<[bool; 4], NoMemory>
     requires typed { IsTyped program.now }
     requires sound { Sound program.now }
 {
@@ -100,22 +108,24 @@ pub fn driven<R: Threads + Wait + Sync>(
     let events = guest.journal().len();
     let _ = guest.run_round();
     Ok([
-        none_gave_up(&gate),
+        !gate.gave_up(),
         passed,
-        Demand {
-            what: "all harts are at halt",
-            holds: halted,
-        },
-        Demand {
-            what: "nothing is left to round order",
-            holds: guest.journal().len() == events,
-        },
+        halted,
+        guest.journal().len() == events,
     ])
 }
 
+/// What `alone` answers.
+pub const ALONE: [&str; 4] = [
+    "it makes events",
+    "then each further turn answers nothing",
+    "the journal has its events alone",
+    "round order brings all harts to halt",
+];
+
 /// A hart that takes turns alone comes to where it waits for another one, and then makes no event. What is left is
 /// finished in round order.
-pub fn alone<R: Wait>(rt: &R, alloc: Global, program: &Program) -> Result<[Demand; 4], NoMemory>
+pub fn alone<R: Wait>(rt: &R, alloc: Global, program: &Program) -> Result<[bool; 4], NoMemory>
     requires typed { IsTyped program.now }
     requires sound { Sound program.now }
 {
@@ -128,28 +138,19 @@ pub fn alone<R: Wait>(rt: &R, alloc: Global, program: &Program) -> Result<[Deman
     let mut guest = mill.close(seats);
     let events = guest.journal().len();
     let end = guest.run_round();
-    Ok([
-        Demand {
-            what: "it makes events",
-            holds: steps > 0,
-        },
-        Demand {
-            what: "then each further turn answers nothing",
-            holds: waits,
-        },
-        Demand {
-            what: "the journal has its events alone",
-            holds: events == steps,
-        },
-        Demand {
-            what: "round order brings all harts to halt",
-            holds: end == RoundEnd::Done,
-        },
-    ])
+    Ok([steps > 0, waits, events == steps, end == RoundEnd::Done])
 }
 
+/// What `in_turn` answers.
+pub const IN_TURN: [&str; 4] = [
+    "hart 0 makes the event at place 0",
+    "hart 1 makes the event at place 1",
+    "the seat of hart 0 is told of 2 events",
+    "the journal has 2 events",
+];
+
 /// Two harts that take a turn each make the first two events.
-pub fn in_turn<R: Wait>(rt: &R, alloc: Global, program: &Program) -> Result<[Demand; 4], NoMemory>
+pub fn in_turn<R: Wait>(rt: &R, alloc: Global, program: &Program) -> Result<[bool; 4], NoMemory>
     requires typed { IsTyped program.now }
     requires sound { Sound program.now }
 {
@@ -160,21 +161,9 @@ pub fn in_turn<R: Wait>(rt: &R, alloc: Global, program: &Program) -> Result<[Dem
     let guest = mill.close(seats);
     let journal = guest.journal();
     Ok([
-        Demand {
-            what: "hart 0 makes the event at place 0",
-            holds: is_event_at(first, journal, 0),
-        },
-        Demand {
-            what: "hart 1 makes the event at place 1",
-            holds: is_event_at(second, journal, 1),
-        },
-        Demand {
-            what: "the seat of hart 0 is told of 2 events",
-            holds: told == Some(2),
-        },
-        Demand {
-            what: "the journal has 2 events",
-            holds: journal.len() == 2,
-        },
+        is_event_at(first, journal, 0),
+        is_event_at(second, journal, 1),
+        told == Some(2),
+        journal.len() == 2,
     ])
 }
