@@ -8,11 +8,11 @@ use std::io::{self, ErrorKind};
 use visits::come_by;
 
 fn main(rt: HostRuntime) -> io::Result<()> {
-    let Ok((most, numbers)) = come_by(&rt, rt.alloc()) else {
+    let Ok(came) = come_by(&rt, rt.alloc()) else {
         return Err(ErrorKind::OutOfMemory.into());
     };
-    println!(rt; "greatest count: {most}")?;
-    for number in numbers {
+    println!(rt; "greatest count: {}", came.most)?;
+    for number in came.numbers.as_slice() {
         println!(rt; "seat {number} came by")?;
     }
     Ok(())

@@ -101,11 +101,15 @@ fn share<X: Sync>(_shared: &X) {}
 
 fn send<X: Send>(_sent: &X) {}
 
-/// Three threads come by: the greatest count that they read, and the numbers of their seats in order.
-pub fn come_by<R: Threads + Wait + Sync>(
-    rt: &R,
-    alloc: Global,
-) -> Result<(u64, [u32; 3]), NoMemory> {
+/// The greatest count that was read, and the numbers of the seats that came by, in order.
+#[derive(Drop)]
+pub struct Came {
+    pub most: u64,
+    pub numbers: [u32; 3],
+}
+
+/// Three threads come by.
+pub fn come_by<R: Threads + Wait + Sync>(rt: &R, alloc: Global) -> Result<Came, NoMemory> {
     let visits = Visits {
         numbers: [0; 3],
         count: 0,
@@ -116,5 +120,9 @@ pub fn come_by<R: Threads + Wait + Sync>(
     visit_by_threads(rt, &line, seats.as_mut_slice(), &most);
     let mut visits = line.close(seats);
     visits.numbers.as_mut_slice().sort_unstable();
-    Ok((most.load(Ordering::SeqCst), visits.numbers))
+    let numbers = visits.numbers;
+    Ok(Came {
+        most: most.load(Ordering::SeqCst),
+        numbers,
+    })
 }
