@@ -1,5 +1,5 @@
 // The guest under the lock.
-ghost use Rattle.std.specs.Prelude.{◌≡◌, ◌↔◌, ◌<◌, ◌^◌, [], IsTrue};
+ghost use Rattle.std.specs.Prelude.{◌≤◌, ◌≡◌, ◌↔◌, ◌<◌, ◌^◌, [], IsTrue};
 ghost use Rattle.tm_world.specs.Place.{harts};
 ghost use Rattle.tm_world_script.specs.Script.{FaultedRun};
 ghost use Rattle.tm_guest.specs.Guested.{run};
