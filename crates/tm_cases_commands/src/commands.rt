@@ -9,11 +9,7 @@ use tm_top::still;
 
 /// A command, `OPTIONS: WORDS`, over the held files: `desk=`, `out=` and `err=` have the numbers of the calls that
 /// fail, `most=` how many bytes a put takes.
-pub fn command(
-    state: &State,
-    rest: &str,
-    out: &mut Bytes,
-) -> Result<(), NoMemory> {
+pub fn command(state: &State, rest: &str, out: &mut Bytes) -> Result<(), NoMemory> {
     let (options, words) = rest.split_once(": ").unwrap_or(("", rest));
     let words = command_words(state, words)?;
     let mut desk = state.desk(options)?;
@@ -61,11 +57,7 @@ fn put_call(
 }
 
 /// The image of two texts by name and a seed is put under a name: `NAME TOPOLOGY TEMPLATE SEED`.
-pub fn image(
-    state: &mut State,
-    rest: &str,
-    out: &mut Bytes,
-) -> Result<(), NoMemory> {
+pub fn image(state: &mut State, rest: &str, out: &mut Bytes) -> Result<(), NoMemory> {
     let [name, topology, template, seed, ..] = words_of(rest);
     let alloc = state.alloc;
     let mut desk = State::new(alloc).desk("")?;
