@@ -1,8 +1,11 @@
-//! Answers cases of race tracking: what of a test is checked.
+//! Answers cases of tests: what of them is checked, and how much work they ask for.
 #![tactic(auto)]
 
+mod bounds;
+mod drawn;
 mod races;
 
+use bounds::bounds;
 use races::race;
 use std::process::ExitCode;
 use std::rt::HostRuntime;
@@ -21,6 +24,7 @@ impl Kinds for RaceCases {
     ) -> Result<(), NoMemory> {
         match kind {
             "race" => race(state, rest, out),
+            "work" => bounds(state, rest, out),
             _ => out.append(b"no such kind"),
         }
     }
