@@ -30,5 +30,5 @@ impl Kinds for CommandCases {
 }
 
 fn main(rt: HostRuntime) -> ExitCode {
-    answer_files(rt, &["texts", "commands", "runs"], &CommandCases)
+    answer_files(rt, &["texts", "commands", "runs", "tests"], &CommandCases)
 }

@@ -1,7 +1,11 @@
 // What a command did: its status, what its sinks took, and the files afterwards.
-use tm_base::{Bytes, NoMemory, push_decimal};
+use sha2::{Digest, Sha256};
+use tm_base::{Bytes, NoMemory, push_decimal, push_hex};
 use tm_cases_book::{Book, Entry, State, put_text};
 use tm_desk::{Desk, MemDesk};
+
+/// No longer text is shown as it is.
+const LONGEST_SHOWN: usize = 4096;
 
 /// What a desk holds under a name, also where its next calls are ones that fail.
 pub fn held(desk: &mut MemDesk, name: &str) -> Option<Bytes> {
@@ -79,11 +83,19 @@ fn put_file(texts: &Book, name: &str, file: &[u8], out: &mut Bytes) -> Result<()
     out.append(b" bytes")
 }
 
-/// Appends what a sink took, if it took something.
+/// Appends what a sink took, if it took something; of a long text its length and its digest.
 pub fn put_taken(name: &[u8], taken: &[u8], out: &mut Bytes) -> Result<(), NoMemory> {
     if taken.is_empty() {
         return Ok(());
     }
     out.append(name)?;
-    put_text(out, taken)
+    if taken.len() <= LONGEST_SHOWN {
+        return put_text(out, taken);
+    }
+    push_decimal(out, taken.len() as u64)?;
+    out.append(b" bytes of SHA-256 ")?;
+    for byte in Sha256::digest(taken) {
+        push_hex(out, u64::from(byte), 2)?;
+    }
+    Ok(())
 }
