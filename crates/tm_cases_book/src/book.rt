@@ -1,5 +1,10 @@
 // Texts by name, and the form in which a file of cases writes bytes.
+ghost use Rattle.std.specs.Prelude.{◌≡◌, ◌+◌, ◌≤◌, List, [], length};
+ghost use Rattle.tm_cases_book.specs.Texts.{text_of};
+ghost use Rattle.tm_cases_book.specs.declared.book.Entry.{Entry as Held};
+
 use std::alloc::Global;
+use std::marker::Model;
 use tm_base::{Bytes, Name, NoMemory};
 
 /// A text and its name.
@@ -16,6 +21,12 @@ pub struct Book {
     entries: Vec<Entry>,
 }
 
+impl Model for Book {
+    ghost Value = { List Held };
+
+    ghost view = { λ b. b.entries.items };
+}
+
 /// Where the reading of a text stands: in plain bytes, behind a backslash, before the first or the second digit of a
 /// byte, or in a name whose bracket stands at a place.
 #[derive(Clone, Copy)]
@@ -28,7 +39,9 @@ enum Part {
 }
 
 impl Book {
-    pub fn new(alloc: Global) -> Self {
+    pub fn new(alloc: Global) -> Self
+        ensures { result ≡ [] }
+    {
         Book {
             alloc,
             entries: Vec::new(alloc),
@@ -36,7 +49,9 @@ impl Book {
     }
 
     /// Puts a text under a name, in place of the one that had it.
-    pub fn put(&mut self, name: &str, text: Bytes) -> Result<(), NoMemory> {
+    pub fn put(&mut self, name: &str, text: Bytes) -> Result<(), NoMemory>
+        ensures { length self.new ≤ length self.old + 1 }
+    {
         let at = self.place(name);
         if at < self.entries.len() {
             self.entries[at].text = text;
@@ -58,19 +73,17 @@ impl Book {
         usize::MAX
     }
 
-    pub fn entries(&self) -> &[Entry] {
+    pub fn entries(&self) -> &[Entry]
+        ensures { result.now ≡ self.now }
+    {
         self.entries.as_slice()
     }
 
     /// The text of a name, empty where there is none.
-    pub fn find(&self, name: &str) -> &[u8] {
-        let mut found: &[u8] = b"";
-        for entry in self.entries.as_slice() {
-            if entry.name.as_str() == name {
-                found = entry.text.as_slice();
-            }
-        }
-        found
+    pub fn find(&self, name: &str) -> &[u8]
+        ensures { result.now ≡ text_of self.now name.now }
+    {
+        find_in(self.entries.as_slice(), name)
     }
 
     /// The bytes that a text writes.
@@ -108,6 +121,19 @@ impl Book {
                 Ok(Part::Plain)
             }
         }
+    }
+}
+
+fn find_in<'a>(entries: &'a [Entry], name: &str) -> &'a [u8]
+    ensures { result.now ≡ text_of entries.now name.now }
+{
+    let [first, rest @ ..] = entries else {
+        return b"";
+    };
+    if first.name.as_str() == name {
+        first.text.as_slice()
+    } else {
+        find_in(rest, name)
     }
 }
 

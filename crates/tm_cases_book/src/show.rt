@@ -1,37 +1,48 @@
 // How answers are written.
+ghost use Rattle.std.specs.Prelude.{◌≡◌, ◌++◌, IfOk, OnOk};
+ghost use Rattle.std.specs.String.{string_bytes};
+ghost use Rattle.tm_cases_book.specs.Texts.{pos_text, shown, shown_byte};
+
 use std::alloc::AllocError;
-use tm_base::{Bytes, NoMemory, Pos, push_decimal};
+use tm_base::{Bytes, NoMemory, Pos, push_decimal, push_hex};
 
 /// Appends bytes in the form of a file of cases.
-pub fn put_text(out: &mut Bytes, bytes: &[u8]) -> Result<(), NoMemory> {
+#[tactic(auto, unfolding(crate::specs::Texts::shown))]
+pub fn put_text(out: &mut Bytes, bytes: &[u8]) -> Result<(), NoMemory>
+    ensures { OnOk result (out.new ≡ out.old ++ shown bytes.now) }
+{
     for byte in bytes {
-        match *byte {
-            b'\n' => out.append(b"\\n")?,
-            b'\t' => out.append(b"\\t")?,
-            b'\r' => out.append(b"\\r")?,
-            b'\\' => out.append(b"\\\\")?,
-            0x20..=0x7E => out.push(*byte)?,
-            _ => put_byte(out, *byte)?,
-        }
+        put_byte(out, *byte)?;
     }
     Ok(())
 }
 
-fn put_byte(out: &mut Bytes, byte: u8) -> Result<(), NoMemory> {
-    out.append(b"\\x")?;
-    out.push(digit(byte >> 4))?;
-    out.push(digit(byte & 15))
-}
-
-fn digit(value: u8) -> u8 {
-    match value {
-        0..=9 => b'0' + value,
-        _ => b'a' + (value & 15) - 10,
+fn put_byte(out: &mut Bytes, byte: u8) -> Result<(), NoMemory>
+    ensures { OnOk result (out.new ≡ out.old ++ shown_byte byte) }
+{
+    if byte == b'\n' {
+        return out.append(b"\\n");
     }
+    if byte == b'\t' {
+        return out.append(b"\\t");
+    }
+    if byte == b'\r' {
+        return out.append(b"\\r");
+    }
+    if byte == b'\\' {
+        return out.append(b"\\\\");
+    }
+    if 0x20 <= byte && byte <= 0x7E {
+        return out.push(byte);
+    }
+    out.append(b"\\x")?;
+    push_hex(out, u64::from(byte), 2)
 }
 
 /// Appends what was formatted.
-pub fn put(out: &mut Bytes, text: Result<String, AllocError>) -> Result<(), NoMemory> {
+pub fn put(out: &mut Bytes, text: Result<String, AllocError>) -> Result<(), NoMemory>
+    ensures { OnOk result (IfOk text (λ s. out.new ≡ out.old ++ string_bytes s)) }
+{
     match text {
         Ok(text) => out.append(text.as_bytes()),
         Err(_) => Err(NoMemory),
@@ -39,7 +50,10 @@ pub fn put(out: &mut Bytes, text: Result<String, AllocError>) -> Result<(), NoMe
 }
 
 /// Appends a place as `LINE:COL`.
-pub fn put_pos(out: &mut Bytes, pos: Pos) -> Result<(), NoMemory> {
+#[tactic(auto, unfolding(crate::specs::Texts::pos_text))]
+pub fn put_pos(out: &mut Bytes, pos: Pos) -> Result<(), NoMemory>
+    ensures { OnOk result (out.new ≡ out.old ++ pos_text pos) }
+{
     push_decimal(out, u64::from(pos.line))?;
     out.push(b':')?;
     push_decimal(out, u64::from(pos.col))

@@ -1,4 +1,7 @@
 // How the words of a line are read.
+ghost use Rattle.std.specs.Prelude.{◌≡◌};
+ghost use Rattle.tm_cases_book.specs.Texts.{number_in, small_in};
+
 use std::alloc::Global;
 use tm_base::{List, NoMemory, read_number};
 
@@ -14,13 +17,22 @@ pub fn words_of(line: &str) -> [&str; 8] {
 }
 
 /// The number of a word, 0 where it isn't one.
-pub fn number(word: &str) -> u64 {
+pub fn number(word: &str) -> u64
+    ensures { result ≡ number_in word.now }
+{
     read_number(word.as_bytes()).unwrap_or(0)
 }
 
 /// The number of a word below 2^32, 0 where it isn't one.
-pub fn small(word: &str) -> u32 {
-    u32::try_from(number(word)).unwrap_or(0)
+pub fn small(word: &str) -> u32
+    ensures { result ≡ small_in word.now }
+{
+    let value = number(word);
+    if value < 0x1_0000_0000 {
+        value as u32
+    } else {
+        0
+    }
 }
 
 /// The numbers behind an option such as `desk=1,2`, none where it isn't there.
