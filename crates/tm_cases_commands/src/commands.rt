@@ -19,15 +19,23 @@ pub fn command(state: &State, rest: &str, out: &mut Bytes) -> Result<(), NoMemor
 
 /// The words between blanks.
 fn command_words(state: &State, words: &str) -> Result<Vec<String>, NoMemory> {
-    let alloc = state.alloc;
-    let mut list = Vec::new(alloc);
+    let mut list = Vec::new(state.alloc);
     for word in words.split(' ') {
-        let bytes = state.texts.read(word)?;
-        let word = str::from_utf8(bytes.as_slice()).unwrap_or("");
-        let word = String::from_str(alloc, word).map_err(|_| NoMemory)?;
-        list.push(word).map_err(|_| NoMemory)?;
+        let word = word_of(state, word)?;
+        if list.push(word).is_err() {
+            return Err(NoMemory);
+        }
     }
     Ok(list)
+}
+
+fn word_of(state: &State, word: &str) -> Result<String, NoMemory> {
+    let bytes = state.texts.read(word)?;
+    let word = str::from_utf8(bytes.as_slice()).unwrap_or("");
+    match String::from_str(state.alloc, word) {
+        Ok(word) => Ok(word),
+        Err(_) => Err(NoMemory),
+    }
 }
 
 fn most_of(options: &str) -> u64 {
@@ -35,6 +43,18 @@ fn most_of(options: &str) -> u64 {
         0 => 0x10_0000,
         most => u64::from(most),
     }
+}
+
+/// Calls `still`: its status, and whether it answered a journal.
+fn called(
+    alloc: Global,
+    words: &[String],
+    desk: &mut MemDesk,
+    printed: &mut MemSink,
+    told: &mut MemSink,
+) -> (u8, bool) {
+    let outcome = still(alloc, words, desk, printed, told);
+    (outcome.status, outcome.journal.is_some())
 }
 
 fn put_call(
@@ -47,9 +67,9 @@ fn put_call(
     let most = most_of(options).max(1);
     let mut printed = MemSink::new(alloc, most, calls(alloc, options, "out")?);
     let mut told = MemSink::new(alloc, most, calls(alloc, options, "err")?);
-    let outcome = still(alloc, words, desk, &mut printed, &mut told);
-    push_decimal(out, u64::from(outcome.status))?;
-    if outcome.journal.is_some() {
+    let (status, has_journal) = called(alloc, words, desk, &mut printed, &mut told);
+    push_decimal(out, u64::from(status))?;
+    if has_journal {
         out.append(b", a journal")?;
     }
     put_taken(b", output ", printed.taken(), out)?;
@@ -63,7 +83,9 @@ pub fn image(state: &mut State, rest: &str, out: &mut Bytes) -> Result<(), NoMem
     let mut desk = State::new(alloc).desk("")?;
     desk.put_file("a.toml", state.texts.find(topology))?;
     desk.put_file("a.tm", state.texts.find(template))?;
-    let line = format!(in alloc; "build a.toml a.tm a.elf --seed {seed}").map_err(|_| NoMemory)?;
+    let Ok(line) = format!(in alloc; "build a.toml a.tm a.elf --seed {seed}") else {
+        return Err(NoMemory);
+    };
     let words = command_words(state, line.as_str())?;
     put_call(alloc, "", words.as_slice(), &mut desk, out)?;
     match held(&mut desk, "a.elf") {
