@@ -2,7 +2,6 @@
 #![tactic(auto)]
 
 mod commands;
-mod outcomes;
 
 use commands::{command, image, slice};
 use std::process::ExitCode;

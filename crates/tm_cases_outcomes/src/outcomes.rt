@@ -1,4 +1,6 @@
-// What a command did: its status, what its sinks took, and the files afterwards.
+// What a command did: what its sinks took, and the files afterwards.
+ghost use Rattle.std.specs.Prelude.{◌≡◌, ◌≤◌, [], length, IfSome};
+
 use sha2::{Digest, Sha256};
 use tm_base::{Bytes, NoMemory, push_decimal, push_hex};
 use tm_cases_book::{Book, Entry, State, put_text};
@@ -8,7 +10,9 @@ use tm_desk::{Desk, MemDesk};
 const LONGEST_SHOWN: usize = 4096;
 
 /// What a desk holds under a name, also where its next calls are ones that fail.
-pub fn held(desk: &mut MemDesk, name: &str) -> Option<Bytes> {
+pub fn held(desk: &mut MemDesk, name: &str) -> Option<Bytes>
+    ensures { IfSome result (λ file. length file ≤ 33554432) }
+{
     for _ in 0..4 {
         if let Ok(file) = desk.read(name, 0x200_0000) {
             return Some(file);
@@ -84,7 +88,9 @@ fn put_file(texts: &Book, name: &str, file: &[u8], out: &mut Bytes) -> Result<()
 }
 
 /// Appends what a sink took, if it took something; of a long text its length and its digest.
-pub fn put_taken(name: &[u8], taken: &[u8], out: &mut Bytes) -> Result<(), NoMemory> {
+pub fn put_taken(name: &[u8], taken: &[u8], out: &mut Bytes) -> Result<(), NoMemory>
+    ensures { taken.now ≡ [] → out.new ≡ out.old }
+{
     if taken.is_empty() {
         return Ok(());
     }
