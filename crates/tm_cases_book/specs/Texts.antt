@@ -1,13 +1,12 @@
 -- Texts of files of cases: by name, as words and as they are shown. Source: this project.
-use Rattle.std.specs.Prelude.{ℕ, ◌+◌, ◌-◌, ◌/◌, ◌%◌, ◌^◌, ◌&&◌, ◌==◌, nat_lt, nat_le, if◌then◌else◌}
-use Rattle.std.specs.Prelude.{List, [], ◌∷◌, ◌++◌, codes, Result}
+use Rattle.std.specs.Prelude.{ℕ, ◌+◌, ◌^◌, ◌&&◌, ◌==◌, nat_lt, nat_le, if◌then◌else◌}
+use Rattle.std.specs.Prelude.{List, [], ◌∷◌, ◌++◌, codes}
 use Rattle.std.specs.Fmt.{decimal}
 use Rattle.std.specs.List.{flat_map}
 use Rattle.std.specs.Result.{result_unwrap_or}
 use Rattle.std.specs.Str.{bytes_eq}
 use Rattle.tm_base.specs.Numbers.{number_of, hex_text}
 use Rattle.tm_base.specs.declared.Pos.{Pos}
-use Rattle.tm_base.specs.declared.numbers.NumberFault.{NumberFault}
 use Rattle.tm_cases_book.specs.declared.book.Entry.{Entry}
 
 -- the text of the first entry of this name, empty where there is none
