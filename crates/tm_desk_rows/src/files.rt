@@ -1,5 +1,5 @@
 // Real files, in the folder where the program runs.
-use crate::shown::{demand, show, show_text};
+use crate::shown::{show, show_done, show_text};
 use std::alloc::Global;
 use std::fs;
 use std::io::{self, ErrorKind};
@@ -21,24 +21,16 @@ fn show_read(rt: &HostRuntime, what: &str, answer: Result<Bytes, DeskError>) -> 
     }
 }
 
-/// Prints what a write answered.
-fn show_write(rt: &HostRuntime, what: &str, answer: Result<(), DeskError>) -> io::Result<()> {
-    match answer {
-        Ok(()) => show(rt, what, "done"),
-        Err(error) => show(rt, what, error),
-    }
-}
-
 /// A file is written twice, the second time shorter, and read. What isn't there is read and written in vain.
 pub fn short_file(rt: &HostRuntime) -> io::Result<()> {
     let mut desk = RealDesk::new(rt.alloc(), rt.clone()?);
     println!(rt; "a short file")?;
-    show_write(
+    show_done(
         rt,
         "write of 15 bytes",
         desk.write(SHORT_FILE, b"some more bytes"),
     )?;
-    show_write(
+    show_done(
         rt,
         "write of 10 bytes",
         desk.write(SHORT_FILE, b"some bytes"),
@@ -48,12 +40,12 @@ pub fn short_file(rt: &HostRuntime) -> io::Result<()> {
     show_read(rt, "read of up to 9 bytes", desk.read(SHORT_FILE, 9))?;
     show(rt, "faults", desk.faults())?;
     show_read(rt, "read of no file", desk.read("none", 9))?;
-    show_write(rt, "write into no folder", desk.write("none/x", b""))?;
+    show_done(rt, "write into no folder", desk.write("none/x", b""))?;
     show(rt, "faults", desk.faults())?;
     fs::remove_file(rt, SHORT_FILE)
 }
 
-/// The bytes of the long file. They come again after 251, so that no two blocks of it are alike.
+/// The bytes of the long file. They come again after 251 of them, so that no two blocks of it are alike.
 fn long_text(alloc: Global) -> Result<Bytes, NoMemory> {
     let mut bytes = Bytes::new(alloc);
     for place in 0..LONG {
@@ -69,16 +61,17 @@ pub fn long_file(rt: &HostRuntime) -> io::Result<()> {
     };
     let mut desk = RealDesk::new(rt.alloc(), rt.clone()?);
     println!(rt; "a long file")?;
-    show_write(
+    show_done(
         rt,
         "write of 100000 bytes",
         desk.write(LONG_FILE, bytes.as_slice()),
     )?;
-    let same = match desk.read(LONG_FILE, LONG) {
-        Ok(read) => read.as_slice() == bytes.as_slice(),
-        Err(_) => false,
+    let found = match desk.read(LONG_FILE, LONG) {
+        Ok(read) if read.as_slice() == bytes.as_slice() => "the same",
+        Ok(_) => "others",
+        Err(_) => "an error",
     };
-    demand(rt, "read of up to 100000 bytes, which gives them", same)?;
+    show(rt, "read of up to 100000 bytes", found)?;
     show_read(
         rt,
         "read of up to 99999 bytes",

@@ -17,7 +17,14 @@ pub fn show_text(rt: &HostRuntime, what: &str, bytes: &[u8]) -> io::Result<()> {
     }
 }
 
-/// Prints what is demanded, and whether it holds.
-pub fn demand(rt: &HostRuntime, what: &str, holds: bool) -> io::Result<()> {
-    show(rt, what, if holds { "ok" } else { "FAILED" })
+/// Prints that a call is done, or its error.
+pub fn show_done<E: Display + Drop>(
+    rt: &HostRuntime,
+    what: &str,
+    answer: Result<(), E>,
+) -> io::Result<()> {
+    match answer {
+        Ok(()) => show(rt, what, "done"),
+        Err(error) => show(rt, what, error),
+    }
 }

@@ -1,5 +1,5 @@
 // Sinks over the output and over streams that are made up.
-use crate::shown::{show, show_text};
+use crate::shown::{show, show_done, show_text};
 use crate::streams::{OneByte, Refusing};
 use std::io::{self, ErrorKind};
 use tm_desk::{RealSink, Sink, SinkError, put_all};
@@ -19,20 +19,12 @@ fn show_put(rt: &HostRuntime, what: &str, answer: Result<u64, SinkError>) -> io:
     }
 }
 
-/// Prints what a put of a whole piece answered.
-fn show_put_all(rt: &HostRuntime, what: &str, answer: Result<(), SinkError>) -> io::Result<()> {
-    match answer {
-        Ok(()) => show(rt, what, "done"),
-        Err(error) => show(rt, what, error),
-    }
-}
-
 /// The output takes bytes.
 pub fn output(rt: &HostRuntime) -> io::Result<()> {
     let mut sink = RealSink::new(rt.stdout());
     println!(rt; "the output")?;
     let answer = put_all(&mut sink, b"some bytes\n");
-    show_put_all(rt, "put of 11 bytes", answer)?;
+    show_done(rt, "put of 11 bytes", answer)?;
     show_put(rt, "put of no byte", sink.put(b""))?;
     show(rt, "faults", sink.faults())
 }
@@ -54,7 +46,7 @@ pub fn short_writes(rt: &HostRuntime) -> io::Result<()> {
     let mut sink = RealSink::new(&stream);
     println!(rt; "a stream that takes one byte at a time")?;
     let answer = put_all(&mut sink, b"some bytes");
-    show_put_all(rt, "put of 10 bytes", answer)?;
+    show_done(rt, "put of 10 bytes", answer)?;
     show(rt, "faults", sink.faults())?;
     show_text(rt, "taken", stream.into_taken().as_slice())
 }

@@ -11,7 +11,7 @@ use tm_gen::streams;
 use tm_pass::{hart_code, program_text};
 use tm_plan_cases::Cases;
 use tm_rules::admit;
-use tm_tmpl::parse_template;
+use tm_tmpl_read::parse_template;
 use tm_topo::parse_topology;
 
 const TOPOLOGY: &str = "cores = 2\nthreads = 1\nline = 64\n";
