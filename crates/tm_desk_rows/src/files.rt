@@ -66,11 +66,11 @@ pub fn long_file(rt: &HostRuntime) -> io::Result<()> {
         "write of 100000 bytes",
         desk.write(LONG_FILE, bytes.as_slice()),
     )?;
-    let found = match desk.read(LONG_FILE, LONG) {
-        Ok(read) if read.as_slice() == bytes.as_slice() => "the same",
-        Ok(_) => "others",
-        Err(_) => "an error",
+    let same = match desk.read(LONG_FILE, LONG) {
+        Ok(read) => read.as_slice() == bytes.as_slice(),
+        Err(_) => false,
     };
+    let found = if same { "the same" } else { "others" };
     show(rt, "read of up to 100000 bytes", found)?;
     show_read(
         rt,
