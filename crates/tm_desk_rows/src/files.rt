@@ -54,6 +54,20 @@ fn long_text(alloc: Global) -> Result<Bytes, NoMemory> {
     Ok(bytes)
 }
 
+/// What a read found, where these bytes are wanted.
+fn found(answer: Result<Bytes, DeskError>, wanted: &[u8]) -> &'static str {
+    match answer {
+        Ok(bytes) => {
+            if bytes.as_slice() == wanted {
+                "the same"
+            } else {
+                "others"
+            }
+        }
+        Err(_) => "an error",
+    }
+}
+
 /// A file of many blocks is written and read whole.
 pub fn long_file(rt: &HostRuntime) -> io::Result<()> {
     let Ok(bytes) = long_text(rt.alloc()) else {
@@ -66,12 +80,11 @@ pub fn long_file(rt: &HostRuntime) -> io::Result<()> {
         "write of 100000 bytes",
         desk.write(LONG_FILE, bytes.as_slice()),
     )?;
-    let same = match desk.read(LONG_FILE, LONG) {
-        Ok(read) => read.as_slice() == bytes.as_slice(),
-        Err(_) => false,
-    };
-    let found = if same { "the same" } else { "others" };
-    show(rt, "read of up to 100000 bytes", found)?;
+    show(
+        rt,
+        "read of up to 100000 bytes",
+        found(desk.read(LONG_FILE, LONG), bytes.as_slice()),
+    )?;
     show_read(
         rt,
         "read of up to 99999 bytes",
