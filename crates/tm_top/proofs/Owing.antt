@@ -57,8 +57,10 @@ ended_failed asked c desk out err role status is_c failure others (told_short si
     no_memory c (fault_text role (Desk Failed)) six refl is_c others (failure_line role failure refl) fronts
 
 -- a command that stopped
-pub ended_stopped : (s : Stop) (asked : Option Command) (c : Command) (desk : DeskChange) (out err : SinkChange) (status : ℕ)
-    → asked ≡ Some c → Stopped s c desk out → RestStays c desk → Reported s err status → Ended asked desk out err None status
+pub ended_stopped : (s : Stop) (asked : Option Command) (c : Command) (desk : DeskChange) (out err : SinkChange)
+    (status : ℕ)
+    → asked ≡ Some c → Stopped s c desk out → RestStays c desk → Reported s err status
+    → Ended asked desk out err None status
 ended_stopped (stop.Refused role fault) asked c desk out err status is_c (refusal, kept) others reported =
     ended_refused asked c desk out err role fault status is_c refusal kept reported
 ended_stopped (stop.Failed role) asked c desk out err status is_c failure others reported =
@@ -72,24 +74,32 @@ no_words : (asked : Option Command) (c : Command) → asked ≡ None → asked �
 no_words asked c none some = let apart : ◌≡◌ {A = Option Command} None (Some c) = sym none ∙ some in cc
 
 same_command : (asked : Option Command) (c other : Command) → asked ≡ Some c → asked ≡ Some other → c ≡ other
-same_command asked c other is_c is_other = let same : ◌≡◌ {A = Option Command} (Some c) (Some other) = sym is_c ∙ is_other in cc
+same_command asked c other is_c is_other = let same : ◌≡◌ {A = Option Command} (Some c) (Some other) =
+    sym is_c ∙ is_other in cc
 
-always_usage : (asked : Option Command) (desk : DeskChange) (out err : SinkChange) (journal : Option (List Event)) (status : ℕ) → Ended asked desk out err journal status
+always_usage : (asked : Option Command) (desk : DeskChange) (out err : SinkChange) (journal : Option (List Event))
+    (status : ℕ) → Ended asked desk out err journal status
     → asked ≡ None → (status ≡ 2) ⊎ (status ≡ 6)
-always_usage asked desk out err journal status (done c is_c job others silent) none = absurd (no_words asked c none is_c)
+always_usage asked desk out err journal status (done c is_c job others silent) none =
+    absurd (no_words asked c none is_c)
 always_usage asked desk out err journal status (no_command two bare _ stay silent said) none = inl two
-always_usage asked desk out err journal status (refused c role fault three bare is_c refusal kept said) none = absurd (no_words asked c none is_c)
-always_usage asked desk out err journal status (failed c role five bare is_c failure others said) none = absurd (no_words asked c none is_c)
+always_usage asked desk out err journal status (refused c role fault three bare is_c refusal kept said) none =
+    absurd (no_words asked c none is_c)
+always_usage asked desk out err journal status (failed c role five bare is_c failure others said) none =
+    absurd (no_words asked c none is_c)
 always_usage asked desk out err journal status (no_memory_for_usage six bare _ stay silent fronts) none = inr six
 always_usage asked desk out err journal status (no_memory c text six bare is_c others begun fronts) none = inr six
 
-no_first : (c : Command) (desk : DeskChange) (role : Role) (fault : AnyFault) → first_fault c desk.held ≡ None → first_fault c desk.held ≡ Some (role, fault) → ⊥
-no_first c desk role fault none some = let apart : ◌≡◌ {A = Option (Role × AnyFault)} None (Some (role, fault)) = sym none ∙ some in cc
+no_first : (c : Command) (desk : DeskChange) (role : Role) (fault : AnyFault) → first_fault c desk.held ≡ None
+    → first_fault c desk.held ≡ Some (role, fault) → ⊥
+no_first c desk role fault none some = let apart : ◌≡◌ {A = Option (Role × AnyFault)} None (Some (role, fault)) =
+    sym none ∙ some in cc
 
 same_first : (p q : Role × AnyFault) → ◌≡◌ {A = Option (Role × AnyFault)} (Some p) (Some q) → p ≡ q
 same_first p q is = cc
 
-same_fault : (c : Command) (desk : DeskChange) (role other_role : Role) (fault other : AnyFault) → first_fault c desk.held ≡ Some (role, fault)
+same_fault : (c : Command) (desk : DeskChange) (role other_role : Role) (fault other : AnyFault)
+    → first_fault c desk.held ≡ Some (role, fault)
     → first_fault c desk.held ≡ Some (other_role, other) → fault ≡ other
 same_fault c desk role other_role fault other is is_other =
     ap (λ (p : Role × AnyFault). p.1) (same_first (role, fault) (other_role, other) (sym is ∙ is_other))
@@ -107,7 +117,8 @@ ready_accepted (to_run r) desk e ready tells = ready.accepted tells
 ready_accepted (to_sample number) desk e ready tells = no_input number desk
 
 -- a failure with no count risen is that of the first fault
-failure_first : (c : Command) (desk : DeskChange) (out : SinkChange) (role wrong : Role) (fault : AnyFault) → IsFailure c desk out role → IsTrue desk.tells
+failure_first : (c : Command) (desk : DeskChange) (out : SinkChange) (role wrong : Role) (fault : AnyFault)
+    → IsFailure c desk out role → IsTrue desk.tells
     → (DeskFailed desk → ⊥) → first_fault c desk.held ≡ Some (wrong, fault) → 5 ≡ status_of fault
 failure_first c desk out role wrong fault (at_input (unread input rose before) kept) tells calm is = absurd (calm rose)
 failure_first c desk out role wrong fault (at_input (missing _ first) kept) tells calm is =
@@ -116,41 +127,59 @@ failure_first c desk out role wrong fault (at_write output rose left) tells calm
 failure_first c desk out role wrong fault (at_print output rose left) tells calm is =
     absurd (no_first c desk wrong fault (ready_accepted c desk left.ending left.ready tells) is)
 
-at_fault : (asked : Option Command) (c : Command) (desk : DeskChange) (out err : SinkChange) (journal : Option (List Event)) (status : ℕ) → Ended asked desk out err journal status
+at_fault : (asked : Option Command) (c : Command) (desk : DeskChange) (out err : SinkChange)
+    (journal : Option (List Event)) (status : ℕ) → Ended asked desk out err journal status
     → asked ≡ Some c → AlwaysAtFault c desk status
 at_fault asked c desk out err journal status (done other is_other job others silent) is_c = λ wrong fault tells calm is.
-    absurd (no_first c desk wrong fault (rw (same_command asked c other is_c is_other) (ready_accepted other desk _ job.ready tells)) is)
-at_fault asked c desk out err journal status (no_command two bare none stay silent said) is_c = absurd (no_words asked c none is_c)
-at_fault asked c desk out err journal status (refused other role fault three bare is_other refusal kept said) is_c = λ wrong first tells calm is.
+    absurd (no_first c desk wrong fault (rw (same_command asked c other is_c is_other)
+    (ready_accepted other desk _ job.ready tells)) is)
+at_fault asked c desk out err journal status (no_command two bare none stay silent said) is_c =
+    absurd (no_words asked c none is_c)
+at_fault asked c desk out err journal status (refused other role fault three bare is_other refusal kept said) is_c =
+    λ wrong first tells calm is.
     let same = rw (← same_command asked c other is_c is_other) at refusal.first tells in
     inl (three ∙ sym refusal.status ∙ ap status_of (same_fault c desk role wrong fault first same is))
-at_fault asked c desk out err journal status (failed other role five bare is_other failure others said) is_c = λ wrong first tells calm is.
+at_fault asked c desk out err journal status (failed other role five bare is_other failure others said) is_c =
+    λ wrong first tells calm is.
     let same = rw (← same_command asked c other is_c is_other) at failure in
     inl (five ∙ failure_first c desk out role wrong first same tells calm is)
-at_fault asked c desk out err journal status (no_memory_for_usage six bare none stay silent fronts) is_c = absurd (no_words asked c none is_c)
-at_fault asked c desk out err journal status (no_memory other text six bare is_other others begun fronts) is_c = λ wrong first tells calm is. inr six
+at_fault asked c desk out err journal status (no_memory_for_usage six bare none stay silent fronts) is_c =
+    absurd (no_words asked c none is_c)
+at_fault asked c desk out err journal status (no_memory other text six bare is_other others begun fronts) is_c =
+    λ wrong first tells calm is. inr six
 
 -- with no count risen and no fault of an input, nothing failed
 failure_none : (c : Command) (desk : DeskChange) (out : SinkChange) (role : Role) → IsFailure c desk out role
     → (DeskFailed desk → ⊥) → (SinkFailed out → ⊥) → first_fault c desk.held ≡ None → ⊥
 failure_none c desk out role (at_input (unread input rose before) kept) calm quiet none = calm rose
-failure_none c desk out role (at_input (missing _ first) kept) calm quiet none = no_first c desk role (Desk Failed) none first
+failure_none c desk out role (at_input (missing _ first) kept) calm quiet none =
+    no_first c desk role (Desk Failed) none first
 failure_none c desk out role (at_write output rose left) calm quiet none = calm rose
 failure_none c desk out role (at_print output rose left) calm quiet none = quiet rose
 
-always_done : (asked : Option Command) (c : Command) (desk : DeskChange) (out err : SinkChange) (journal : Option (List Event)) (status : ℕ) → Ended asked desk out err journal status
+always_done : (asked : Option Command) (c : Command) (desk : DeskChange) (out err : SinkChange)
+    (journal : Option (List Event)) (status : ℕ) → Ended asked desk out err journal status
     → asked ≡ Some c → AlwaysDone c desk out journal status
-always_done asked c desk out err journal status (done other is_other job others silent) is_c = λ tells calm quiet none. inl (rw (same_command asked c other is_c is_other) job)
-always_done asked c desk out err journal status (no_command two bare none stay silent said) is_c = absurd (no_words asked c none is_c)
-always_done asked c desk out err journal status (refused other role fault three bare is_other refusal kept said) is_c = λ tells calm quiet none.
-    let same = rw (← same_command asked c other is_c is_other) at refusal.first tells in absurd (no_first c desk role fault none same)
-always_done asked c desk out err journal status (failed other role five bare is_other failure others said) is_c = λ tells calm quiet none.
-    let same = rw (← same_command asked c other is_c is_other) at failure in absurd (failure_none c desk out role same calm quiet none)
-always_done asked c desk out err journal status (no_memory_for_usage six bare none stay silent fronts) is_c = absurd (no_words asked c none is_c)
-always_done asked c desk out err journal status (no_memory other text six bare is_other others begun fronts) is_c = λ tells calm quiet none. inr six
+always_done asked c desk out err journal status (done other is_other job others silent) is_c =
+    λ tells calm quiet none. inl (rw (same_command asked c other is_c is_other) job)
+always_done asked c desk out err journal status (no_command two bare none stay silent said) is_c =
+    absurd (no_words asked c none is_c)
+always_done asked c desk out err journal status (refused other role fault three bare is_other refusal kept said) is_c =
+    λ tells calm quiet none.
+    let same = rw (← same_command asked c other is_c is_other) at refusal.first tells in
+    absurd (no_first c desk role fault none same)
+always_done asked c desk out err journal status (failed other role five bare is_other failure others said) is_c =
+    λ tells calm quiet none.
+    let same = rw (← same_command asked c other is_c is_other) at failure in
+    absurd (failure_none c desk out role same calm quiet none)
+always_done asked c desk out err journal status (no_memory_for_usage six bare none stay silent fronts) is_c =
+    absurd (no_words asked c none is_c)
+always_done asked c desk out err journal status (no_memory other text six bare is_other others begun fronts) is_c =
+    λ tells calm quiet none. inr six
 
 -- all that a call owes follows of how it ended
-pub owes : (asked : Option Command) (desk : DeskChange) (out err : SinkChange) (journal : Option (List Event)) (status : ℕ) → Ended asked desk out err journal status → Owes asked desk out err journal status
+pub owes : (asked : Option Command) (desk : DeskChange) (out err : SinkChange) (journal : Option (List Event))
+    (status : ℕ) → Ended asked desk out err journal status → Owes asked desk out err journal status
 owes asked desk out err journal status how = record {
   ended = how;
   always_usage = always_usage asked desk out err journal status how;

@@ -1,12 +1,15 @@
 -- What the words of a run say: how many events, and in which order.
-use Rattle.std.proofs.Common.{◌≡◌, ◌≤◌, ℕ, Bool, true, false, List, [], ◌∷◌, Option, None, Some, Result, Ok, Err, refl, subst, lit≤}
+use Rattle.std.proofs.Common.{◌≡◌, ◌≤◌, ℕ, Bool, true, false, List, [], ◌∷◌, Option, None, Some, Result, Ok, Err}
+use Rattle.std.proofs.Common.{refl, subst, lit≤}
 use Rattle.std.specs.Prelude.{if◌then◌else◌, nat_le, ◌&&◌, option_map, codes}
 use Rattle.std.specs.Str.{bytes_eq}
 use Rattle.std.proofs.lemmas.Bool.{leb-true, and_parts}
 use Rattle.tm_base.specs.Numbers.{number_of}
 use Rattle.tm_base.specs.declared.numbers.NumberFault.{NumberFault}
-use Rattle.tm_words.specs.Words.{Run, Command, RunOption, most_events, events_of, order_of, option_of, run_with_one, run_with_two, run_of}
-use Rattle.tm_words.specs.Words.{run_behind, sample_of, sample_behind, build_of, build_behind, list_behind, command_behind, command_of, still_only, command_if, is_name}
+use Rattle.tm_words.specs.Words.{Run, Command, RunOption, most_events, events_of, order_of, option_of, run_with_one}
+use Rattle.tm_words.specs.Words.{run_with_two, run_of}
+use Rattle.tm_words.specs.Words.{run_behind, sample_of, sample_behind, build_of, build_behind, list_behind}
+use Rattle.tm_words.specs.Words.{command_behind, command_of, still_only, command_if, is_name}
 use Rattle.tm_words.specs.Words.Command.{to_build, to_list, to_run, to_sample}
 use Rattle.tm_words.specs.Words.RunOption.{Events, Order}
 use Rattle.tm_top.specs.Still.{IsStill, IsInRange}
@@ -30,7 +33,8 @@ abbrev CommandFits : Option Command → Type 0
 CommandFits (Some (to_run r)) = InRange r.events
 CommandFits _ = Unit {0}
 
-option-if : (b : Bool) (x y : Option RunOption) → (b ≡ true → OptionFits x) → OptionFits y → OptionFits (if b then x else y)
+option-if : (b : Bool) (x y : Option RunOption) → (b ≡ true → OptionFits x) → OptionFits y
+    → OptionFits (if b then x else y)
 option-if true x y h g = h refl
 option-if false x y h g = g
 
@@ -42,7 +46,8 @@ command-if false x y h g = g
 
 events-fit : (r : Result ℕ NumberFault) → OptionFits (events_of r)
 events-fit (Ok n) = option-if (nat_le 1 n && nat_le n most_events) (Some (Events n)) None
-    (λ e. let both = and_parts (nat_le 1 n) (nat_le n most_events) e in (leb-true 1 n both.0, leb-true n most_events both.1)) tt
+    (λ e. let both = and_parts (nat_le 1 n) (nat_le n most_events) e in
+    (leb-true 1 n both.0, leb-true n most_events both.1)) tt
 events-fit (Err fault) = tt
 
 order-fits : (name : List ℕ) → OptionFits (order_of name)
@@ -77,7 +82,8 @@ run-fits image (name ∷ []) = tt
 run-fits image (name ∷ value ∷ []) = one-fits image (option_of name value) (option-fits name value)
 run-fits image (name ∷ value ∷ other ∷ []) = tt
 run-fits image (name ∷ value ∷ other ∷ its_value ∷ []) =
-    two-fit image (option_of name value) (option_of other its_value) (option-fits name value) (option-fits other its_value)
+    two-fit image (option_of name value) (option_of other its_value) (option-fits name value)
+    (option-fits other its_value)
 run-fits image (name ∷ value ∷ other ∷ its_value ∷ more ∷ rest) = tt
 
 mapped-fits : (r : Option Run) → RunFits r → CommandFits (option_map to_run r)
@@ -86,7 +92,8 @@ mapped-fits (Some r) h = h
 
 behind-fits : (image : List ℕ) (options : List (List ℕ)) → CommandFits (run_behind image options)
 behind-fits image options =
-    command-if (is_name image) (option_map to_run (run_of image options)) None (mapped-fits (run_of image options) (run-fits image options)) tt
+    command-if (is_name image) (option_map to_run (run_of image options)) None
+    (mapped-fits (run_of image options) (run-fits image options)) tt
 
 -- ---- all commands
 
@@ -100,7 +107,8 @@ build-fits topo (a ∷ []) = tt
 build-fits topo (a ∷ b ∷ []) = tt
 build-fits topo (a ∷ b ∷ c ∷ []) = tt
 build-fits topo (a ∷ b ∷ c ∷ d ∷ []) =
-    command-if (bytes_eq c (codes "--seed") && is_name topo && is_name a && is_name b) (build_of topo a b (number_of d)) None
+    command-if (bytes_eq c (codes "--seed") && is_name topo && is_name a && is_name b) (build_of topo a b (number_of d))
+    None
     (built-fits topo a b (number_of d)) tt
 build-fits topo (a ∷ b ∷ c ∷ d ∷ e ∷ more) = tt
 
@@ -131,7 +139,8 @@ command-fits (name ∷ first ∷ rest) = named-fits name first rest
 
 -- ---- those that wait for nobody
 
-round-is : (r : Run) (c : Command) → InRange r.events → (b : Bool) → r.threads ≡ b → ◌≡◌ {A = Option Command} (if b then None else Some (to_run r)) (Some c) → IsStill c
+round-is : (r : Run) (c : Command) → InRange r.events → (b : Bool) → r.threads ≡ b
+    → ◌≡◌ {A = Option Command} (if b then None else Some (to_run r)) (Some c) → IsStill c
 round-is r c fits true e h = absurd (cc)
 round-is r c fits false e h = let same : to_run r ≡ c = cc in subst IsStill same (e, fits.0, fits.1)
 

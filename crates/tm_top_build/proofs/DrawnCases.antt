@@ -15,15 +15,18 @@ its-cases : (a : Admitted) (seed : ℕ) → (program_for a seed).cases ≡ gen_o
 unfolding program_for built_program
 its-cases a seed = refl
 
-cases-from : (seed : ℕ) (r : Result Admitted InputFault) (p : Program) → program_from seed r ≡ Ok p → (a : Admitted) → r ≡ Ok a → p.cases ≡ gen_of a seed
+cases-from : (seed : ℕ) (r : Result Admitted InputFault) (p : Program) → program_from seed r ≡ Ok p → (a : Admitted)
+    → r ≡ Ok a → p.cases ≡ gen_of a seed
 cases-from seed (Ok b) p is a e =
     let same : b ≡ a = cc in
     let its : program_for b seed ≡ p = cc in
     ap (λ (q : Program). q.cases) (sym its) ∙ (its-cases b seed ∙ ap (λ (x : Admitted). gen_of x seed) same)
 cases-from seed (Err f) p is a e = absurd (cc)
 
-pub made_of : (topo template : List ℕ) (seed : ℕ) (p : Program) (file : List ℕ) → program_from seed (inputs topo template) ≡ Ok p
-    → built topo template seed ≡ Ok file → file ≡ image_file p topo template seed → Sound p → IsBuiltOf topo template seed p file
+pub made_of : (topo template : List ℕ) (seed : ℕ) (p : Program) (file : List ℕ)
+    → program_from seed (inputs topo template) ≡ Ok p
+    → built topo template seed ≡ Ok file → file ≡ image_file p topo template seed → Sound p
+    → IsBuiltOf topo template seed p file
 made_of topo template seed p file program is_built written sound = record {
   its_program = program;
   its_cases = λ a e. cases-from seed (inputs topo template) p program a e;

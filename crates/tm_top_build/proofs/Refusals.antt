@@ -1,5 +1,6 @@
 -- The first fault of a build's two inputs, step by step.
-use Rattle.std.proofs.Common.{◌≡◌, ◌≤◌, ◌<◌, ◌∙◌, ap, sym, subst, refl, ℕ, List, Option, None, Some, Result, Ok, Err, IsTrue, length, arith, inl, inr}
+use Rattle.std.proofs.Common.{◌≡◌, ◌≤◌, ◌<◌, ◌∙◌, ap, sym, subst, refl, ℕ, List, Option, None, Some, Result, Ok, Err}
+use Rattle.std.proofs.Common.{IsTrue, length, arith, inl, inr}
 use Rattle.std.specs.Prelude.{IsSomeAnd}
 use Rattle.tm_plan_map.specs.declared.admitted.Admitted.{Admitted}
 use Rattle.tm_desk.specs.Causes.{Files}
@@ -17,7 +18,8 @@ use Rattle.tm_top_owed.specs.declared.stop.Stop.TheVariants as stop
 use Rattle.tm_words.specs.Words.{Build}
 use Rattle.tm_words.specs.Words.Command.{to_build}
 use Rattle.tm_top_owed.proofs.Limits.{long, short}
-use Rattle.tm_top_owed.specs.Inputs.{topology_limit, template_limit, refusal_of, as_fault, text_of, refused_topology, refused_template, fault_of_topology, fault_of_template, first_fault}
+use Rattle.tm_top_owed.specs.Inputs.{topology_limit, template_limit, refusal_of, as_fault, text_of, refused_topology}
+use Rattle.tm_top_owed.specs.Inputs.{refused_template, fault_of_topology, fault_of_template, first_fault}
 use Rattle.tm_top_owed.specs.Changes.{DeskChange, DeskFailed}
 use Rattle.tm_top_owed.specs.Owed.{IsRefusal, IsMadeOf, IsImageOf}
 use Rattle.tm_top_owed.specs.Owed.InputFailure.{unread, missing}
@@ -26,16 +28,19 @@ use Rattle.tm_top_build.specs.Steps.{IsTopology, ImageStop}
 
 -- ---- which fault is the first
 
-at_topology : (b : Build) (files : Files) (fault : AnyFault) → fault_of_topology b files ≡ Some fault → first_fault (to_build b) files ≡ Some (Topology, fault)
+at_topology : (b : Build) (files : Files) (fault : AnyFault) → fault_of_topology b files ≡ Some fault
+    → first_fault (to_build b) files ≡ Some (Topology, fault)
 unfolding first_fault
 at_topology b files fault is = rw is refl
 
-at_template : (b : Build) (files : Files) (fault : AnyFault) → fault_of_topology b files ≡ None → fault_of_template b files ≡ Some fault
+at_template : (b : Build) (files : Files) (fault : AnyFault) → fault_of_topology b files ≡ None
+    → fault_of_template b files ≡ Some fault
     → first_fault (to_build b) files ≡ Some (Template, fault)
 unfolding first_fault
 at_template b files fault none is = rw (none, is) refl
 
-at_none : (b : Build) (files : Files) → fault_of_topology b files ≡ None → fault_of_template b files ≡ None → first_fault (to_build b) files ≡ None
+at_none : (b : Build) (files : Files) → fault_of_topology b files ≡ None → fault_of_template b files ≡ None
+    → first_fault (to_build b) files ≡ None
 unfolding first_fault
 at_none b files first second = rw (first, second) refl
 
@@ -57,7 +62,8 @@ topology_read b files text held h = rw held (short topology_limit refused_topolo
 
 -- a read of the topology that stopped
 pub topology_stop : (s : Stop) (b : Build) (desk : DeskChange)
-    → ReadStop s Topology (IsTrue desk.tells) (desk.held b.topo) topology_limit desk.faults desk.faults_after → InputStop s (to_build b) desk
+    → ReadStop s Topology (IsTrue desk.tells) (desk.held b.topo) topology_limit desk.faults desk.faults_after
+    → InputStop s (to_build b) desk
 topology_stop (stop.Refused by fault) b desk (role_is, fault_is, h) = rw (role_is, fault_is) (record {
   read = refl;
   status = refl;
@@ -71,7 +77,8 @@ topology_stop stop.NoMemory b desk h = tt
 
 -- a topology that is refused
 pub topology_refused : (b : Build) (desk : DeskChange) (text : List ℕ) (refusal : InputFault)
-    → (IsTrue desk.tells → desk.held b.topo ≡ Some text) → length text ≤ topology_limit → Some refusal ≡ topology_refusal text → IsNamed refusal
+    → (IsTrue desk.tells → desk.held b.topo ≡ Some text) → length text ≤ topology_limit
+    → Some refusal ≡ topology_refusal text → IsNamed refusal
     → IsRefusal (to_build b) desk Topology (Input refusal)
 topology_refused b desk text refusal held h is named = record {
   read = refl;
@@ -82,13 +89,16 @@ topology_refused b desk text refusal held h is named = record {
 }
 
 -- a topology that is accepted has no fault
-topology_accepted : (b : Build) (desk : DeskChange) (text : List ℕ) → IsTopology b desk.tells desk.held text → IsTrue desk.tells
+topology_accepted : (b : Build) (desk : DeskChange) (text : List ℕ) → IsTopology b desk.tells desk.held text
+    → IsTrue desk.tells
     → fault_of_topology b desk.held ≡ None
-topology_accepted b desk text topology told = topology_read b desk.held text (topology.there told) topology.short ∙ ap as_fault topology.accepted
+topology_accepted b desk text topology told = topology_read b desk.held text (topology.there told) topology.short ∙ ap
+    as_fault topology.accepted
 
 -- ---- the template
 
-template_missing : (b : Build) (files : Files) → files b.template ≡ None → fault_of_template b files ≡ Some (Desk Failed)
+template_missing : (b : Build) (files : Files) → files b.template ≡ None → fault_of_template b files
+    ≡ Some (Desk Failed)
 unfolding fault_of_template
 template_missing b files is = rw is refl
 
@@ -97,7 +107,8 @@ template_long : (b : Build) (files : Files) → IsSomeAnd (files b.template) (λ
 unfolding fault_of_template
 template_long b files h = long template_limit (refused_template (text_of (files b.topo))) (files b.template) h
 
-template_read : (b : Build) (files : Files) (topo text : List ℕ) → files b.topo ≡ Some topo → files b.template ≡ Some text → length text ≤ template_limit
+template_read : (b : Build) (files : Files) (topo text : List ℕ) → files b.topo ≡ Some topo
+    → files b.template ≡ Some text → length text ≤ template_limit
     → fault_of_template b files ≡ refused_template topo text
 unfolding fault_of_template
 template_read b files topo text first held h = rw (first, held) (short template_limit (refused_template topo) text h)
@@ -105,14 +116,17 @@ template_read b files topo text first held h = rw (first, held) (short template_
 -- a read of the template that stopped, behind a topology that is accepted
 pub template_stop : (s : Stop) (b : Build) (desk : DeskChange) (text : List ℕ) (there : Option (List ℕ)) (faults : ℕ)
     → IsTopology b desk.tells desk.held text → (IsTrue desk.tells → there ≡ desk.held b.template) → desk.faults ≤ faults
-    → ReadStop s Template (IsTrue desk.tells) there template_limit faults desk.faults_after → InputStop s (to_build b) desk
-template_stop (stop.Refused by fault) b desk text there faults topology same later (role_is, fault_is, h) = rw (role_is, fault_is) (record {
-  read = refl;
-  status = refl;
-  has_line = refl;
-  first = λ told. at_template b desk.held _ (topology_accepted b desk text topology told)
-      (template_long b desk.held (subst (λ file. IsSomeAnd file (λ template. template_limit < length template)) (same told) (h told)));
-})
+    → ReadStop s Template (IsTrue desk.tells) there template_limit faults desk.faults_after
+    → InputStop s (to_build b) desk
+template_stop (stop.Refused by fault) b desk text there faults topology same later (role_is, fault_is, h) =
+    rw (role_is, fault_is) (record {
+      read = refl;
+      status = refl;
+      has_line = refl;
+      first = λ told. at_template b desk.held _ (topology_accepted b desk text topology told)
+          (template_long b desk.held (subst (λ file. IsSomeAnd file (λ template. template_limit < length template))
+          (same told) (h told)));
+    })
 template_stop (stop.Failed by) b desk text there faults topology same later (role_is, inl rose) =
     let risen : DeskFailed desk = omega arith in
     rw role_is (unread refl risen (λ told. topology_accepted b desk text topology told))
@@ -122,16 +136,19 @@ template_stop (stop.Failed by) b desk text there faults topology same later (rol
 template_stop stop.NoMemory b desk text there faults topology same later h = tt
 
 -- a template of which no image is built, behind a topology that is accepted
-pub image_stop : (s : Stop) (b : Build) (desk : DeskChange) (text template : List ℕ) → IsTopology b desk.tells desk.held text
+pub image_stop : (s : Stop) (b : Build) (desk : DeskChange) (text template : List ℕ)
+    → IsTopology b desk.tells desk.held text
     → (IsTrue desk.tells → desk.held b.template ≡ Some template) → length template ≤ template_limit
     → ImageStop s (inputs text template) → InputStop s (to_build b) desk
-image_stop (stop.Refused by fault) b desk text template topology there h (refusal, refused, role_is, fault_is, calm) = rw (role_is, fault_is) (record {
-  read = refl;
-  status = refl;
-  has_line = calm;
-  first = λ told. at_template b desk.held _ (topology_accepted b desk text topology told)
-      (template_read b desk.held text template (topology.there told) (there told) h ∙ ap (λ reading. as_fault (refusal_of reading)) refused);
-})
+image_stop (stop.Refused by fault) b desk text template topology there h (refusal, refused, role_is, fault_is, calm) =
+    rw (role_is, fault_is) (record {
+      read = refl;
+      status = refl;
+      has_line = calm;
+      first = λ told. at_template b desk.held _ (topology_accepted b desk text topology told)
+          (template_read b desk.held text template (topology.there told) (there told) h ∙ ap
+          (λ reading. as_fault (refusal_of reading)) refused);
+    })
 image_stop (stop.Failed by) b desk text template topology there h stopped = absurd stopped
 image_stop stop.NoMemory b desk text template topology there h stopped = tt
 
@@ -142,30 +159,37 @@ refused_at : (r : Result Admitted InputFault) (topo template : List ℕ) (seed :
 refused_at (Ok test) topo template seed refusal h = cc
 refused_at (Err fault) topo template seed refusal h = cc
 
-built_at : (r : Result Admitted InputFault) (topo template file : List ℕ) (seed : ℕ) → built_of topo template seed r ≡ Ok file → refusal_of r ≡ None
+built_at : (r : Result Admitted InputFault) (topo template file : List ℕ) (seed : ℕ) → built_of topo template seed r
+    ≡ Ok file → refusal_of r ≡ None
 built_at (Ok test) topo template file seed h = refl
 built_at (Err fault) topo template file seed h = cc
 
 -- the fault of two texts of which no image is built
-pub image_refused : (topo template : List ℕ) (seed : ℕ) (refusal : InputFault) → built topo template seed ≡ Err refusal → inputs topo template ≡ Err refusal
+pub image_refused : (topo template : List ℕ) (seed : ℕ) (refusal : InputFault) → built topo template seed ≡ Err refusal
+    → inputs topo template ≡ Err refusal
 unfolding built
 image_refused topo template seed refusal h = refused_at (inputs topo template) topo template seed refusal h
 
-template_accepted : (topo template file : List ℕ) (seed : ℕ) → built topo template seed ≡ Ok file → refusal_of (inputs topo template) ≡ None
+template_accepted : (topo template file : List ℕ) (seed : ℕ) → built topo template seed ≡ Ok file
+    → refusal_of (inputs topo template) ≡ None
 unfolding built
 template_accepted topo template file seed h = built_at (inputs topo template) topo template file seed h
 
 -- where an image is built, neither input has a fault
 pub no_fault : (b : Build) (desk : DeskChange) (topo template file : List ℕ) → IsTopology b desk.tells desk.held topo
-    → (IsTrue desk.tells → desk.held b.template ≡ Some template) → length template ≤ template_limit → built topo template b.seed ≡ Ok file
+    → (IsTrue desk.tells → desk.held b.template ≡ Some template) → length template ≤ template_limit
+    → built topo template b.seed ≡ Ok file
     → IsTrue desk.tells → first_fault (to_build b) desk.held ≡ None
 no_fault b desk topo template file topology there h is_built told =
     at_none b desk.held (topology_accepted b desk topo topology told)
-    (template_read b desk.held topo template (topology.there told) (there told) h ∙ ap as_fault (template_accepted topo template file b.seed is_built))
+    (template_read b desk.held topo template (topology.there told) (there told) h ∙ ap as_fault
+    (template_accepted topo template file b.seed is_built))
 
 -- the image of two texts that are held and accepted
-pub image_of_held : (b : Build) (desk : DeskChange) (topo template file line : List ℕ) → IsTopology b desk.tells desk.held topo
-    → (IsTrue desk.tells → desk.held b.template ≡ Some template) → length template ≤ template_limit → IsMadeOf topo template b.seed file line
+pub image_of_held : (b : Build) (desk : DeskChange) (topo template file line : List ℕ)
+    → IsTopology b desk.tells desk.held topo
+    → (IsTrue desk.tells → desk.held b.template ≡ Some template) → length template ≤ template_limit
+    → IsMadeOf topo template b.seed file line
     → IsImageOf b desk.tells desk.held file line
 image_of_held b desk topo template file line topology there h made = record {
   topo = topo;

@@ -25,7 +25,8 @@ short : fault_text role.Image (any.Image (image.Elf (elf.Short 63))) ≡ codes "
 unfolding fault_text with_value digits
 short = refl
 
-another_machine : fault_text role.Image (any.Image (image.Elf (elf.NotRiscv 62))) ≡ codes "threadmill: image: Elf NotRiscv 62\n"
+another_machine : fault_text role.Image (any.Image (image.Elf (elf.NotRiscv 62)))
+    ≡ codes "threadmill: image: Elf NotRiscv 62\n"
 unfolding fault_text with_value digits
 another_machine = refl
 
@@ -53,7 +54,8 @@ a_negative_number : input_text (Topo (topo.OutOfRange key.Line (negsuc 47))) ≡
 unfolding digits with_value pos_text shown_key signed_text
 a_negative_number = refl
 
-a_bad_byte : input_text (Tmpl (tmpl.Lex (lex.BadByte (record { line = 1; col = 10 }) 7))) ≡ codes "Tmpl Lex BadByte 1:10 7"
+a_bad_byte : input_text (Tmpl (tmpl.Lex (lex.BadByte (record { line = 1; col = 10 }) 7)))
+    ≡ codes "Tmpl Lex BadByte 1:10 7"
 unfolding digits with_value pos_text shown_key signed_text
 a_bad_byte = refl
 
@@ -61,7 +63,8 @@ no_name : input_text (Tmpl (tmpl.Expected (record { line = 1; col = 10 }) want.N
 unfolding digits with_value pos_text shown_key signed_text
 no_name = refl
 
-another_owner : input_text (Rule (record { pos = record { line = 6; col = 1 }; fault = rule.NotOwner 1 0x80E80000 })) ≡ codes "Rule 6:1 NotOwner 1 0x80e80000"
+another_owner : input_text (Rule (record { pos = record { line = 6; col = 1 }; fault = rule.NotOwner 1 0x80E80000 }))
+    ≡ codes "Rule 6:1 NotOwner 1 0x80e80000"
 unfolding digits with_value pos_text shown_key signed_text addr_text hex_text
 another_owner = refl
 
@@ -69,14 +72,19 @@ a_wide_address : addr_text 0x180E80000 ≡ codes "0x0000000180e80000"
 unfolding addr_text hex_text
 a_wide_address = refl
 
-a_barred_op : input_text (Rule (record { pos = record { line = 6; col = 1 }; fault = rule.NotAllowed op.Ecall })) ≡ codes "Rule 6:1 NotAllowed ecall"
+a_barred_op : input_text (Rule (record { pos = record { line = 6; col = 1 }; fault = rule.NotAllowed op.Ecall }))
+    ≡ codes "Rule 6:1 NotAllowed ecall"
 unfolding digits with_value pos_text shown_key signed_text name_of
 a_barred_op = refl
 
-no_instruction : input_text (Rule (record { pos = record { line = 6; col = 3 }; fault = rule.Asm (asm.OutOfRange (pos 2048)) })) ≡ codes "Rule 6:3 Asm OutOfRange 2048"
+no_instruction : input_text (Rule (record {
+  pos = record { line = 6; col = 3 };
+  fault = rule.Asm (asm.OutOfRange (pos 2048));
+})) ≡ codes "Rule 6:3 Asm OutOfRange 2048"
 unfolding digits with_value pos_text shown_key signed_text
 no_instruction = refl
 
-backward : input_text (Rule (record { pos = record { line = 6; col = 1 }; fault = rule.Target 3 (negsuc 7) })) ≡ codes "Rule 6:1 Target 3 -8"
+backward : input_text (Rule (record { pos = record { line = 6; col = 1 }; fault = rule.Target 3 (negsuc 7) }))
+    ≡ codes "Rule 6:1 Target 3 -8"
 unfolding digits with_value pos_text shown_key signed_text
 backward = refl

@@ -1,7 +1,7 @@
 -- How the faults of the two input texts are told: the names of a fault's variants from outside in, each with its
 -- values. Source: this project.
 use Rattle.std.specs.Prelude.{ℕ, ◌^◌, ◌&&◌, nat_le, nat_lt, Bool, true, false, if◌then◌else◌, ℤ}
-use Rattle.std.specs.Prelude.{List, [], ◌∷◌, ◌++◌, map, codes}
+use Rattle.std.specs.Prelude.{List, [], ◌++◌, map, codes}
 use Rattle.std.specs.Fmt.{decimal, signed_decimal}
 use Rattle.tm_base.specs.declared.Pos.{Pos}
 use Rattle.tm_base.specs.Numbers.{hex_text}

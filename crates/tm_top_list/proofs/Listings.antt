@@ -39,13 +39,15 @@ image_read : (image : List ℕ) (files : Files) (file : List ℕ) → files imag
 unfolding fault_of_image
 image_read image files file held h = rw held (short image_limit refused_image file h)
 
-none_first : (image : List ℕ) (files : Files) → fault_of_image image files ≡ None → first_fault (to_list image) files ≡ None
+none_first : (image : List ℕ) (files : Files) → fault_of_image image files ≡ None → first_fault (to_list image) files
+    ≡ None
 unfolding first_fault
 none_first image files is = rw is refl
 
 -- a read of the image that stopped
 pub image_stop : (s : Stop) (image : List ℕ) (desk : DeskChange)
-    → ReadStop s roles.Image (IsTrue desk.tells) (desk.held image) image_limit desk.faults desk.faults_after → InputStop s (to_list image) desk
+    → ReadStop s roles.Image (IsTrue desk.tells) (desk.held image) image_limit desk.faults desk.faults_after
+    → InputStop s (to_list image) desk
 image_stop (stop.Refused by fault) image desk (role_is, fault_is, h) = rw (role_is, fault_is) (record {
   read = refl;
   status = refl;
@@ -58,19 +60,22 @@ image_stop (stop.Failed by) image desk (role_is, inr (told, none)) =
 image_stop stop.NoMemory image desk h = tt
 
 -- an image that isn't opened
-pub open_stop : (s : Stop) (image : List ℕ) (desk : DeskChange) (file : List ℕ) → (IsTrue desk.tells → desk.held image ≡ Some file)
+pub open_stop : (s : Stop) (image : List ℕ) (desk : DeskChange) (file : List ℕ)
+    → (IsTrue desk.tells → desk.held image ≡ Some file)
     → length file ≤ image_limit → OpenStop s (opened file) → InputStop s (to_list image) desk
-open_stop (stop.Refused by fault) image desk file there h (refusal, refused, role_is, fault_is, has_line) = rw (role_is, fault_is) (record {
-  read = refl;
-  status = refl;
-  has_line = has_line;
-  first = λ told. at_image image desk.held _ (image_read image desk.held file (there told) h ∙ ap not_opened refused);
-})
+open_stop (stop.Refused by fault) image desk file there h (refusal, refused, role_is, fault_is, has_line) =
+    rw (role_is, fault_is) (record {
+      read = refl;
+      status = refl;
+      has_line = has_line;
+      first = λ told. at_image image desk.held _ (image_read image desk.held file (there told) h ∙ ap not_opened refused);
+    })
 open_stop (stop.Failed by) image desk file there h stopped = absurd stopped
 open_stop stop.NoMemory image desk file there h stopped = tt
 
 -- the listing of an image that is held and opened
-pub listing_of_held : (image : List ℕ) (desk : DeskChange) (file text : List ℕ) → (IsTrue desk.tells → desk.held image ≡ Some file)
+pub listing_of_held : (image : List ℕ) (desk : DeskChange) (file text : List ℕ)
+    → (IsTrue desk.tells → desk.held image ≡ Some file)
     → length file ≤ image_limit → IsListingIn file text → IsListingOf image desk.tells desk.held text
 listing_of_held image desk file text there h listing = record {
   file = file;

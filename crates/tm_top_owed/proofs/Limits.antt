@@ -8,7 +8,8 @@ use Rattle.tm_top_line.specs.declared.fault.AnyFault.TheVariants.{Desk}
 use Rattle.tm_top_owed.specs.Inputs.{fault_of_input}
 
 -- an input that is longer than its limit
-pub long : (max : ℕ) (refusal : List ℕ → Option AnyFault) (file : Option (List ℕ)) → IsSomeAnd file (λ text. max < length text)
+pub long : (max : ℕ) (refusal : List ℕ → Option AnyFault) (file : Option (List ℕ))
+    → IsSomeAnd file (λ text. max < length text)
     → fault_of_input max refusal file ≡ Some (Desk (TooLong max))
 long max refusal None h = absurd h
 long max refusal (Some text) h = rw (lt-ltb max (length text) h) refl

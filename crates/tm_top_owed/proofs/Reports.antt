@@ -1,5 +1,6 @@
 -- What goes to the error sink.
-use Rattle.std.proofs.Common.{◌≡◌, ◌++◌, ◌∙◌, ap, sym, refl, ℕ, List, [], ◌∷◌, length, take, IsTrue, Result, Ok, Err, OnOk, OnErr}
+use Rattle.std.proofs.Common.{◌≡◌, ◌++◌, ◌∙◌, ap, sym, refl, ℕ, List, [], ◌∷◌, length, take, IsTrue, Result, Ok, Err}
+use Rattle.std.proofs.Common.{OnOk, OnErr}
 use Rattle.tm_top_owed.specs.Changes.{SinkChange, Took, TookFront, Said}
 
 take_whole : (xs : List ℕ) → take (length xs) xs ≡ xs
@@ -15,7 +16,9 @@ pub said_whole : (sink : SinkChange) (text : List ℕ) → Took sink text → Sa
 said_whole sink text h = record { front = whole_front sink text h; whole = λ calm. h }
 
 -- whether a put ends or fails, a front is taken
-pub put_front : {X E : Type 0} (result : Result X E) (sink : SinkChange) (text : List ℕ) → (IsTrue sink.tells → OnOk result (sink.taken_after ≡ sink.taken ++ text))
-    → (IsTrue sink.tells → OnErr result ((n : ℕ) × (sink.taken_after ≡ sink.taken ++ take n text))) → TookFront sink text
+pub put_front : {X E : Type 0} (result : Result X E) (sink : SinkChange) (text : List ℕ)
+    → (IsTrue sink.tells → OnOk result (sink.taken_after ≡ sink.taken ++ text))
+    → (IsTrue sink.tells → OnErr result ((n : ℕ) × (sink.taken_after ≡ sink.taken ++ take n text)))
+    → TookFront sink text
 put_front (Ok x) sink text whole front = whole_front sink text whole
 put_front (Err e) sink text whole front = front

@@ -15,8 +15,8 @@ use tm_top_owed::{Done, Stop, print_text};
 /// Builds the sample of a number, simulates it and prints its line. The status is 0 where all harts come to halt, and
 /// 4 where the journal is full before.
 ///
-/// It stops where the sink fails, or for want of memory: no sample is refused. It reads and writes no file, so that what
-/// it owes holds of each desk that stays as it is.
+/// It stops where the sink fails, or for want of memory: no sample is refused. It reads and writes no file, so that
+/// what it owes holds of each desk that stays as it is.
 pub fn sample_command<O: Sink>(alloc: Global, n: u64, out: &mut O) -> Result<Done, Stop>
     ensures done { IfOk result (λ ended. (desk : DeskChange) → IsDone (to_sample n) desk
         (sink_change O.tells O.taken O.faults out.old out.new) ended.status (events_in ended.journal)) }

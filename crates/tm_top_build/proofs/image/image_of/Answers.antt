@@ -1,4 +1,4 @@
-use Rattle.std.proofs.Common.{◌≡◌, ◌∙◌, ap, refl}
+use Rattle.std.proofs.Common.{ap, refl}
 use Rattle.tm_top_line.specs.declared.fault.AnyFault.TheVariants.{Input}
 use Rattle.tm_top_line.proofs.Named.{input_calm}
 use Rattle.tm_top_build.proofs.Refusals.{image_refused}

@@ -8,9 +8,11 @@ pub returns-in-Err-read_input-clause-cause : goal.returns-in-Err-read_input-clau
 returns-in-Err-read_input-clause-cause g c =
     template_stop c.in-Err-read_input.stop (build_in c.args.b.now)
     (desk_change g.D.Desk.tells g.D.Desk.held g.D.Desk.faults c.args.desk.now c.read_input.new.desk)
-    c.in-Ok.topo (g.D.Desk.held c.read_topology.new.desk c.args.b.now.template.now) (g.D.Desk.faults c.read_topology.new.desk)
+    c.in-Ok.topo (g.D.Desk.held c.read_topology.new.desk c.args.b.now.template.now)
+    (g.D.Desk.faults c.read_topology.new.desk)
     c.in-Ok.ensures.ok
-    (λ told. ap (λ (files : List ℕ → Option (List ℕ)). files c.args.b.now.template.now) (c.in-Ok.ensures.unchanged told))
+    (λ told. ap (λ (files : List ℕ → Option (List ℕ)). files c.args.b.now.template.now)
+    (c.in-Ok.ensures.unchanged told))
     c.in-Ok.ensures.later
     c.in-Err-read_input.ensures.cause
 
@@ -19,7 +21,8 @@ returns-clause-cause g c =
     image_stop c.in-Err-image_of.stop (build_in c.args.b.now)
     (desk_change g.D.Desk.tells g.D.Desk.held g.D.Desk.faults c.args.desk.now c.read_input.new.desk)
     c.in-Ok.topo c.in-Ok-read_input.template c.in-Ok.ensures.ok
-    (λ told. sym (ap (λ (files : List ℕ → Option (List ℕ)). files c.args.b.now.template.now) (c.in-Ok.ensures.unchanged told)) ∙ c.in-Ok-read_input.ensures.whole told)
+    (λ told. sym (ap (λ (files : List ℕ → Option (List ℕ)). files c.args.b.now.template.now)
+    (c.in-Ok.ensures.unchanged told)) ∙ c.in-Ok-read_input.ensures.whole told)
     c.in-Ok-read_input.ensures.within
     c.in-Err-image_of.ensures.err
 
@@ -28,6 +31,7 @@ returns-in-Ok-image_of-clause-ok g c =
     image_of_held (build_in c.args.b.now)
     (desk_change g.D.Desk.tells g.D.Desk.held g.D.Desk.faults c.args.desk.now c.read_input.new.desk)
     c.in-Ok.topo c.in-Ok-read_input.template c.in-Ok-image_of.made.file c.in-Ok-image_of.made.line c.in-Ok.ensures.ok
-    (λ told. sym (ap (λ (files : List ℕ → Option (List ℕ)). files c.args.b.now.template.now) (c.in-Ok.ensures.unchanged told)) ∙ c.in-Ok-read_input.ensures.whole told)
+    (λ told. sym (ap (λ (files : List ℕ → Option (List ℕ)). files c.args.b.now.template.now)
+    (c.in-Ok.ensures.unchanged told)) ∙ c.in-Ok-read_input.ensures.whole told)
     c.in-Ok-read_input.ensures.within
     c.in-Ok-image_of.ensures.ok

@@ -9,4 +9,7 @@ returns-clause-stopped g c =
     print_stopped c.in-Err-print_text.stop (to_list c.args.image.now)
     (desk_change g.D.Desk.tells g.D.Desk.held g.D.Desk.faults c.args.desk.now c.read_listing.new.desk)
     (sink_change g.O.Sink.tells g.O.Sink.taken g.O.Sink.faults c.args.out.now c.print_text.new.out)
-    (record { text = c.in-Ok.text; status = 0; journal = None }) (c.in-Ok.ensures.ok, (refl, refl)) c.in-Err-print_text.ensures.front c.in-Err-print_text.ensures.cause
+    (record { text = c.in-Ok.text; status = 0; journal = None }) (
+      c.in-Ok.ensures.ok,
+      (refl, refl),
+    ) c.in-Err-print_text.ensures.front c.in-Err-print_text.ensures.cause

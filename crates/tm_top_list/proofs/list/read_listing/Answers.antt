@@ -4,12 +4,14 @@ use Rattle.tm_top_list.proofs.list.read_listing.Goals as goal
 
 pub returns-in-Err-clause-cause : goal.returns-in-Err-clause-cause
 returns-in-Err-clause-cause g c =
-    image_stop c.in-Err.stop c.args.image.now (desk_change g.D.Desk.tells g.D.Desk.held g.D.Desk.faults c.args.desk.now c.read_input.new.desk)
+    image_stop c.in-Err.stop c.args.image.now (desk_change g.D.Desk.tells g.D.Desk.held g.D.Desk.faults c.args.desk.now
+    c.read_input.new.desk)
     c.in-Err.ensures.cause
 
 pub returns-in-Ok-listing_of-clause-ok : goal.returns-in-Ok-listing_of-clause-ok
 returns-in-Ok-listing_of-clause-ok g c =
-    listing_of_held c.args.image.now (desk_change g.D.Desk.tells g.D.Desk.held g.D.Desk.faults c.args.desk.now c.read_input.new.desk)
+    listing_of_held c.args.image.now (desk_change g.D.Desk.tells g.D.Desk.held g.D.Desk.faults c.args.desk.now
+    c.read_input.new.desk)
     c.in-Ok.file c.in-Ok-listing_of.text c.in-Ok.ensures.whole c.in-Ok.ensures.within c.in-Ok-listing_of.ensures.ok
 
 pub returns-clause-cause : goal.returns-clause-cause

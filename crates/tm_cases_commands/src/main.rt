@@ -1,0 +1,33 @@
+//! Answers cases of whole commands over desks and sinks in memory.
+#![tactic(auto)]
+
+mod commands;
+
+use commands::{command, image, slice};
+use std::process::ExitCode;
+use std::rt::HostRuntime;
+use tm_base::{Bytes, NoMemory};
+use tm_cases_book::{Kinds, State, answer_files};
+
+struct CommandCases;
+
+impl Kinds for CommandCases {
+    fn answer(
+        &self,
+        state: &mut State,
+        kind: &str,
+        rest: &str,
+        out: &mut Bytes,
+    ) -> Result<(), NoMemory> {
+        match kind {
+            "image" => image(state, rest, out),
+            "bytes" => slice(state, rest, out),
+            "command" => command(state, rest, out),
+            _ => out.append(b"no such kind"),
+        }
+    }
+}
+
+fn main(rt: HostRuntime) -> ExitCode {
+    answer_files(rt, &["texts", "commands", "runs", "tests"], &CommandCases)
+}
