@@ -6,9 +6,9 @@ ghost use Rattle.std.specs.Prelude.{◌<◌, IfSome};
 ghost use Rattle.tm_plan_cases.specs.Shaped.{AreShaped};
 
 use std::alloc::Global;
-use std::io::{self, ErrorKind};
+use std::io;
 use tm_gen::streams;
-use tm_pass::{hart_code, program_text};
+use tm_pass::{HartCode, ProgramText, hart_code, program_text};
 use tm_plan_cases::Cases;
 use tm_rules::admit;
 use tm_tmpl_read::parse_template;
@@ -22,7 +22,7 @@ const TEMPLATE: &str =
 /// Where the text begins.
 const TEXT: u64 = 0x8000_0000;
 
-/// Where another text of a hart begins.
+/// Where the second hart's code begins in another text.
 const LATER: u64 = 0x8000_1000;
 
 /// The cases of the test, which has two harts.
@@ -48,53 +48,63 @@ fn two_harts(alloc: Global) -> Option<Cases>
     Some(cases)
 }
 
-/// Prints the word at an address of a text that begins at another.
-fn show(rt: &HostRuntime, what: &str, text: &[u32], base: u64, address: u64) -> io::Result<()> {
-    match text.get((address.wrapping_sub(base) / 4) as usize) {
-        Some(word) => println!(rt; "{what}: {word:#010x}"),
-        None => println!(rt; "{what}: no word"),
-    }
-}
-
-/// The first word of all, and the words at the starts of streams and at exit marks.
-fn show_text(rt: &HostRuntime, cases: &Cases) -> io::Result<()>
-    requires { AreShaped cases.now }
-{
-    let Ok(made) = program_text(rt.alloc(), cases) else {
-        return Err(ErrorKind::OutOfMemory.into());
-    };
-    let text = made.text.as_slice();
-    show(rt, "first, addi x1, x0, 0", text, TEXT, TEXT)?;
-    for start in made.marks.starts.as_slice() {
-        show(rt, "start, addi x1, x0, 1", text, TEXT, *start)?;
-    }
-    for exit in made.marks.exits.as_slice() {
-        show(rt, "exit, jalr x0, 0(x1)", text, TEXT, *exit)?;
+/// Prints the words at some addresses of a text that begins at another.
+fn show(
+    rt: &HostRuntime,
+    what: &str,
+    text: &[u32],
+    base: u64,
+    addresses: &[u64],
+) -> io::Result<()> {
+    for address in addresses {
+        match text.get((address.wrapping_sub(base) / 4) as usize) {
+            Some(word) => println!(rt; "{what}: {word:#010x}")?,
+            None => println!(rt; "{what}: no word")?,
+        }
     }
     Ok(())
 }
 
+/// The first word of all, and the words at the starts of streams and at exit marks.
+fn show_text(rt: &HostRuntime, made: &ProgramText) -> io::Result<()> {
+    let text = made.text.as_slice();
+    show(rt, "first, addi x1, x0, 0", text, TEXT, &[TEXT])?;
+    let starts = made.marks.starts.as_slice();
+    show(rt, "start, addi x1, x0, 1", text, TEXT, starts)?;
+    let exits = made.marks.exits.as_slice();
+    show(rt, "exit, jalr x0, 0(x1)", text, TEXT, exits)
+}
+
 /// The first word of the second hart, and the word at its halt mark.
+fn show_second(rt: &HostRuntime, code: &HartCode) -> io::Result<()> {
+    let words = code.words.as_slice();
+    show(rt, "first, addi x1, x0, 1", words, LATER, &[LATER])?;
+    show(rt, "halt, jal x0, 0", words, LATER, &[code.halt])
+}
+
+/// The second hart's code, in another text.
 #[tactic(auto, unfolding(tm_plan_map::specs::Map::text_base, tm_plan_map::specs::Map::tables_base))]
-fn show_second(rt: &HostRuntime, cases: &Cases) -> io::Result<()>
+fn second(alloc: Global, cases: &Cases) -> Option<HartCode>
     requires shaped { AreShaped cases.now }
     requires second { 1 < cases.now.harts }
 {
-    let Ok(code) = hart_code(rt.alloc(), cases, 1, LATER) else {
-        return Err(ErrorKind::OutOfMemory.into());
-    };
-    let words = code.words.as_slice();
-    show(rt, "first, addi x1, x0, 1", words, LATER, LATER)?;
-    show(rt, "halt, jal x0, 0", words, LATER, code.halt)
+    hart_code(alloc, cases, 1, LATER).ok()
+}
+
+/// The text of both harts, and the second hart's code.
+fn words(alloc: Global) -> Option<(ProgramText, HartCode)> {
+    let cases = two_harts(alloc)?;
+    let text = program_text(alloc, &cases).ok()?;
+    let code = second(alloc, &cases)?;
+    Some((text, code))
 }
 
 fn main(rt: HostRuntime) -> io::Result<()> {
-    let Some(cases) = two_harts(rt.alloc()) else {
-        println!(rt; "nothing")?;
-        return Ok(());
+    let Some((text, code)) = words(rt.alloc()) else {
+        return println!(rt; "nothing");
     };
     println!(rt; "the text of two harts")?;
-    show_text(&rt, &cases)?;
+    show_text(&rt, &text)?;
     println!(rt; "the second hart's code")?;
-    show_second(&rt, &cases)
+    show_second(&rt, &code)
 }
