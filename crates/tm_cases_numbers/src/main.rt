@@ -1,11 +1,11 @@
-//! Answers cases of numbers, addresses, choices and placement.
+//! Answers cases of numbers, addresses, draws, choices and placement.
 #![tactic(auto)]
 
 mod numbers;
 mod places;
 
 use numbers::{decimal, hexadecimal, read};
-use places::{address, choose, may, part};
+use places::{address, choose, drawn, may, part};
 use std::process::ExitCode;
 use std::rt::HostRuntime;
 use tm_base::{Bytes, NoMemory};
@@ -26,6 +26,7 @@ impl Kinds for NumberCases {
             "decimal" => decimal(rest, out),
             "hex" => hexadecimal(rest, out),
             "choice" => choose(rest, out),
+            "draw" => drawn(rest, out),
             "part" => part(rest, out),
             "address" => address(rest, out),
             "may" => may(rest, out),

@@ -1,4 +1,4 @@
-// Addresses, placement and choices.
+// Addresses, placement, draws and choices.
 ghost use Rattle.std.specs.Prelude.{◌≡◌, ◌≤◌, ◌<◌, IfSome, Some, IsTrue};
 ghost use Rattle.tm_place.specs.Limits.{IsWindow};
 ghost use Rattle.tm_place.specs.Numbers.{is_line_size};
@@ -7,7 +7,7 @@ ghost use Rattle.tm_plan_map.specs.declared.windows.Window.{Window as Held};
 
 use tm_base::{Bytes, NoMemory, push_decimal, push_hex};
 use tm_cases_book::{number, small, words_of};
-use tm_place::{Placement, choice, may_load, may_store, part_size};
+use tm_place::{Placement, choice, draw, may_load, may_store, part_size};
 use tm_plan_map::{
     Kind2, Window, flag_addr, private_base, save_addr, table_addr, verdict_addr, window_base,
 };
@@ -41,6 +41,19 @@ pub fn choose(rest: &str, out: &mut Bytes) -> Result<(), NoMemory> {
         return out.append(b"nothing to choose");
     }
     push_decimal(out, u64::from(choice(small(word), n)))
+}
+
+/// A word that a seed draws for a slot of a hart in a case.
+pub fn drawn(rest: &str, out: &mut Bytes) -> Result<(), NoMemory> {
+    let [seed, c, h, i, d, ..] = words_of(rest);
+    let word = draw(
+        number(seed),
+        small(c) % 64,
+        small(h) % 64,
+        small(i) % 1024,
+        small(d) % 16,
+    );
+    push_hex(out, u64::from(word), 8)
 }
 
 fn line_size(word: &str) -> Option<u32>
