@@ -73,8 +73,8 @@ fn template_text(alloc: Global, n: u64) -> Result<Text, NoMemory>
     Ok(out)
 }
 
-/// The topology and the template of the sample of a number, of at most 60 and 1,075 bytes: up to 4 harts, and 8 cases of
-/// 100 drawn slots.
+/// The topology and the template of the sample of a number, of at most 60 and 1,075 bytes: up to 4 harts, and 8 cases
+/// of 100 drawn slots.
 #[tactic(auto, using(crate::proofs::Lengths::topology_short, crate::proofs::Lengths::template_short))]
 pub fn sample_texts(alloc: Global, n: u64) -> Result<(Text, Text), NoMemory>
     ensures topology { IfOk result (λ texts. texts.0 ≡ form.sample_topology n) }
