@@ -31,6 +31,13 @@ def stored_answers(crate):
     return pairs
 
 
+def print_answers(crate):
+    """Prints the answers of a program as they are derived."""
+    files, kinds = PROGRAMS[crate]
+    for line, answer in answers([CRATES / crate / "data" / name for name in files], kinds):
+        sys.stdout.write(f"{line}\n  {answer}\n")
+
+
 def shorten(text):
     return text if len(text) <= 200 else text[:200] + f".. ({len(text)} bytes)"
 
@@ -82,7 +89,11 @@ def main():
     names = list(PROGRAMS) + list(others)
     parser.add_argument("program", nargs="*", metavar="PROGRAM", help=", ".join(names))
     parser.add_argument("--show", type=int, default=5, metavar="N", help="show the first N that differ (5)")
+    parser.add_argument("--print", choices=list(PROGRAMS), metavar="CRATE", help="print the derived stdout of a program")
     options = parser.parse_args()
+    if options.print:
+        print_answers(options.print)
+        return 0
     unknown = [name for name in options.program if name not in names]
     if unknown:
         parser.error(f"no such program: {' '.join(unknown)}")
