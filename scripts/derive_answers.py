@@ -89,7 +89,7 @@ def main():
     names = list(PROGRAMS) + list(others)
     parser.add_argument("program", nargs="*", metavar="PROGRAM", help=", ".join(names))
     parser.add_argument("--show", type=int, default=5, metavar="N", help="show the first N that differ (5)")
-    parser.add_argument("--print", choices=list(PROGRAMS), metavar="CRATE", help="print the derived stdout of a program")
+    parser.add_argument("--print", choices=list(PROGRAMS), metavar="CRATE", help="print a derived stdout")
     options = parser.parse_args()
     if options.print:
         print_answers(options.print)
