@@ -12,8 +12,8 @@ use Rattle.tm_plan_script.specs.declared.faults.FaultLine.{FaultLine}
 use Rattle.tm_world.specs.Place.{exit_of}
 use Rattle.tm_world.specs.Run.{Step, Run, own, now, phase, first_state, read_value}
 use Rattle.tm_world.specs.Kinds.{stream_at}
-use Rattle.tm_memory.specs.Faulted.{Change, state_by}
-use Rattle.tm_world_script.specs.Script.{change_of}
+use Rattle.tm_world.specs.Faulted.{Change, state_by}
+use Rattle.tm_world.specs.Script.{change_of}
 
 -- the registers with which hart h opens: zero, but x10, which is its number
 unfoldable pub opening : ℕ → List ℕ

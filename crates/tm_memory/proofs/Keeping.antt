@@ -1,14 +1,13 @@
 -- What runs that a script has changed keep.
 use Rattle.tm_plan_cases.specs.declared.program.Program.{Program}
+use Rattle.tm_world.specs.Script.{change_of}
 use Rattle.tm_legal.specs.Tame.{Formed}
-use Rattle.tm_legal.proofs.Sound.{sound-half}
+use Rattle.tm_memory.specs.Laws.{NoLinesArePlain, CourseKeeps, SoundKeeps}
 use Rattle.tm_memory.proofs.Meets.{course-meets}
 use Rattle.tm_memory.proofs.Faults.{faulted-half}
 use Rattle.tm_memory.proofs.Next.{all-unstuck}
 use Rattle.tm_memory.proofs.Nothing.{nothing-plain}
-use Rattle.tm_world_script.specs.Script.{change_of}
-use Rattle.tm_world_script.specs.Laws.{NoLinesArePlain, CourseKeeps, SoundKeeps, SoundPlainRuns}
-use Rattle.tm_world_script.proofs.Numbers.{small-results}
+use Rattle.tm_memory.proofs.Numbers.{small-results}
 
 pub no-lines : (p : Program) → NoLinesArePlain p
 unfolding change_of
@@ -24,9 +23,6 @@ course-keeps p formed course goes lines small =
     }
 
 pub sound-keeps : (p : Program) → SoundKeeps p
-sound-keeps p typed sound =
-    let formed : Formed p = record { program = sound.program; typed = typed; laid = sound.course.laid } in
+sound-keeps p sound =
+    let formed : Formed p = record { program = sound.program; typed = sound.typed; laid = sound.course.laid } in
     course-keeps p formed sound.course.hart (λ h l. (sound.bound h l).next)
-
-pub sound-plain : (p : Program) → SoundPlainRuns p
-sound-plain p typed sound r plain = let legal = sound.plain r plain in (legal, sound-half p typed sound r legal)

@@ -11,9 +11,9 @@ use Rattle.tm_plan_script.specs.declared.faults.Action.{Action}
 use Rattle.tm_world.specs.Lists.{those}
 use Rattle.tm_world.specs.Place.{start_of, inside}
 use Rattle.tm_world.specs.Writers.{case_of_phase}
-use Rattle.tm_world_script.specs.Script.{is_of_pass, pass_of_phase, is_slot_at, names_in, names}
-use Rattle.tm_world_script.specs.Accepted.{same_kind, meet, are_twice}
-use Rattle.tm_world_script.specs.Laws.{ActionsDiffer}
+use Rattle.tm_world.specs.Script.{is_of_pass, pass_of_phase, is_slot_at, names_in, names}
+use Rattle.tm_plan_script.specs.Accepted.{same_kind, meet, are_twice}
+use Rattle.tm_world.specs.Laws.{ActionsDiffer}
 
 -- ---- two lines
 

@@ -11,8 +11,7 @@ use Rattle.tm_world.specs.Lists.{those}
 use Rattle.tm_world.specs.Place.{passes, start_of, inside}
 use Rattle.tm_world.specs.Run.{Run}
 use Rattle.tm_world.specs.Writers.{case_of_phase}
-use Rattle.tm_memory.specs.Faulted.{Change, Faulted}
-use Rattle.tm_memory.specs.Laws.{GoOn}
+use Rattle.tm_world.specs.Faulted.{Change, Faulted}
 
 -- ---- of which steps a line speaks
 
@@ -113,8 +112,3 @@ change_of p lines h q pc = change_by (actions_at p lines h q pc)
 -- xored and dropped, it is dropped. Later reads see the stores as they were made.
 abbrev pub FaultedRun : Program → List FaultLine → Run → Type 0
 FaultedRun p lines r = Faulted p (change_of p lines) r
-
--- No hart gets stuck under the script: on each run that it has changed, each hart that isn't at its halt mark has a
--- next step.
-abbrev pub NeverStuck : Program → List FaultLine → Type 0
-NeverStuck p lines = (r : Run) → FaultedRun p lines r → GoOn p r

@@ -4,8 +4,8 @@ use Rattle.tm_plan_cases.specs.declared.cases.Stream.{Stream}
 use Rattle.tm_plan_cases.specs.declared.program.Program.{Program}
 use Rattle.tm_plan_script.specs.declared.faults.FaultLine.{FaultLine}
 use Rattle.tm_plan_script.specs.declared.faults.Action.TheVariants.{Result, Stored, Drop}
-use Rattle.tm_memory.specs.Faulted.{nothing}
-use Rattle.tm_world_script.specs.Script.{names, change_of}
+use Rattle.tm_world.specs.Faulted.{nothing}
+use Rattle.tm_world.specs.Script.{names, change_of}
 
 abbrev stream : List ℕ → Stream
 stream words = record { words = words; regs = [] }

@@ -1,25 +1,19 @@
--- The numbers of lines have 64 bits, and so has what is xored to results.
-use Rattle.std.proofs.Common.{ℕ, ◌*◌, ◌^◌, ◌<◌, ◌≤◌, List, [], ◌∷◌, Bool, true, false, map, lit<, lit≤, arith}
+-- What small lines xor to results has 64 bits, and so has what accepted lines do.
+use Rattle.std.proofs.Common.{ℕ, ◌^◌, ◌<◌, List, [], ◌∷◌, Bool, true, false, map, lit<}
 use Rattle.std.specs.Prelude.{if◌then◌else◌}
 use Rattle.std.proofs.lemmas.List.Elements.{All-head, All-tail}
-use Rattle.tm_table.specs.declared.instr.Op.{Op}
-use Rattle.tm_table.specs.declared.instr.Op.TheVariants.{Lb, Sb}
-use Rattle.tm_table.specs.declared.instr.Instr.{Instr}
-use Rattle.tm_plan_cases.specs.declared.cases.Cases.{Cases}
 use Rattle.tm_plan_cases.specs.declared.program.Program.{Program}
-use Rattle.tm_plan_map.specs.Slots.{load_width, store_width}
 use Rattle.tm_plan_script.specs.declared.faults.FaultLine.{FaultLine}
 use Rattle.tm_plan_script.specs.declared.faults.Action.{Action}
 use Rattle.tm_plan_script.specs.declared.faults.Action.TheVariants.{Result, Loaded, Stored, Drop, Turn}
+use Rattle.tm_plan_script.specs.Accepted.{AreAccepted}
+use Rattle.tm_plan_script.specs.Laws.{AreSmall, number_of}
+use Rattle.tm_plan_script.proofs.Numbers.{accepted-small}
 use Rattle.tm_world.specs.Lists.{those}
-use Rattle.tm_world_script.specs.Script.{names, for_result, first_number, change_of}
-use Rattle.tm_world_script.specs.Accepted.{Suits}
-use Rattle.tm_world_script.specs.Laws.{AreSmall, AcceptedAreSmall, number_of}
+use Rattle.tm_world.specs.Script.{names, for_result, first_number, change_of}
 
 abbrev action_of : FaultLine → Action
 action_of line = line.action
-
--- ---- what is xored to results
 
 small-first : (a : Action) (more : List Action) → number_of a < 2 ^ 64 → first_number for_result more < 2 ^ 64
     → first_number for_result (a ∷ more) < 2 ^ 64
@@ -50,22 +44,7 @@ pub small-results : (p : Program) (lines : List FaultLine) → AreSmall lines �
 unfolding change_of
 small-results p lines s h q pc = small-those (λ line. names p line h q pc) lines s
 
--- ---- accepted lines
-
-load-most : (op : Op) → 2 ^ (8 * load_width op) ≤ 2 ^ 64
-load-most Lb = lit≤ tt
-load-most op = lit≤ tt
-
-store-most : (op : Op) → 2 ^ (8 * store_width op) ≤ 2 ^ 64
-store-most Sb = lit≤ tt
-store-most op = lit≤ tt
-
-suits-small : (i : Instr) (a : Action) → Suits i a → number_of a < 2 ^ 64
-suits-small i (Result x) s = s.3
-suits-small i (Loaded x) s = let most = load-most i.op in omega (arith, s.2)
-suits-small i (Stored x) s = let most = store-most i.op in omega (arith, s.2)
-suits-small i Drop s = lit< tt
-suits-small i Turn s = lit< tt
-
-pub accepted-small : (cases : Cases) → AcceptedAreSmall cases
-accepted-small cases lines a k d l = let r = a.each k d l in suits-small r.instr _ r.suits
+-- and those of accepted lines
+pub accepted-results : (p : Program) (lines : List FaultLine) → AreAccepted p.cases lines → (h q pc : ℕ)
+    → (change_of p lines h q pc).result < 2 ^ 64
+accepted-results p lines accepted = small-results p lines (accepted-small p.cases lines accepted)

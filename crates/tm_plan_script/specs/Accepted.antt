@@ -4,11 +4,11 @@ use Rattle.std.specs.Prelude.{Option, Some, None, IsTrue, IsFalse, IfSome, All, 
 use Rattle.tm_table.specs.declared.instr.Instr.{Instr}
 use Rattle.tm_plan_cases.specs.declared.cases.Cases.{Cases}
 use Rattle.tm_plan_cases.specs.declared.cases.Stream.{Stream}
+use Rattle.tm_plan_cases.specs.Streams.{stream_in}
 use Rattle.tm_plan_map.specs.Slots.{instr_of, load_width, store_width, is_branch}
 use Rattle.tm_plan_script.specs.declared.faults.FaultLine.{FaultLine}
 use Rattle.tm_plan_script.specs.declared.faults.Action.{Action}
 use Rattle.tm_plan_script.specs.declared.faults.Action.TheVariants.{Result, Loaded, Stored, Drop, Turn}
-use Rattle.tm_world.specs.Writers.{stream_in}
 
 -- ---- one line
 
