@@ -38,8 +38,10 @@ use Rattle.tm_runs.proofs.Worlds.{stopped, image-private, private-dword}
 use Rattle.tm_runs.proofs.Paths.{always, told-log, goes-on, on-half, any-entries, phase-entries, stands, visited-trail}
 use Rattle.tm_legal.proofs.Formed.{formed-sizes}
 use Rattle.tm_legal.specs.Tame.{Formed}
-use Rattle.tm_pass_way.specs.Logs.{phase_in, steps_in, now_in, reports, signals_in, work_in}
-use Rattle.tm_pass_way.specs.Facts.{Fact, Told, Gathered, Gathering, Signalling, Leaving, Keeping, AreSet, last_in}
+use Rattle.tm_pass_way.specs.Logs.{reports, work_in}
+use Rattle.tm_runs.specs.Phases.{phase_in, steps_in, now_in, signals_in}
+use Rattle.tm_pass_way.specs.Facts.{Fact, Told, Gathered, Gathering, AreSet, last_in}
+use Rattle.tm_runs.specs.Phases.{Signalling, Leaving, Keeping}
 use Rattle.tm_pass_way.specs.Parts.{Places, Costs, Turns, Rooms, Opens, AtHead}
 use Rattle.tm_pass_way.specs.Meets.{SetsDwords, EntersBehindExit, WritesLate, phase_work, Keeps, Halts, PartsKeep}
 use Rattle.tm_pass_way.proofs.Entries.{in-phase, now-entries, any-now, front-entries, last-entries, verdict-entries}

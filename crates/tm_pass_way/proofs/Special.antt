@@ -27,7 +27,8 @@ use Rattle.tm_runs.proofs.Places.{or-right}
 use Rattle.tm_legal.proofs.Formed.{formed-sizes}
 use Rattle.tm_legal.specs.Tame.{Formed}
 use Rattle.tm_legal.proofs.Streams.{case-of}
-use Rattle.tm_pass_way.specs.Logs.{phase_in, now_in, reports, signals_in, IsVerdictIn}
+use Rattle.tm_pass_way.specs.Logs.{reports, IsVerdictIn}
+use Rattle.tm_runs.specs.Phases.{phase_in, now_in, signals_in}
 use Rattle.tm_pass_way.specs.Facts.{Fact, Gathered, Gathering, Reporting}
 use Rattle.tm_pass_way.specs.Parts.{phase_at, PassTold, IsFound}
 use Rattle.tm_pass_way.specs.Calm.{StreamClear}
