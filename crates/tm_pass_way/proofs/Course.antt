@@ -16,7 +16,8 @@ use Rattle.tm_plan_cases.specs.Shaped.{MasksFit}
 use Rattle.tm_world.specs.Lists.{front_to, IsFront}
 use Rattle.tm_world.specs.Place.{harts, case_count, passes, end_of, exit_of, halt_of, byte_of}
 use Rattle.tm_world.specs.Run.{Step, Always, now, first_state, pc_of, access_of, phase, in_phase, last_write}
-use Rattle.tm_world.specs.Writers.{case_of_phase, stream_in}
+use Rattle.tm_world.specs.Writers.{case_of_phase}
+use Rattle.tm_plan_cases.specs.Streams.{stream_in}
 use Rattle.tm_world.specs.Kinds.{IsOpening, HalfPath, stream_at}
 use Rattle.tm_world.specs.Marks.{Mark, Enter, comes_to, arrivals, whole_way}
 use Rattle.tm_world.specs.Course.{OnHalf, KeepsOrder, EntersFresh, KeepsVerdicts, HasAllVerdicts, KeepsWrites}

@@ -17,7 +17,8 @@ use Rattle.tm_plan_cases.specs.Shaped.{MasksFit}
 use Rattle.tm_world.specs.Place.{harts, case_count, passes, start_of, end_of, exit_of, halt_of, is_private, is_flag}
 use Rattle.tm_world.specs.Place.{is_verdict, is_window}
 use Rattle.tm_world.specs.Run.{Writes}
-use Rattle.tm_world.specs.Writers.{may_write, may_write_window, stream_in}
+use Rattle.tm_world.specs.Writers.{may_write, may_write_window}
+use Rattle.tm_plan_cases.specs.Streams.{stream_in}
 use Rattle.tm_world.specs.Kinds.{writes_flag}
 use Rattle.tm_world.specs.Course.{writes_in, reads_in, writes_shared, round_before}
 use Rattle.tm_runs.specs.Machine.{Entry, Table}
