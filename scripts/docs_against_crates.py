@@ -1,8 +1,8 @@
 #!/usr/bin/env python3
 """Compares documents with the crates. In docs/architecture.md each crate of crates.txt has one row, and its column
 "Next below" names the libraries of its line in crates.txt that aren't below another one of that line, those of the kit
-last. In all documents the crates that are named are there, a name such as `tm_gen.specs.Gen.gen_of` stands in that file of the crate, and one such as
-`tm_top::still` in the crate's sources.
+last. In all documents the crates that are named are there, a name such as `tm_gen.specs.Gen.gen_of` stands in that file
+of the crate, and one such as `tm_top::still` in the crate's sources.
 
 Prints what differs, and ends with status 1 where something does. With --write the column is written anew."""
 
