@@ -22,7 +22,8 @@ use Rattle.tm_guest.specs.Guested.{Guested}
 use Rattle.tm_guest.specs.Turns.{IsNextEvent}
 use Rattle.tm_guest.specs.Laws.{OneNextEvent}
 use Rattle.tm_guest.proofs.Bytes.{same-xored}
-use Rattle.tm_guest.proofs.Runs.{opened, steps-more}
+use Rattle.tm_memory.proofs.NoLines.{opened}
+use Rattle.tm_world.proofs.Replaying.{steps-more}
 
 module _ (p : Program) (past : List Step) where
   -- ---- what an instruction does in memory, by what memory holds

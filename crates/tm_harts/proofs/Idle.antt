@@ -10,7 +10,7 @@ use Rattle.tm_guest.specs.Guested.{Guested, steps, with_event}
 use Rattle.tm_world.specs.Replay.{stepped, steps_of}
 use Rattle.tm_guest.specs.Turns.{Answers, Makes}
 use Rattle.tm_guest.specs.Waiting.{IsIdle}
-use Rattle.tm_guest.proofs.Runs.{steps-more}
+use Rattle.tm_world.proofs.Replaying.{steps-more}
 use Rattle.tm_harts.specs.Idle.{NoIdle}
 use Rattle.tm_harts.specs.Turns.{HoldsBack}
 
