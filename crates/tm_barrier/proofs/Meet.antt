@@ -14,7 +14,8 @@ use Rattle.tm_runs.proofs.Tables.{at_front, at_next}
 use Rattle.tm_blocks_base.specs.Laws.{accesses}
 use Rattle.tm_blocks_base.specs.Instrs.{fence, go_to}
 use Rattle.tm_barrier.specs.Words.{prepare, signal, wait, turn, waits, meet, barrier}
-use Rattle.tm_barrier.specs.Laws.{Meeting, Meets, Looks, signals_in, idles_in, Barred, HasMet, MeetRuns, FenceRuns}
+use Rattle.tm_barrier.specs.Laws.{Meeting, Meets, Looks, Barred, HasMet, MeetRuns, FenceRuns}
+use Rattle.tm_runs.specs.Phases.{signals_in, idles_in}
 use Rattle.tm_barrier.specs.Laws.{ReturnRuns}
 use Rattle.tm_runs.proofs.Steps.{step_fence, step_jalr}
 use Rattle.tm_barrier.proofs.Lists.{any-here, any-right, front-append}

@@ -24,7 +24,8 @@ use Rattle.tm_blocks_base.specs.Laws.{Uses, RegistersFit, accesses}
 use Rattle.tm_blocks_base.proofs.Dwords.{fit_put}
 use Rattle.tm_blocks_base.specs.Instrs.{fence}
 use Rattle.tm_barrier.specs.Words.{prepare, signal}
-use Rattle.tm_barrier.specs.Laws.{Meeting, Meets, signals_in, is_fence_in, idles_in, Keeps-in-step, Barred}
+use Rattle.tm_barrier.specs.Laws.{Meeting, Meets, Keeps-in-step, Barred}
+use Rattle.tm_runs.specs.Phases.{signals_in, is_fence_in, idles_in}
 use Rattle.tm_runs.proofs.Steps.{step_fence}
 use Rattle.tm_barrier.proofs.Lists.{any-here, any-no-number}
 use Rattle.tm_barrier.proofs.Made.{worked-length}

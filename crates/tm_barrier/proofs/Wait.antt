@@ -21,7 +21,8 @@ use Rattle.tm_blocks_base.specs.Laws.{RegistersFit}
 use Rattle.tm_blocks_base.proofs.Dwords.{fit_put}
 use Rattle.tm_blocks_base.specs.Instrs.{bltu_back}
 use Rattle.tm_barrier.specs.Words.{wait, waits}
-use Rattle.tm_barrier.specs.Laws.{Looks, idles_in}
+use Rattle.tm_barrier.specs.Laws.{Looks}
+use Rattle.tm_runs.specs.Phases.{idles_in}
 use Rattle.tm_runs.proofs.Steps.{step_bltu}
 use Rattle.tm_barrier.proofs.Lists.{any-here, any-later, any-left, any-right, any-number}
 use Rattle.tm_barrier.proofs.Made.{Made, made_none, made_one, made_then, made_more, made_idle}

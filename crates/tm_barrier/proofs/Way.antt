@@ -16,7 +16,8 @@ use Rattle.tm_runs.proofs.Tables.{get_put_zero, at_front, at_next}
 use Rattle.tm_blocks_base.specs.Instrs.{fence, go_to}
 use Rattle.tm_barrier.specs.Words.{meet, barrier}
 use Rattle.tm_barrier.specs.Laws.{Meeting, Meets, Barred, HasMet, after_fence, after_return}
-use Rattle.tm_barrier.specs.Course.{Keeping, work_at, Comes, PassesBarrier}
+use Rattle.tm_barrier.specs.Course.{work_at, Comes, PassesBarrier}
+use Rattle.tm_runs.specs.Phases.{Keeping}
 use Rattle.tm_barrier.proofs.Meet.{meet_runs, fence_runs, return_runs}
 use Rattle.tm_barrier.proofs.Passing.{barriers_keep}
 

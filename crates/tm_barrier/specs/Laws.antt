@@ -12,6 +12,7 @@ use Rattle.tm_world.specs.Work.{gets_less}
 use Rattle.tm_runs.specs.Machine.{Entry, State, World, put, get, moved}
 use Rattle.tm_runs.specs.Runs.{Takes, Keeps, At, Each, Does}
 use Rattle.tm_runs.specs.Course.{Story}
+use Rattle.tm_runs.specs.Phases.{signals_in, is_fence_in, idles_in}
 use Rattle.tm_blocks_base.specs.Laws.{Uses, EachAccess, accesses, RegistersFit}
 use Rattle.tm_blocks_base.specs.Instrs.{fence, go_to}
 use Rattle.tm_barrier.specs.Words.{meet}
@@ -33,19 +34,7 @@ Meets h n c = Uses (λ a. (a ≡ c) ⊎ IsOtherFlag h n a) (λ a. (a ≡ c) ⊎ 
 abbrev pub Looks : (h n : ℕ) → Access → Type 0
 Looks h n = Uses (IsOtherFlag h n) (λ a. ⊥)
 
--- ---- tests of an entry
-
--- it writes hart h's flag
-abbrev pub signals_in : ℕ → Entry → Bool
-signals_in h e = writes_flag h e.access
-
--- its word is `fence rw, rw`
-abbrev pub is_fence_in : Entry → Bool
-is_fence_in e = e.word == 0x0330000F
-
--- it reads another hart's flag, and gets less than m
-abbrev pub idles_in : (h n m : ℕ) → Entry → Bool
-idles_in h n m e = any (λ g. not (g == h) && gets_less (flag_at g) m e.access) (count_from 0 n)
+-- ---- work among entries
 
 -- one of the k newest passes the test
 abbrev pub lately : (Entry → Bool) → ℕ → List Entry → Bool

@@ -19,7 +19,7 @@ use Rattle.tm_plan_cases.specs.Collected.{is_declared, declares}
 use Rattle.tm_base.specs.Lists.{any}
 use Rattle.tm_plan_cases.specs.Shaped.{IsShapedSlot, IsShapedStream, IsShapedCase, IsShapedWindow, AreShaped}
 use Rattle.tm_world.specs.Place.{harts, start_of, end_of, inside, is_text, is_window, word_at}
-use Rattle.tm_world.specs.Writers.{stream_in}
+use Rattle.tm_plan_cases.specs.Streams.{stream_in}
 use Rattle.tm_runs.proofs.Places.{within-parts, word-place}
 use Rattle.tm_runs.proofs.Bytes.{within-true}
 use Rattle.tm_legal.specs.Tame.{Formed}

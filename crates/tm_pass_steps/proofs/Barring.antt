@@ -26,11 +26,14 @@ use Rattle.tm_legal.proofs.Formed.{formed-sizes}
 use Rattle.tm_legal.specs.Tame.{Formed}
 use Rattle.tm_blocks_base.specs.Laws.{Uses}
 use Rattle.tm_barrier.specs.Words.{meet}
-use Rattle.tm_barrier.specs.Laws.{Meets, IsOtherFlag, Keeps-in-step, idles_in, worked}
-use Rattle.tm_barrier.specs.Course.{Comes, PassesBarrier, Keeping as Keeping_there}
+use Rattle.tm_barrier.specs.Laws.{Meets, IsOtherFlag, Keeps-in-step, worked}
+use Rattle.tm_runs.specs.Phases.{idles_in}
+use Rattle.tm_barrier.specs.Course.{Comes, PassesBarrier}
 use Rattle.tm_barrier.proofs.Passing.{barriers_keep}
-use Rattle.tm_pass_way.specs.Logs.{phase_in, steps_in, now_in, signals_in, work_in}
-use Rattle.tm_pass_way.specs.Facts.{Fact, Told, Keeping, AreSet, last_in}
+use Rattle.tm_pass_way.specs.Logs.{work_in}
+use Rattle.tm_runs.specs.Phases.{phase_in, steps_in, now_in, signals_in}
+use Rattle.tm_pass_way.specs.Facts.{Fact, Told, AreSet, last_in}
+use Rattle.tm_runs.specs.Phases.{Keeping}
 use Rattle.tm_pass_way.specs.Calm.{IsBelow, IsOwn}
 use Rattle.tm_pass_way.proofs.Calm.{flag-low, work-more, owned-above}
 use Rattle.tm_pass_way.proofs.Stream.{private-below}
@@ -50,34 +53,6 @@ each-map E F f (e ∷ es) h = (f e h.0, each-map E F f es h.1)
 some-map : {P Q : ℕ → Type 0} (o : Option ℕ) → ((x : ℕ) → P x → Q x) → IfSome o P → IfSome o Q
 some-map None f s = s
 some-map (Some x) f s = f x s
-
--- ---- the same words, in both crates
-
-keeping-there : (p : Program) (h : ℕ) (past : List Entry) (e : Entry) → Keeping p h past e → Keeping_there p h past e
-keeping-there p h past e k = record {
-  signal = λ z. let g = k.signal z in record {
-    value = g.value;
-    once = g.once;
-    fence = g.fence;
-    ended = g.ended;
-    more = g.more;
-  };
-  still = k.still;
-  leave = λ z. let g = k.leave z in record { signalled = g.signalled; met = g.met };
-}
-
-pub keeping-here : (p : Program) (h : ℕ) (past : List Entry) (e : Entry) → Keeping_there p h past e → Keeping p h past e
-keeping-here p h past e k = record {
-  signal = λ z. let g = k.signal z in record {
-    value = g.value;
-    once = g.once;
-    fence = g.fence;
-    ended = g.ended;
-    more = g.more;
-  };
-  still = k.still;
-  leave = λ z. let g = k.leave z in record { signalled = g.signalled; met = g.met };
-}
 
 -- ---- what a barrier writes
 
@@ -167,8 +142,8 @@ module _ (p : Program) (formed : Formed p) (fit : MasksFit p.cases p.masks) (h :
     pub passes : (es : List Entry) → Story (Fact p h) base → Each Bars es → Story (Keeps-in-step h n (q + 1)) es
         → PassesBarrier p h q base es
     passes es story each steps =
-        barriers_keep p h q base es number comes (story-map (Fact p h) (Keeping_there p h)
-        (λ past e f. keeping-there p h past e f.barrier) base story) steps
+        barriers_keep p h q base es number comes (story-map (Fact p h) (Keeping p h)
+        (λ past e f. f.barrier) base story) steps
         (each-map Bars (λ (e : Entry). e.pc ≢ exit) off es each)
 
     far : (es : List Entry) → Each Bars es → Each (λ (e : Entry). e.pc ≢ exit) es
@@ -194,11 +169,11 @@ module _ (p : Program) (formed : Formed p) (fit : MasksFit p.cases p.masks) (h :
         (some-map (case_of_phase p (suc q)) (λ d g. subst (AreSet p h d) (sym (now-there es each))
         (set-all d es each g)) set)
 
-    facts : (es : List Entry) → Each Bars es → Story (Keeping_there p h) (es ++ base) → Story (Fact p h) base
+    facts : (es : List Entry) → Each Bars es → Story (Keeping p h) (es ++ base) → Story (Fact p h) base
         → Story (Fact p h) (es ++ base)
     facts [] each keep story = story
     facts (e ∷ es) each keep story = (
-      barrier-fact p formed fit h number (es ++ base) e (keeping-here p h (es ++ base) e keep.0)
+      barrier-fact p formed fit h number (es ++ base) e keep.0
           (uses e.access each.0.access) (starts e each.0) (halts e each.0) (λ z. absurd (off e each.0 z))
           (λ _. sets es each.1),
       facts es each.1 keep.1 story,

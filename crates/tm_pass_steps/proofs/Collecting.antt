@@ -38,7 +38,8 @@ use Rattle.tm_blocks_move.proofs.Once.{owned-rises}
 use Rattle.tm_blocks_move.proofs.Places.{fits_in}
 use Rattle.tm_blocks_move.proofs.Pointwise.{moved-other, collected-at}
 use Rattle.tm_pass_text.specs.Words.{aim}
-use Rattle.tm_pass_way.specs.Logs.{phase_in, steps_in, now_in, left_in, read_in, reports, signals_in}
+use Rattle.tm_pass_way.specs.Logs.{left_in, read_in, reports}
+use Rattle.tm_runs.specs.Phases.{phase_in, steps_in, now_in, signals_in}
 use Rattle.tm_pass_way.specs.Facts.{Fact, Told, Gathered}
 use Rattle.tm_pass_way.specs.Parts.{Hold, Ready, CollectsTo, Leads}
 use Rattle.tm_pass_way.specs.Calm.{Clear, Steady, LeavesTo, IsBelow, IsOwn}

@@ -35,7 +35,8 @@ use Rattle.tm_barrier.specs.Course.{PassesBarrier}
 use Rattle.tm_barrier.proofs.Meet.{meet_runs, fence_runs, return_runs}
 use Rattle.tm_barrier.proofs.Worlds.{meeting_of}
 use Rattle.tm_pass_text.specs.Words.{call}
-use Rattle.tm_pass_way.specs.Logs.{phase_in, now_in, left_in, read_in, reports, signals_in, work_in}
+use Rattle.tm_pass_way.specs.Logs.{left_in, read_in, reports, work_in}
+use Rattle.tm_runs.specs.Phases.{phase_in, now_in, signals_in}
 use Rattle.tm_pass_way.specs.Facts.{Fact, Told, Gathered, AreSet}
 use Rattle.tm_pass_way.specs.Parts.{Hold, Ready, Same, Leads}
 use Rattle.tm_pass_way.specs.Calm.{Clear, Steady, HopsTo, IsBelow, Recalls}
@@ -48,7 +49,7 @@ use Rattle.tm_pass_way.proofs.Hopping.{hop-part}
 use Rattle.tm_pass_way.proofs.Joining.{same-then}
 use Rattle.tm_pass_steps.specs.Sites.{BarrierSite, CallSite}
 use Rattle.tm_pass_steps.specs.Meeting.{CallMeets, meet_cost}
-use Rattle.tm_pass_steps.proofs.Barring.{keeping-here, passes as passes-of, phase-there, now-there, trail-same}
+use Rattle.tm_pass_steps.proofs.Barring.{passes as passes-of, phase-there, now-there, trail-same}
 use Rattle.tm_pass_steps.proofs.Barring.{few-there, told-there, uses, low, set-one}
 use Rattle.tm_pass_steps.proofs.Cells.{two-other, two-first, two-small, no, got-none, some-map, cells-apart}
 use Rattle.tm_pass_steps.proofs.Cells.{memo-apart, area-high, few-phases}
@@ -241,7 +242,7 @@ module _ (p : Program) (formed : Formed p) (fit : MasksFit p.cases p.masks) (h :
           m.barred.each m.barred.story m.barred.work hold.few
 
       fact1 : Fact p h log0 last
-      fact1 = barrier-fact p formed fit h number log0 last (keeping-here p h log0 last (pass.fence last refl off-exit))
+      fact1 = barrier-fact p formed fit h number log0 last (pass.fence last refl off-exit)
           tt (λ d l z. omega (arith, z, here, link-off, site.streams d l, site.some d l, m.pc))
           (λ z. omega (arith, z, here, m.pc, site.halt)) (λ z. absurd (off-exit z)) (λ z. no refl z)
 
@@ -281,7 +282,7 @@ module _ (p : Program) (formed : Formed p) (fit : MasksFit p.cases p.masks) (h :
       fact2 : Fact p h (last ∷ log0) way-back
       fact2 =
           barrier-fact p formed fit h number (last ∷ log0) way-back
-          (keeping-here p h (last ∷ log0) way-back (pass.back way-back last refl refl off-exit m.signalled m.met))
+          (pass.back way-back last refl refl off-exit m.signalled m.met)
           tt
           (λ d l z. by d l z (link-start d l)) (λ z. omega (arith, z, from.before)) (λ z. gathered1) (λ z. no refl z)
         where

@@ -6,7 +6,7 @@ use Rattle.tm_base.specs.Lists.{any}
 use Rattle.tm_world.specs.Place.{passes, end_of, exit_of}
 use Rattle.tm_world.specs.Marks.{Exit, Enter, End}
 use Rattle.tm_runs.specs.Machine.{Entry}
-use Rattle.tm_pass_way.specs.Logs.{now_in}
+use Rattle.tm_runs.specs.Phases.{now_in}
 use Rattle.tm_pass_way.specs.Facts.{Told, AreSet}
 use Rattle.tm_pass_way.specs.Parts.{Places, Hold, Ready, Same, Counts, Saves, CollectsTo, Leads, phase_at, way_to}
 use Rattle.tm_pass_way.specs.Parts.{turns}

@@ -24,7 +24,7 @@ use Rattle.tm_blocks_base.specs.Laws.{Among, Nowhere, Uses, Usable, Changeable, 
 use Rattle.tm_blocks_base.proofs.Dwords.{stored-other}
 use Rattle.tm_blocks_base.proofs.Pointwise.{stored-at}
 use Rattle.tm_blocks_base.proofs.Registers.{save_registers_runs}
-use Rattle.tm_pass_way.specs.Logs.{now_in}
+use Rattle.tm_runs.specs.Phases.{now_in}
 use Rattle.tm_pass_way.specs.Facts.{Told, Gathered}
 use Rattle.tm_pass_way.specs.Parts.{Hold, Saves, Leads}
 use Rattle.tm_pass_way.specs.Calm.{Clear, Steady, LeavesTo}

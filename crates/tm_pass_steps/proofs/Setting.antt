@@ -37,7 +37,8 @@ use Rattle.tm_blocks_move.specs.Runs.{In, UsesMoves, HasDone}
 use Rattle.tm_blocks_move.proofs.Blocks.{first_bytes_runs}
 use Rattle.tm_blocks_move.proofs.Places.{fits_in}
 use Rattle.tm_blocks_move.proofs.Pointwise.{moved-other}
-use Rattle.tm_pass_way.specs.Logs.{phase_in, now_in, left_in, read_in, signals_in}
+use Rattle.tm_pass_way.specs.Logs.{left_in, read_in}
+use Rattle.tm_runs.specs.Phases.{phase_in, now_in, signals_in}
 use Rattle.tm_pass_way.specs.Facts.{Fact, Told, Gathered, AreSet, last_in}
 use Rattle.tm_pass_way.specs.Parts.{Hold, Ready, Same, Leads}
 use Rattle.tm_pass_way.specs.Calm.{Clear, Steady, LeavesTo, IsBelow}

@@ -12,7 +12,7 @@ use Rattle.tm_runs.specs.World.{support_at}
 use Rattle.tm_legal.specs.Tame.{Formed}
 use Rattle.tm_blocks_move.specs.Lines.{collect_all}
 use Rattle.tm_pass_text.specs.Words.{aim}
-use Rattle.tm_pass_way.specs.Logs.{now_in}
+use Rattle.tm_runs.specs.Phases.{now_in}
 use Rattle.tm_pass_way.specs.Facts.{Told}
 use Rattle.tm_pass_way.specs.Parts.{Hold, Ready, CollectsTo, Leads}
 use Rattle.tm_pass_way.specs.Calm.{Clear}

@@ -10,7 +10,7 @@ use Rattle.tm_world.specs.Marks.{Mark, Exit, whole_way}
 use Rattle.tm_world.specs.Course.{last_phase}
 use Rattle.tm_runs.specs.Machine.{State, Entry}
 use Rattle.tm_legal.specs.Tame.{Formed}
-use Rattle.tm_pass_way.specs.Logs.{now_in}
+use Rattle.tm_runs.specs.Phases.{now_in}
 use Rattle.tm_pass_way.specs.Facts.{Told, AreSet}
 use Rattle.tm_pass_way.specs.Parts.{Hold, Ready, Same, Leads}
 use Rattle.tm_pass_steps.specs.Sites.{BarrierSite, CallSite}

@@ -12,7 +12,7 @@ use Rattle.tm_runs.specs.Runs.{At}
 use Rattle.tm_runs.specs.World.{support_at, image_dword}
 use Rattle.tm_legal.specs.Tame.{Formed}
 use Rattle.tm_blocks_move.specs.Lines.{first_bytes}
-use Rattle.tm_pass_way.specs.Logs.{now_in}
+use Rattle.tm_runs.specs.Phases.{now_in}
 use Rattle.tm_pass_way.specs.Facts.{Told, AreSet}
 use Rattle.tm_pass_way.specs.Parts.{Ready, Same, Leads}
 use Rattle.tm_pass_way.specs.Calm.{Clear}

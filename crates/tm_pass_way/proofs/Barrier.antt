@@ -22,8 +22,9 @@ use Rattle.tm_legal.proofs.Formed.{formed-sizes}
 use Rattle.tm_legal.specs.Tame.{Formed}
 use Rattle.tm_legal.proofs.Streams.{case-of}
 use Rattle.tm_blocks_base.specs.Laws.{Uses}
-use Rattle.tm_pass_way.specs.Logs.{phase_in, now_in, signals_in}
-use Rattle.tm_pass_way.specs.Facts.{Fact, Keeping, Gathered, Gathering, AreSet}
+use Rattle.tm_runs.specs.Phases.{phase_in, now_in, signals_in}
+use Rattle.tm_pass_way.specs.Facts.{Fact, Gathered, Gathering, AreSet}
+use Rattle.tm_runs.specs.Phases.{Keeping}
 use Rattle.tm_pass_way.specs.Calm.{IsBelow, IsOwn}
 use Rattle.tm_pass_way.proofs.Calm.{verdict-low, undeclared, window-high, any-none, owned-above}
 use Rattle.tm_pass_way.proofs.Stream.{private-below}

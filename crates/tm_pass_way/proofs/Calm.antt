@@ -17,7 +17,8 @@ use Rattle.tm_world.specs.Lists.{IsFront}
 use Rattle.tm_world.specs.Place.{harts, case_count, passes, start_of, end_of, exit_of, halt_of, is_private, is_flag}
 use Rattle.tm_world.specs.Place.{is_verdict, is_window}
 use Rattle.tm_world.specs.Run.{Writes}
-use Rattle.tm_world.specs.Writers.{may_write, may_write_window, stream_in}
+use Rattle.tm_world.specs.Writers.{may_write, may_write_window}
+use Rattle.tm_plan_cases.specs.Streams.{stream_in}
 use Rattle.tm_world.specs.Kinds.{stream_at, writes_flag}
 use Rattle.tm_world.specs.Marks.{Mark, Enter, comes_to, arrivals, whole_way}
 use Rattle.tm_world.specs.Course.{writes_in, reads_in, writes_shared, round_before}
@@ -33,7 +34,8 @@ use Rattle.tm_legal.specs.Tame.{Formed}
 use Rattle.tm_legal.proofs.Streams.{case-of}
 use Rattle.tm_stays.specs.Stays.{one_outside}
 use Rattle.tm_blocks_base.specs.Laws.{Uses}
-use Rattle.tm_pass_way.specs.Logs.{phase_in, steps_in, now_in, reports, signals_in, lately_at, work_in}
+use Rattle.tm_pass_way.specs.Logs.{reports, work_in}
+use Rattle.tm_runs.specs.Phases.{phase_in, steps_in, now_in, signals_in, lately_at}
 use Rattle.tm_pass_way.specs.Facts.{Fact, Gathering}
 use Rattle.tm_pass_way.specs.Calm.{Clear, IsBelow, IsOwn, Steady}
 

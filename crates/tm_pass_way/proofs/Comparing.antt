@@ -23,7 +23,8 @@ use Rattle.tm_runs.proofs.Places.{or-right}
 use Rattle.tm_runs.proofs.Compose.{keeps_after, keeps_now, takes_map}
 use Rattle.tm_legal.proofs.Formed.{formed-sizes}
 use Rattle.tm_legal.specs.Tame.{Formed}
-use Rattle.tm_pass_way.specs.Logs.{phase_in, now_in, reports, signals_in, work_in}
+use Rattle.tm_pass_way.specs.Logs.{reports, work_in}
+use Rattle.tm_runs.specs.Phases.{phase_in, now_in, signals_in}
 use Rattle.tm_pass_way.specs.Facts.{Fact, Told, Gathered}
 use Rattle.tm_pass_way.specs.Parts.{Hold, Ready, Passes, PassTold, Leads, phase_at, way_to}
 use Rattle.tm_pass_way.specs.Calm.{Clear, Steady, ComparesTo}

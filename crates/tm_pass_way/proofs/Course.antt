@@ -16,7 +16,8 @@ use Rattle.tm_plan_cases.specs.Shaped.{MasksFit}
 use Rattle.tm_world.specs.Lists.{front_to, IsFront}
 use Rattle.tm_world.specs.Place.{harts, case_count, passes, end_of, exit_of, halt_of, byte_of}
 use Rattle.tm_world.specs.Run.{Step, Always, now, first_state, pc_of, access_of, phase, in_phase, last_write}
-use Rattle.tm_world.specs.Writers.{case_of_phase, stream_in}
+use Rattle.tm_world.specs.Writers.{case_of_phase}
+use Rattle.tm_plan_cases.specs.Streams.{stream_in}
 use Rattle.tm_world.specs.Kinds.{IsOpening, HalfPath, stream_at}
 use Rattle.tm_world.specs.Marks.{Mark, Enter, comes_to, arrivals, whole_way}
 use Rattle.tm_world.specs.Course.{OnHalf, KeepsOrder, EntersFresh, KeepsVerdicts, HasAllVerdicts, KeepsWrites}
@@ -37,8 +38,10 @@ use Rattle.tm_runs.proofs.Worlds.{stopped, image-private, private-dword}
 use Rattle.tm_runs.proofs.Paths.{always, told-log, goes-on, on-half, any-entries, phase-entries, stands, visited-trail}
 use Rattle.tm_legal.proofs.Formed.{formed-sizes}
 use Rattle.tm_legal.specs.Tame.{Formed}
-use Rattle.tm_pass_way.specs.Logs.{phase_in, steps_in, now_in, reports, signals_in, work_in}
-use Rattle.tm_pass_way.specs.Facts.{Fact, Told, Gathered, Gathering, Signalling, Leaving, Keeping, AreSet, last_in}
+use Rattle.tm_pass_way.specs.Logs.{reports, work_in}
+use Rattle.tm_runs.specs.Phases.{phase_in, steps_in, now_in, signals_in}
+use Rattle.tm_pass_way.specs.Facts.{Fact, Told, Gathered, Gathering, AreSet, last_in}
+use Rattle.tm_runs.specs.Phases.{Signalling, Leaving, Keeping}
 use Rattle.tm_pass_way.specs.Parts.{Places, Costs, Turns, Rooms, Opens, AtHead}
 use Rattle.tm_pass_way.specs.Meets.{SetsDwords, EntersBehindExit, WritesLate, phase_work, Keeps, Halts, PartsKeep}
 use Rattle.tm_pass_way.proofs.Entries.{in-phase, now-entries, any-now, front-entries, last-entries, verdict-entries}

@@ -20,8 +20,10 @@ use Rattle.tm_stays.specs.Stays.{one_outside}
 use Rattle.tm_runs.specs.Machine.{Entry, Table}
 use Rattle.tm_runs.specs.Shadow.{entry_of, entries_of}
 use Rattle.tm_runs.proofs.Paths.{stands, phase-entries, any-entries}
-use Rattle.tm_pass_way.specs.Logs.{phase_in, steps_in, now_in, left_in, read_in, end_in, SameIn, IsVerdictIn}
-use Rattle.tm_pass_way.specs.Logs.{agree as agree_in, differ as differ_in, signals_in, idles_at, lately_at, work_in}
+use Rattle.tm_pass_way.specs.Logs.{left_in, read_in, end_in, SameIn, IsVerdictIn}
+use Rattle.tm_runs.specs.Phases.{phase_in, steps_in, now_in}
+use Rattle.tm_pass_way.specs.Logs.{agree as agree_in, differ as differ_in, work_in}
+use Rattle.tm_runs.specs.Phases.{signals_in, idles_at, lately_at}
 use Rattle.tm_pass_way.specs.Facts.{last_in}
 use Rattle.tm_pass_way.specs.Meets.{phase_work}
 

@@ -18,7 +18,8 @@ use Rattle.tm_world.specs.Writers.{run_phase}
 use Rattle.tm_world.specs.Course.{reads_in}
 use Rattle.tm_runs.specs.Machine.{Entry, Table}
 use Rattle.tm_runs.proofs.Places.{or-right}
-use Rattle.tm_pass_way.specs.Logs.{phase_in, steps_in, read_in}
+use Rattle.tm_pass_way.specs.Logs.{read_in}
+use Rattle.tm_runs.specs.Phases.{phase_in, steps_in}
 use Rattle.tm_pass_way.specs.Facts.{Gathered}
 use Rattle.tm_pass_way.specs.Parts.{PassTold}
 

@@ -21,7 +21,8 @@ use Rattle.tm_runs.proofs.Places.{or-right}
 use Rattle.tm_runs.proofs.Compose.{keeps_after, keeps_now, takes_map}
 use Rattle.tm_legal.proofs.Formed.{formed-sizes}
 use Rattle.tm_legal.specs.Tame.{Formed}
-use Rattle.tm_pass_way.specs.Logs.{phase_in, now_in, left_in, read_in}
+use Rattle.tm_pass_way.specs.Logs.{left_in, read_in}
+use Rattle.tm_runs.specs.Phases.{phase_in, now_in}
 use Rattle.tm_pass_way.specs.Facts.{Told, Gathered}
 use Rattle.tm_pass_way.specs.Parts.{Hold, Ready, Leads}
 use Rattle.tm_pass_way.specs.Calm.{Clear, Steady, HopsTo, Recalls}

@@ -13,7 +13,7 @@ use Rattle.tm_world.specs.Course.{round_before, last_phase}
 use Rattle.tm_runs.specs.Machine.{State, Entry}
 use Rattle.tm_runs.proofs.Compose.{keeps_then, keeps_map}
 use Rattle.tm_legal.specs.Tame.{Formed}
-use Rattle.tm_pass_way.specs.Logs.{now_in}
+use Rattle.tm_runs.specs.Phases.{now_in}
 use Rattle.tm_pass_way.specs.Facts.{Told, Gathered, AreSet}
 use Rattle.tm_pass_way.specs.Parts.{Places, Costs, Hold, Ready, Same, Saves, Leads, Turns, phase_at, turns, way_to}
 use Rattle.tm_pass_way.specs.Calm.{StreamClear}

@@ -28,7 +28,8 @@ use Rattle.tm_runs.proofs.Compose.{keeps_after, keeps_now, takes_map}
 use Rattle.tm_legal.proofs.Formed.{formed-sizes}
 use Rattle.tm_legal.specs.Tame.{Formed}
 use Rattle.tm_stays.specs.Stays.{one_outside}
-use Rattle.tm_pass_way.specs.Logs.{phase_in, now_in, left_in, read_in, lately_at, work_in}
+use Rattle.tm_pass_way.specs.Logs.{left_in, read_in, work_in}
+use Rattle.tm_runs.specs.Phases.{phase_in, now_in, lately_at}
 use Rattle.tm_pass_way.specs.Facts.{Told, Gathered}
 use Rattle.tm_pass_way.specs.Parts.{Hold, Ready, Leads}
 use Rattle.tm_pass_way.specs.Calm.{Clear, Steady, LeavesTo, Recalls}

@@ -18,7 +18,8 @@ use Rattle.tm_runs.proofs.Split.{takes_count}
 use Rattle.tm_runs.proofs.Compose.{keeps_after, keeps_now, takes_map}
 use Rattle.tm_legal.proofs.Formed.{formed-sizes}
 use Rattle.tm_legal.specs.Tame.{Formed}
-use Rattle.tm_pass_way.specs.Logs.{phase_in, left_in, read_in}
+use Rattle.tm_pass_way.specs.Logs.{left_in, read_in}
+use Rattle.tm_runs.specs.Phases.{phase_in}
 use Rattle.tm_pass_way.specs.Facts.{Told}
 use Rattle.tm_pass_way.specs.Parts.{Hold, Same, Leads, phase_at, way_to}
 use Rattle.tm_pass_way.specs.Calm.{Clear, StreamClear, Steady, LoadsInto}

@@ -10,7 +10,8 @@ use Rattle.tm_world.specs.Place.{case_count, passes, exit_of, inside, byte_of}
 use Rattle.tm_world.specs.Run.{got}
 use Rattle.tm_world.specs.Writers.{run_phase}
 use Rattle.tm_runs.specs.Machine.{State, Entry, Table}
-use Rattle.tm_pass_way.specs.Logs.{phase_in, steps_in, left_in, read_in}
+use Rattle.tm_pass_way.specs.Logs.{left_in, read_in}
+use Rattle.tm_runs.specs.Phases.{phase_in, steps_in}
 use Rattle.tm_pass_way.specs.Parts.{Same, Counts, Stayed, Saves, CollectsTo, PassTold, RegistersTold}
 
 -- ---- a phase of which there is no entry yet

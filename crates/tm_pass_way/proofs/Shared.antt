@@ -23,7 +23,7 @@ use Rattle.tm_runs.proofs.Places.{or-right}
 use Rattle.tm_legal.proofs.Formed.{formed-sizes}
 use Rattle.tm_legal.specs.Tame.{Formed}
 use Rattle.tm_legal.proofs.Streams.{case-of}
-use Rattle.tm_pass_way.specs.Logs.{phase_in, now_in, signals_in}
+use Rattle.tm_runs.specs.Phases.{phase_in, now_in, signals_in}
 use Rattle.tm_pass_way.specs.Facts.{Fact, Gathered, Gathering}
 use Rattle.tm_pass_way.proofs.Calm.{verdict-low, flag-low, any-none}
 use Rattle.tm_pass_way.proofs.Stream.{private-below}

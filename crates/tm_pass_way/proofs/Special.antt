@@ -17,7 +17,8 @@ use Rattle.tm_plan_cases.specs.Shaped.{MasksFit}
 use Rattle.tm_world.specs.Place.{harts, case_count, passes, start_of, end_of, exit_of, halt_of, is_private, is_flag}
 use Rattle.tm_world.specs.Place.{is_verdict, is_window}
 use Rattle.tm_world.specs.Run.{Writes}
-use Rattle.tm_world.specs.Writers.{may_write, may_write_window, stream_in}
+use Rattle.tm_world.specs.Writers.{may_write, may_write_window}
+use Rattle.tm_plan_cases.specs.Streams.{stream_in}
 use Rattle.tm_world.specs.Kinds.{writes_flag}
 use Rattle.tm_world.specs.Course.{writes_in, reads_in, writes_shared, round_before}
 use Rattle.tm_runs.specs.Machine.{Entry, Table}
@@ -26,7 +27,8 @@ use Rattle.tm_runs.proofs.Places.{or-right}
 use Rattle.tm_legal.proofs.Formed.{formed-sizes}
 use Rattle.tm_legal.specs.Tame.{Formed}
 use Rattle.tm_legal.proofs.Streams.{case-of}
-use Rattle.tm_pass_way.specs.Logs.{phase_in, now_in, reports, signals_in, IsVerdictIn}
+use Rattle.tm_pass_way.specs.Logs.{reports, IsVerdictIn}
+use Rattle.tm_runs.specs.Phases.{phase_in, now_in, signals_in}
 use Rattle.tm_pass_way.specs.Facts.{Fact, Gathered, Gathering, Reporting}
 use Rattle.tm_pass_way.specs.Parts.{phase_at, PassTold, IsFound}
 use Rattle.tm_pass_way.specs.Calm.{StreamClear}

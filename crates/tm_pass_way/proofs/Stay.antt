@@ -22,7 +22,8 @@ use Rattle.tm_runs.proofs.Places.{or-right}
 use Rattle.tm_runs.proofs.Worlds.{private-dword}
 use Rattle.tm_runs.proofs.Compose.{keeps_map, keeps_stream}
 use Rattle.tm_legal.specs.Tame.{Formed}
-use Rattle.tm_pass_way.specs.Logs.{phase_in, now_in, left_in, read_in, reports, signals_in, work_in}
+use Rattle.tm_pass_way.specs.Logs.{left_in, read_in, reports, work_in}
+use Rattle.tm_runs.specs.Phases.{phase_in, now_in, signals_in}
 use Rattle.tm_pass_way.specs.Facts.{Fact, Told}
 use Rattle.tm_pass_way.specs.Parts.{Hold, Stayed, Leads}
 use Rattle.tm_pass_way.specs.Calm.{StreamClear}

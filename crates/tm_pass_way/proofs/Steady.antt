@@ -15,7 +15,8 @@ use Rattle.tm_runs.specs.Course.{trail}
 use Rattle.tm_runs.proofs.Places.{or-right}
 use Rattle.tm_legal.specs.Tame.{Formed}
 use Rattle.tm_stays.specs.Stays.{one_outside}
-use Rattle.tm_pass_way.specs.Logs.{phase_in, steps_in, now_in, reports, signals_in, lately_at, work_in}
+use Rattle.tm_pass_way.specs.Logs.{reports, work_in}
+use Rattle.tm_runs.specs.Phases.{phase_in, steps_in, now_in, signals_in, lately_at}
 use Rattle.tm_pass_way.specs.Facts.{Fact, Told}
 use Rattle.tm_pass_way.specs.Calm.{Steady}
 use Rattle.tm_pass_way.proofs.Calm.{phase-stays, now-stays, work-more}

@@ -25,7 +25,8 @@ use Rattle.tm_legal.proofs.Formed.{formed-sizes}
 use Rattle.tm_legal.specs.Tame.{Formed}
 use Rattle.tm_legal.proofs.Streams.{case-of}
 use Rattle.tm_stays.specs.Stays.{one_outside}
-use Rattle.tm_pass_way.specs.Logs.{phase_in, now_in, signals_in, lately_at, work_in}
+use Rattle.tm_pass_way.specs.Logs.{work_in}
+use Rattle.tm_runs.specs.Phases.{phase_in, now_in, signals_in, lately_at}
 use Rattle.tm_pass_way.specs.Facts.{Fact, Gathering}
 use Rattle.tm_pass_way.specs.Calm.{StreamClear}
 use Rattle.tm_pass_way.proofs.Calm.{verdict-low, flag-low}

@@ -15,7 +15,8 @@ use Rattle.tm_runs.proofs.Places.{or-right}
 use Rattle.tm_legal.specs.Tame.{Formed}
 use Rattle.tm_stays.specs.Stays.{one_outside}
 use Rattle.tm_world.specs.Kinds.{stream_at}
-use Rattle.tm_pass_way.specs.Logs.{phase_in, now_in, signals_in, idles_at, lately_at, work_in}
+use Rattle.tm_pass_way.specs.Logs.{work_in}
+use Rattle.tm_runs.specs.Phases.{phase_in, now_in, signals_in, idles_at, lately_at}
 use Rattle.tm_pass_way.proofs.Calm.{phase-stays, now-stays, work-more}
 
 -- it reads another hart's flag, and gets less than m

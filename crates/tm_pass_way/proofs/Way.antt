@@ -13,7 +13,8 @@ use Rattle.tm_world.specs.Marks.{Mark, Halt, pass_way}
 use Rattle.tm_world.specs.Writers.{run_phase}
 use Rattle.tm_runs.specs.Machine.{State}
 use Rattle.tm_runs.proofs.Compose.{keeps_then, keeps_now, keeps_map}
-use Rattle.tm_pass_way.specs.Logs.{steps_in, left_in}
+use Rattle.tm_pass_way.specs.Logs.{left_in}
+use Rattle.tm_runs.specs.Phases.{steps_in}
 use Rattle.tm_pass_way.specs.Parts.{Places, Costs, Hold, Ready, CollectsTo, PassTold, RegistersTold, Leads, Opens}
 use Rattle.tm_pass_way.specs.Parts.{Turns, Rooms, AtHead, AtSet, AtTurn, AtCompare, phase_at, few_passes, way_to}
 use Rattle.tm_pass_way.proofs.Notes.{left-none, told-same, told-counts, told-saves, told-stay, told-collect}

@@ -12,12 +12,13 @@ use Rattle.tm_runs.specs.World.{is_fixed_dword}
 use Rattle.tm_runs.specs.Runs.{Does, Each}
 use Rattle.tm_blocks_base.specs.Laws.{Uses}
 use Rattle.tm_plan_cases.specs.declared.cases.Stream.{Stream}
-use Rattle.tm_world.specs.Writers.{stream_in}
+use Rattle.tm_plan_cases.specs.Streams.{stream_in}
 use Rattle.tm_table.specs.declared.state.Access.TheVariants.{Write}
 use Rattle.tm_plan_cases.specs.declared.masks.CaseMask.{CaseMask}
 use Rattle.tm_pass_way.specs.Parts.{Memos, IsFound}
 use Rattle.tm_runs.specs.Course.{trail}
-use Rattle.tm_pass_way.specs.Logs.{phase_in, now_in, left_in, read_in, reports, signals_in, work_in}
+use Rattle.tm_pass_way.specs.Logs.{left_in, read_in, reports, work_in}
+use Rattle.tm_runs.specs.Phases.{phase_in, now_in, signals_in}
 use Rattle.tm_pass_way.specs.Facts.{Told}
 
 -- The words from lo to hi lie in no stream, and neither behind the first of them nor behind the last is a mark.

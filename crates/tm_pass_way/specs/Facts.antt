@@ -13,37 +13,16 @@ use Rattle.tm_base.specs.Lists.{any}
 use Rattle.tm_world.specs.Lists.{front_to, or_else, IsFront}
 use Rattle.tm_world.specs.Place.{harts, case_count, passes, end_of, exit_of, halt_of, byte_of}
 use Rattle.tm_world.specs.Run.{Writes, written}
-use Rattle.tm_world.specs.Writers.{may_write, case_of_phase, stream_in}
+use Rattle.tm_world.specs.Writers.{may_write, case_of_phase}
+use Rattle.tm_plan_cases.specs.Streams.{stream_in}
 use Rattle.tm_world.specs.Kinds.{stream_at}
 use Rattle.tm_world.specs.Marks.{Enter, comes_to, arrivals, whole_way}
 use Rattle.tm_world.specs.Course.{writes_in, reads_in, is_write, gets, IsStill, last_phase, writes_shared, round_before}
 use Rattle.tm_world.specs.Writers.{run_phase}
 use Rattle.tm_runs.specs.Machine.{Entry}
 use Rattle.tm_runs.specs.Course.{trail, Story}
-use Rattle.tm_pass_way.specs.Logs.{phase_in, steps_in, now_in, IsVerdictIn, reports, signals_in, work_in}
-
--- ---- the barrier (these three stand in tm_barrier's specs)
-
-pub record Signalling (p : Program) (h q : ℕ) (past : List Entry) (e : Entry) : Type 0 where
-  pub value : e.access ≡ Write (flag_at h) 8 (q + 1)
-  pub once : any (signals_in h) (now_in (exit_of p h) past) ≡ false
-  pub fence : any (λ (t : Entry). t.word == 0x0330000F) (front_to (λ (t : Entry). is_write t.access) past) ≡ true
-  pub ended : IfSome (case_of_phase p q) (λ c. IsTrue
-      (any (λ (t : Entry). t.next == end_of p h c) (now_in (exit_of p h) past)))
-  pub more : q ≢ last_phase p
-
--- The hart leaves phase q, told of its log: it has signalled in it, and has since got at least q + 1 from each other
--- flag.
-pub record Leaving (p : Program) (h q : ℕ) (past : List Entry) : Type 0 where
-  pub signalled : any (signals_in h) (now_in (exit_of p h) past) ≡ true
-  pub met : (g : ℕ) → g < harts p → g ≢ h
-      → any (λ (t : Entry). gets (flag_at g) (q + 1) t.access) (front_to (signals_in h) past) ≡ true
-
--- An entry keeps the barrier, told of the log before it.
-pub record Keeping (p : Program) (h : ℕ) (past : List Entry) (e : Entry) : Type 0 where
-  pub signal : IsTrue (signals_in h e) → Signalling p h (phase_in (exit_of p h) past) past e
-  pub still : any (signals_in h) (now_in (exit_of p h) past) ≡ true → IsStill p h e.access
-  pub leave : e.pc ≡ exit_of p h → Leaving p h (phase_in (exit_of p h) past) past
+use Rattle.tm_pass_way.specs.Logs.{IsVerdictIn, reports, work_in}
+use Rattle.tm_runs.specs.Phases.{phase_in, steps_in, now_in, signals_in, Keeping}
 
 -- ---- collecting
 

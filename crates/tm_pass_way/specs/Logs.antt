@@ -15,21 +15,7 @@ use Rattle.tm_world.specs.Writers.{run_phase}
 use Rattle.tm_world.specs.Work.{gets_less}
 use Rattle.tm_stays.specs.Stays.{one_outside}
 use Rattle.tm_runs.specs.Machine.{Entry, Table}
-
--- ---- phases (these three stand in tm_barrier's specs too)
-
--- the phase that the hart is in
-abbrev pub phase_in : ℕ → List Entry → ℕ
-phase_in exit log = count (λ (e : Entry). e.pc == exit) log
-
--- the entries of phase q
-abbrev pub steps_in : ℕ → ℕ → List Entry → List Entry
-steps_in exit q [] = []
-steps_in exit q (e ∷ past) = if phase_in exit past == q then e ∷ steps_in exit q past else steps_in exit q past
-
--- those of the phase that the hart is in
-abbrev pub now_in : ℕ → List Entry → List Entry
-now_in exit log = steps_in exit (phase_in exit log) log
+use Rattle.tm_runs.specs.Phases.{phase_in, lately_at}
 
 -- ---- end values
 
@@ -71,23 +57,7 @@ pub data IsVerdictIn (p : Program) (m : CaseMask) (h c : ℕ) (log : List Entry)
 abbrev pub reports : (c h : ℕ) → Entry → Bool
 reports c h e = writes_in (verdict_at c h) 8 e.access
 
--- it writes hart h's flag
-abbrev pub signals_in : ℕ → Entry → Bool
-signals_in h e = writes_flag h e.access
-
 -- ---- work outside streams
-
--- an idle read
-abbrev pub idles_at : Program → ℕ → List Entry → Entry → Bool
-idles_at p h past e = any (signals_in h) (now_in (exit_of p h) past)
-    && any (λ g. not (g == h) && gets_less (flag_at g) (phase_in (exit_of p h) past + 1) e.access)
-    (count_from 0 (harts p))
-
--- one of the n newest is an idle read
-abbrev pub lately_at : Program → ℕ → ℕ → List Entry → Bool
-lately_at p h zero log = false
-lately_at p h (suc n) [] = false
-lately_at p h (suc n) (e ∷ past) = idles_at p h past e || lately_at p h n past
 
 -- how many entries of phase q outside streams are work
 abbrev pub work_in : Program → (h q : ℕ) → List Entry → ℕ

@@ -29,7 +29,8 @@ use Rattle.tm_runs.specs.Machine.{State, Entry, Table, get}
 use Rattle.tm_runs.specs.Runs.{Keeps}
 use Rattle.tm_runs.specs.World.{world_of, is_fixed_dword, image_dword}
 use Rattle.tm_runs.specs.Course.{trail}
-use Rattle.tm_pass_way.specs.Logs.{phase_in, now_in, left_in, read_in, reports, signals_in, work_in}
+use Rattle.tm_pass_way.specs.Logs.{left_in, read_in, reports, work_in}
+use Rattle.tm_runs.specs.Phases.{phase_in, now_in, signals_in}
 use Rattle.tm_pass_way.specs.Facts.{Told, Gathered}
 use Rattle.tm_world.specs.Course.{round_before}
 

@@ -13,7 +13,7 @@ use Rattle.tm_world.specs.Marks.{Mark, Exit, Enter, End, Halt, whole_way}
 use Rattle.tm_world.specs.Course.{last_phase}
 use Rattle.tm_runs.specs.Machine.{State, Entry}
 use Rattle.tm_legal.specs.Tame.{Formed}
-use Rattle.tm_pass_way.specs.Logs.{now_in}
+use Rattle.tm_runs.specs.Phases.{now_in}
 use Rattle.tm_pass_way.specs.Facts.{Told, AreSet}
 use Rattle.tm_pass_way.specs.Parts.{Places, Costs, Hold, Ready, Same, Counts, Saves, CollectsTo, Passes, Leads, Opens}
 use Rattle.tm_pass_way.specs.Parts.{Turns, phase_at, way_to}

@@ -3,3 +3,4 @@ pub mod Runs
 pub mod World
 pub mod Shadow
 pub mod Course
+pub mod Phases

@@ -1,1 +1,3 @@
 pub mod Prefix
+mod Differing
+mod Rows
