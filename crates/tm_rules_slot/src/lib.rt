@@ -4,7 +4,6 @@
 mod access;
 mod emits;
 mod mixes;
-mod ops;
 mod teams;
 
 pub use emits::emit_fault;
