@@ -1,7 +1,6 @@
 pub mod Acts
-pub mod Runs
+pub mod Memory
 pub mod Harts
-pub mod NoLines
 pub mod Rows
 pub mod Stepping
 pub mod Bytes

@@ -6,7 +6,7 @@ use Rattle.tm_table.specs.declared.state.Access.TheVariants.{Quiet, Read, Write}
 use Rattle.tm_table.specs.State.{Hart, hart_of as hart_in}
 use Rattle.tm_table.specs.Row.{row, row_word}
 use Rattle.tm_plan_cases.specs.declared.program.Program.{Program}
-use Rattle.tm_plan_cases.specs.declared.journal.Event.{Event}
+use Rattle.tm_plan_cases.specs.declared.event.Event.{Event}
 use Rattle.tm_plan_journal.specs.Journaled.{Journaled}
 use Rattle.tm_plan_script.specs.declared.faults.FaultLine.{FaultLine}
 use Rattle.tm_ram.specs.Region.{Region}
@@ -23,8 +23,9 @@ use Rattle.tm_guest.specs.Waiting.{phase_after, signalled_after}
 use Rattle.tm_guest.specs.Memory.{owed_of, IsWritten}
 use Rattle.tm_guest.specs.Fields.{IsRow, IsState, AreStates, IsMemory, Keeps}
 use Rattle.tm_memory.proofs.Keeping.{no-lines}
-use Rattle.tm_guest.proofs.NoLines.{plain-where, by_row, stepped-row}
-use Rattle.tm_guest.proofs.Runs.{opened, steps-more, length-steps, plain-more, memory-more}
+use Rattle.tm_memory.proofs.NoLines.{plain-where, by_row, stepped-row, opened, plain-more}
+use Rattle.tm_world.proofs.Replaying.{steps-more, length-steps}
+use Rattle.tm_guest.proofs.Memory.{memory-more}
 use Rattle.tm_guest.proofs.Harts.{states-more, phase-few}
 use Rattle.tm_guest.proofs.Rows.{Finds, finds}
 

@@ -9,3 +9,4 @@ pub mod Nothing
 pub mod Next
 pub mod Numbers
 pub mod Keeping
+pub mod NoLines

@@ -14,7 +14,7 @@ use Rattle.tm_world.specs.Kinds.{Legal}
 use Rattle.tm_world.specs.Course.{OnHalf, KeepsVerdicts, writes_in}
 use Rattle.tm_world.specs.Verdict.{Part, end_value, saved, parts, is_checked, Same, IsVerdict, agree, differ}
 use Rattle.tm_world.specs.Verdict.{WritesExactly}
-use Rattle.tm_world.specs.Sound.{NotReported}
+use Rattle.tm_world.specs.Reported.{NotReported}
 use Rattle.tm_world.proofs.Prefix.{earlier, Legal-earlier}
 use Rattle.tm_legal.proofs.Own.{own-here}
 use Rattle.tm_legal.proofs.Streams.{none-past}

@@ -11,7 +11,7 @@ use Rattle.tm_world.specs.Course.{OnHalf, HartCourse}
 use Rattle.tm_world.specs.Whole.{Course}
 use Rattle.tm_world.specs.Verdict.{Part, Register, Byte, end_value, is_checked, WritesExactly, HasEnds}
 use Rattle.tm_world.specs.Checked.{AreChecked}
-use Rattle.tm_world.specs.Sound.{NotReported}
+use Rattle.tm_world.specs.Reported.{NotReported}
 use Rattle.tm_legal.specs.Tame.{Formed}
 use Rattle.tm_legal.specs.Laws.{OnLegal}
 

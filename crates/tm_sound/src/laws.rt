@@ -1,4 +1,5 @@
-// A law over the definitions, as the contract of a function that does nothing.
+// Laws over the definitions, each as the contract of a function that does nothing.
+ghost use Rattle.tm_sound.specs.Headline.{SoundHasHeadline};
 ghost use Rattle.tm_sound.specs.Laws.{SoundByHarts};
 
 use tm_plan_cases::Program;
@@ -12,6 +13,18 @@ use tm_plan_cases::Program;
 /// types of its fields; and what each hart keeps, which the words of its code show.
 pub fn sound(program: &Program)
     ensures { SoundByHarts program.now }
+{
+    let _ = program;
+}
+
+/// What is promised of each sound program. On each legal run, whatever its racing reads return, no case is reported.
+/// On each half run at whose end all harts are at halt, a case is reported exactly where some checked register or
+/// byte, one that depends on no race, has end values that differ between two passes. Each plain run is legal, and each
+/// run that an accepted script has changed is a half run.
+///
+/// Asked: a sound program, as what builds it gives it.
+pub fn headline(program: &Program)
+    ensures { SoundHasHeadline program.now }
 {
     let _ = program;
 }

@@ -10,7 +10,7 @@ use Rattle.tm_words.specs.Words.{Command}
 use Rattle.tm_words.specs.Words.Command.{to_build, to_list, to_run, to_sample}
 use Rattle.tm_top_line.specs.Lines.{fault_text}
 use Rattle.tm_top_owed.specs.Inputs.{first_fault}
-use Rattle.tm_plan_cases.specs.declared.journal.Event.{Event}
+use Rattle.tm_plan_cases.specs.declared.event.Event.{Event}
 use Rattle.tm_top_owed.specs.Changes.{DeskChange, SinkChange, DeskFailed, SinkFailed, FilesStay, OtherFilesStay}
 use Rattle.tm_top_owed.specs.Owed.{Ending, Owes, Ended, IsReady, IsRefusal, IsFailure, IsUntouched, RestStays}
 use Rattle.tm_top_owed.specs.Owed.{AlwaysAtFault, AlwaysDone, status_of}

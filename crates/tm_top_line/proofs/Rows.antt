@@ -1,7 +1,7 @@
 -- Worked lines.
 use Rattle.std.proofs.Common.{◌≡◌, codes, refl}
 use Rattle.std.specs.Fmt.{digits}
-use Rattle.tm_base.specs.Numbers.{hex_text}
+use Rattle.tm_base.specs.Numbers.{hex_text, pos_text}
 use Rattle.tm_asm_line.specs.Shapes.{name_of}
 use Rattle.tm_desk.specs.declared.desk.DeskError.TheVariants as desk
 use Rattle.tm_elf_head.specs.declared.fault.ElfFault.TheVariants as elf
@@ -17,7 +17,7 @@ use Rattle.tm_tmpl_types.specs.declared.template.TmplFault.TheVariants as tmpl
 use Rattle.tm_tmpl_types.specs.declared.template.Want.TheVariants as want
 use Rattle.tm_table.specs.declared.instr.Op.TheVariants as op
 use Rattle.tm_faults.specs.declared.rule.RuleFault.TheVariants as rule
-use Rattle.tm_top_line.specs.Inputs.{with_value, pos_text, shown_key, signed_text, input_text, addr_text}
+use Rattle.tm_top_line.specs.Inputs.{with_value, shown_key, signed_text, input_text, addr_text}
 use Rattle.tm_top_line.specs.declared.fault.AnyFault.TheVariants as any
 use Rattle.tm_top_line.specs.Lines.{fault_text}
 

@@ -9,14 +9,15 @@ use Rattle.tm_table.specs.declared.state.Access.{Access}
 use Rattle.tm_table.specs.declared.state.Access.TheVariants.{Quiet, Read, Write}
 use Rattle.tm_plan_map.specs.Map.{verdict_at}
 use Rattle.tm_plan_cases.specs.declared.program.Program.{Program}
-use Rattle.tm_plan_cases.specs.declared.journal.Event.{Event}
+use Rattle.tm_plan_cases.specs.declared.event.Event.{Event}
 use Rattle.tm_plan_script.specs.declared.faults.FaultLine.{FaultLine}
 use Rattle.tm_base.specs.Lists.{count_from}
 use Rattle.tm_world.specs.Lists.{or_else}
 use Rattle.tm_world.specs.Place.{harts, round_count}
 use Rattle.tm_world.specs.Course.{writes_in}
 use Rattle.tm_world.specs.Kinds.{Legal}
-use Rattle.tm_world.specs.Sound.{Sound, NotReported}
+use Rattle.tm_world.specs.Sound.{Sound}
+use Rattle.tm_world.specs.Reported.{NotReported}
 use Rattle.tm_world.specs.Replay.{replay, steps_of, run_of}
 use Rattle.tm_report_run.specs.Verdicts.{put_at, latest, verdict_in, verdicts_of}
 use Rattle.tm_top_run.specs.Laws.{NoReport}

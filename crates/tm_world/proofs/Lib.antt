@@ -1,3 +1,4 @@
 pub mod Prefix
+pub mod Replaying
 mod Differing
 mod Rows

@@ -14,5 +14,6 @@ pub mod Work
 pub mod Slots
 pub mod Trails
 pub mod Checked
+pub mod Reported
 pub mod Sound
 pub mod Laws
