@@ -5,7 +5,7 @@ use Rattle.std.specs.List.{list_any}
 use Rattle.std.specs.Str.{bytes_eq}
 use Rattle.std.proofs.lemmas.Bool.{leb-true, ltb-true, eq-eqb, eqb-true, not-true, and_parts, true≢false}
 use Rattle.std.proofs.Math.Nat.{mul-le-mul}
-use Rattle.tm_faults.specs.declared.rule.RuleFault.{RuleFault}
+use Rattle.tm_refusals.specs.declared.rule.RuleFault.{RuleFault}
 use Rattle.tm_rules_slot.specs.Teams.{IsSystem, harts_of}
 use Rattle.tm_rules_slot.specs.Slots.{first}
 use Rattle.tm_rules_slot.proofs.Checking.{first-none}

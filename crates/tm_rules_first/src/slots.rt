@@ -4,8 +4,8 @@ ghost use Rattle.tm_rules_slot.specs.Teams.{IsSystem, harts_of};
 ghost use Rattle.tm_rules_first.specs.Rules as rules;
 
 use crate::RuleAt;
-use tm_faults::RuleFault;
 use tm_place::Placement;
+use tm_refusals::RuleFault;
 use tm_rules_slot::{emit_fault, mix_fault};
 use tm_tmpl_types::{Selector, SlotDecl, SlotText};
 use tm_topo::Topology;

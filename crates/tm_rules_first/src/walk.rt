@@ -7,7 +7,7 @@ use crate::RuleAt;
 use crate::cases::cases_broken;
 use crate::place::placement;
 use crate::windows::windows_broken;
-use tm_faults::RuleFault;
+use tm_refusals::RuleFault;
 use tm_tmpl_types::Template;
 use tm_topo::Topology;
 

@@ -6,7 +6,7 @@ ghost use Rattle.tm_rules_slot.specs.Slots.{first};
 ghost use Rattle.tm_rules_first.specs.Rules as rules;
 
 use crate::RuleAt;
-use tm_faults::RuleFault;
+use tm_refusals::RuleFault;
 use tm_tmpl_types::{Kind, WindowDecl};
 use tm_topo::Topology;
 

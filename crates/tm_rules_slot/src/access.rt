@@ -7,9 +7,9 @@ ghost use Rattle.tm_rules_slot.specs.Slots as rules;
 
 use crate::ops::{is_access, load_width, store_width};
 use crate::teams::is_in_team;
-use tm_faults::RuleFault;
 use tm_place::{Placement, may_load, may_store};
 use tm_plan_map::window_base;
+use tm_refusals::RuleFault;
 use tm_table::Instr;
 use tm_tmpl_types::Selector;
 use tm_topo::Topology;
