@@ -7,7 +7,7 @@ use Rattle.std.proofs.lemmas.Bool.{leb-true, ltb-true, eq-eqb, eqb-true, not-tru
 use Rattle.std.proofs.Math.Nat.{mul-le-mul}
 use Rattle.tm_base.specs.Limits.{image_version, most_harts, most_cases}
 use Rattle.tm_base.specs.declared.limits.TheConstants.{MOST_SLOTS, WINDOWS, WINDOW_BYTES}
-use Rattle.tm_faults.specs.declared.rule.RuleFault.{RuleFault}
+use Rattle.tm_refusals.specs.declared.rule.RuleFault.{RuleFault}
 use Rattle.tm_rules_slot.specs.Teams.{IsSystem, harts_of}
 use Rattle.tm_rules_slot.specs.Slots.{first}
 use Rattle.tm_rules_slot.proofs.Checking.{first-none}

@@ -23,12 +23,12 @@ use Rattle.tm_tmpl_types.specs.declared.template.CaseDecl.{CaseDecl}
 use Rattle.tm_tmpl_types.specs.declared.template.WindowDecl.{WindowDecl}
 use Rattle.tm_tmpl_types.specs.declared.template.Template.{Template}
 use Rattle.tm_topo.specs.declared.system.Topology.{Topology}
-use Rattle.tm_faults.specs.declared.rule.RuleFault.{RuleFault}
-use Rattle.tm_faults.specs.declared.rule.RuleFault.TheVariants.{Cases, Passes, Slots, Lines, NoWindow, NoHart}
-use Rattle.tm_faults.specs.declared.rule.RuleFault.TheVariants.{TwiceBody, TwiceName}
+use Rattle.tm_refusals.specs.declared.rule.RuleFault.{RuleFault}
+use Rattle.tm_refusals.specs.declared.rule.RuleFault.TheVariants.{Cases, Passes, Slots, Lines, NoWindow, NoHart}
+use Rattle.tm_refusals.specs.declared.rule.RuleFault.TheVariants.{TwiceBody, TwiceName}
 use Rattle.tm_rules_slot.specs.Teams.{harts_of, in_team, team}
 use Rattle.tm_rules_slot.specs.Slots.{emit_fault, mix_fault}
-use Rattle.tm_faults.specs.declared.rule.RuleAt.{RuleAt}
+use Rattle.tm_refusals.specs.declared.rule.RuleAt.{RuleAt}
 use Rattle.tm_rules_first.specs.Windows.{windows_of}
 use Rattle.tm_place.specs.Placing.{shape_of}
 

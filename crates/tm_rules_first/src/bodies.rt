@@ -7,7 +7,7 @@ ghost use Rattle.tm_rules_first.specs.Rules as rules;
 use crate::RuleAt;
 use crate::slots::{slot_count, slots_broken};
 use tm_base::MOST_SLOTS;
-use tm_faults::RuleFault;
+use tm_refusals::RuleFault;
 use tm_place::Placement;
 use tm_rules_slot::is_in_team;
 use tm_tmpl_types::{BodyDecl, Selector};

@@ -8,7 +8,7 @@ use crate::cases::cases_broken;
 use crate::place::placement;
 use crate::windows::windows_broken;
 use tm_base::{LEAST_PASSES, MOST_PASSES};
-use tm_faults::RuleFault;
+use tm_refusals::RuleFault;
 use tm_tmpl_types::Template;
 use tm_topo::Topology;
 

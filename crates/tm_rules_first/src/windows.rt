@@ -7,7 +7,7 @@ ghost use Rattle.tm_rules_first.specs.Rules as rules;
 
 use crate::RuleAt;
 use tm_base::{WINDOW_BYTES, WINDOWS};
-use tm_faults::RuleFault;
+use tm_refusals::RuleFault;
 use tm_tmpl_types::{Kind, WindowDecl};
 use tm_topo::Topology;
 

@@ -27,8 +27,8 @@ use Rattle.tm_place.specs.Ruled.{IsBased, IsRuledEmit}
 use Rattle.tm_place.specs.Allowed.{may_store_at, may_load_at}
 use Rattle.tm_place.proofs.PartLemmas.{size-some}
 use Rattle.tm_place.proofs.AllowedLemmas.{Shown, store-computed, load-computed}
-use Rattle.tm_faults.specs.declared.rule.RuleFault.{RuleFault}
-use Rattle.tm_faults.specs.declared.rule.RuleFault.TheVariants.{NoWindow, NotOwner, BadPlace, NotAllowed}
+use Rattle.tm_refusals.specs.declared.rule.RuleFault.{RuleFault}
+use Rattle.tm_refusals.specs.declared.rule.RuleFault.TheVariants.{NoWindow, NotOwner, BadPlace, NotAllowed}
 use Rattle.tm_rules_slot.specs.Teams.{harts_of, in_team, team}
 use Rattle.tm_base.specs.declared.limits.TheConstants.{MOST_WEIGHTS}
 use Rattle.tm_rules_slot.specs.Slots.{first, broken, barred, is_refused, within_registers, is_source, source_fault}

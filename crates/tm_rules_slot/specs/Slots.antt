@@ -14,9 +14,9 @@ use Rattle.tm_base.specs.declared.limits.TheConstants.{MOST_WEIGHTS}
 use Rattle.tm_plan_map.specs.Map.{window_at, within}
 use Rattle.tm_plan_map.specs.Slots.{is_access, is_barred, is_product, is_jump, load_width, store_width, slot_addr}
 use Rattle.tm_place.specs.Allowed.{may_store_at, may_load_at}
-use Rattle.tm_faults.specs.declared.rule.RuleFault.{RuleFault}
-use Rattle.tm_faults.specs.declared.rule.RuleFault.TheVariants.{NoWindow, Register, Asm, NotAllowed, BadPlace}
-use Rattle.tm_faults.specs.declared.rule.RuleFault.TheVariants.{NotOwner, Target, NoWeight}
+use Rattle.tm_refusals.specs.declared.rule.RuleFault.{RuleFault}
+use Rattle.tm_refusals.specs.declared.rule.RuleFault.TheVariants.{NoWindow, Register, Asm, NotAllowed, BadPlace}
+use Rattle.tm_refusals.specs.declared.rule.RuleFault.TheVariants.{NotOwner, Target, NoWeight}
 use Rattle.tm_rules_slot.specs.Teams.{harts_of, team}
 
 -- ---- checks

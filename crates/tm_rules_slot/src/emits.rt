@@ -7,7 +7,7 @@ ghost use Rattle.tm_rules_slot.specs.Laws.{IsRuledLine};
 use crate::access::access_fault;
 use tm_asm_line::parse_line;
 use tm_base::MOST_SLOTS;
-use tm_faults::RuleFault;
+use tm_refusals::RuleFault;
 use tm_place::Placement;
 use tm_plan_map::{is_access, is_barred, is_jump, is_product};
 use tm_table::{Instr, Op};

@@ -9,4 +9,4 @@ mod teams;
 pub use emits::emit_fault;
 pub use mixes::mix_fault;
 pub use teams::is_in_team;
-pub use tm_faults::RuleFault;
+pub use tm_refusals::RuleFault;

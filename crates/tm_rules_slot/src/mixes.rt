@@ -4,7 +4,7 @@ ghost use Rattle.tm_rules_slot.specs.Slots as rules;
 ghost use Rattle.tm_rules_slot.specs.Laws.{AreRuledWeights};
 
 use tm_base::MOST_WEIGHTS;
-use tm_faults::RuleFault;
+use tm_refusals::RuleFault;
 use tm_place::Placement;
 
 /// The first rule that the four weights of a drawn slot break.
