@@ -2,8 +2,8 @@
 use crate::texts::LONGEST;
 use tm_base::{Bytes, NoMemory, push_decimal, push_pos};
 use tm_cases_book::{State, put};
-use tm_faults::{AdmitFault, RuleAt};
 use tm_plan_map::Admitted;
+use tm_refusals::{AdmitFault, RuleAt};
 use tm_rules::admit;
 use tm_tmpl_read::parse_template;
 use tm_topo::parse_topology;

@@ -23,9 +23,9 @@ use Rattle.tm_elf_write.specs.Symbols.{string_bytes, symbol_bytes}
 use Rattle.tm_elf_write.proofs.Lengths.{length_plan, length_symbols, length_text}
 use Rattle.tm_elf_write.proofs.Standing.{reads_as}
 use Rattle.tm_elf_write.specs.declared.parts.TheConstants.{MOST_SYMBOLS}
-use Rattle.tm_elf_head.specs.declared.fault.ElfFault.{ElfFault}
-use Rattle.tm_elf_head.specs.declared.fault.ElfFault.TheVariants.{Short, BadMagic, NotRiscv, NotExec, BadHeader}
-use Rattle.tm_elf_head.specs.declared.fault.ElfFault.TheVariants.{BadSegment, NoPlan, BadSymbol, Differs, NoMemory}
+use Rattle.tm_refusals.specs.declared.elf.ElfFault.{ElfFault}
+use Rattle.tm_refusals.specs.declared.elf.ElfFault.TheVariants.{Short, BadMagic, NotRiscv, NotExec, BadHeader}
+use Rattle.tm_refusals.specs.declared.elf.ElfFault.TheVariants.{BadSegment, NoPlan, BadSymbol, Differs, NoMemory}
 use Rattle.tm_elf_head.specs.declared.spans.Span.{Span}
 use Rattle.tm_elf_head.specs.Differences.{differ}
 use Rattle.tm_elf_head.specs.HeaderFaults.{header_fault}

@@ -12,7 +12,7 @@ use Rattle.tm_elf_write.specs.declared.parts.Symbol.{Symbol}
 use Rattle.tm_elf_write.specs.Fields.{field_bytes, bytes_of}
 use Rattle.tm_elf_write.specs.Symbols.{IsName, entry, entries, string_bytes, symbol_bytes}
 use Rattle.tm_elf_write.specs.declared.parts.TheConstants.{MOST_SYMBOLS, SYMBOL_NAME_BYTES}
-use Rattle.tm_elf_head.specs.declared.fault.ElfFault.{ElfFault}
+use Rattle.tm_refusals.specs.declared.elf.ElfFault.{ElfFault}
 use Rattle.tm_elf_head.specs.Numbers.{word_at, long_at}
 use Rattle.tm_elf.specs.SymbolTable.{is_name, name_len, symbol_at, symbols_from, then_symbols}
 use Rattle.tm_elf_head.proofs.FitLemmas.{both}

@@ -8,7 +8,7 @@ use Rattle.tm_elf_write.specs.declared.parts.Symbol.{Symbol}
 use Rattle.tm_elf_write.specs.Elf.{IsWritable}
 use Rattle.tm_elf_write.specs.Symbols.{IsName}
 use Rattle.tm_elf_write.specs.declared.parts.TheConstants.{SYMBOL_NAME_BYTES}
-use Rattle.tm_elf_head.specs.declared.fault.ElfFault.{ElfFault}
+use Rattle.tm_refusals.specs.declared.elf.ElfFault.{ElfFault}
 use Rattle.tm_elf_head.specs.Numbers.{word_at, long_at, part_at}
 use Rattle.tm_elf_head.specs.PartFaults.{bad_segment, has_plan, has_symbols}
 use Rattle.tm_elf.specs.Read.{parts_in, symbols_in, words_from}

@@ -4,8 +4,8 @@ use Rattle.std.specs.Prelude.{Result, Ok, Err, not, nat_lt, nat_le, if◌then◌
 use Rattle.std.specs.List.{prefix_len, list_all}
 use Rattle.tm_elf_write.specs.declared.parts.Symbol.{Symbol}
 use Rattle.tm_elf_write.specs.declared.parts.TheConstants.{SYMBOL_NAME_BYTES}
-use Rattle.tm_elf_head.specs.declared.fault.ElfFault.{ElfFault}
-use Rattle.tm_elf_head.specs.declared.fault.ElfFault.TheVariants.{BadSymbol}
+use Rattle.tm_refusals.specs.declared.elf.ElfFault.{ElfFault}
+use Rattle.tm_refusals.specs.declared.elf.ElfFault.TheVariants.{BadSymbol}
 use Rattle.tm_elf_head.specs.Numbers.{word_at, long_at, part_at}
 
 -- whether bytes are 1 to 32 of ASCII, none of them zero (this project)

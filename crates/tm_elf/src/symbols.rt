@@ -9,8 +9,9 @@ ghost use Rattle.tm_elf.specs.Read.{symbols_in};
 use crate::names::name_len;
 use std::alloc::Global;
 use tm_base::{Bytes, List, NoMemory};
-use tm_elf_head::{ElfFault, long_at, part_at, section, word_at};
+use tm_elf_head::{long_at, part_at, section, word_at};
 use tm_elf_write::{SYMBOL_NAME_BYTES, Symbol};
+use tm_refusals::ElfFault;
 
 /// The symbols of a file.
 #[tactic(auto, using(tm_elf_head::proofs::FitLemmas::symbols_fit), unfolding(crate::specs::Read::symbols_in))]

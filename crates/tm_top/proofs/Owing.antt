@@ -1,7 +1,7 @@
 -- How a call ended, and what follows of it.
 use Rattle.std.proofs.Common.{◌≡◌, ◌∙◌, ap, sym, refl, ℕ, List, IsTrue, ◌⊎◌, inl, inr, Option, None, Some}
 use Rattle.tm_desk.specs.declared.desk.DeskError.TheVariants.{Failed}
-use Rattle.tm_faults.specs.declared.role.Role.{Role}
+use Rattle.tm_refusals.specs.declared.role.Role.{Role}
 use Rattle.tm_top_line.specs.declared.fault.AnyFault.{AnyFault}
 use Rattle.tm_top_line.specs.declared.fault.AnyFault.TheVariants.{Desk}
 use Rattle.tm_top_owed.specs.declared.stop.Stop.{Stop}

@@ -17,11 +17,11 @@ use Rattle.tm_tmpl_types.specs.declared.template.Want.{Want}
 use Rattle.tm_tmpl_types.specs.declared.template.Want.TheVariants as want
 use Rattle.tm_tmpl_types.specs.declared.template.TmplFault.{TmplFault}
 use Rattle.tm_tmpl_types.specs.declared.template.TmplFault.TheVariants as tmpl
-use Rattle.tm_faults.specs.declared.rule.RuleFault.{RuleFault}
-use Rattle.tm_faults.specs.declared.rule.RuleFault.TheVariants as rule
-use Rattle.tm_faults.specs.declared.rule.RuleAt.{RuleAt}
-use Rattle.tm_faults.specs.declared.inputs.InputFault.{InputFault}
-use Rattle.tm_faults.specs.declared.inputs.InputFault.TheVariants as input
+use Rattle.tm_refusals.specs.declared.rule.RuleFault.{RuleFault}
+use Rattle.tm_refusals.specs.declared.rule.RuleFault.TheVariants as rule
+use Rattle.tm_refusals.specs.declared.rule.RuleAt.{RuleAt}
+use Rattle.tm_refusals.specs.declared.inputs.InputFault.{InputFault}
+use Rattle.tm_refusals.specs.declared.inputs.InputFault.TheVariants as input
 
 -- ---- values
 

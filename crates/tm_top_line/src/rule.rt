@@ -6,7 +6,7 @@ ghost use Rattle.tm_top_line.specs.Inputs.{asm_text, rule_at_text, rule_text};
 use crate::values::{put_addr, put_signed, put_value};
 use tm_asm_line::{AsmFault, op_name};
 use tm_base::{Bytes, NoMemory, push_pos};
-use tm_faults::{RuleAt, RuleFault};
+use tm_refusals::{RuleAt, RuleFault};
 use tm_table::Op;
 
 fn put_line(out: &mut Bytes, fault: &AsmFault) -> Result<(), NoMemory>
