@@ -1,12 +1,12 @@
 -- What `build` gives, over plain values.
-use Rattle.std.proofs.Common.{◌≡◌, ◌≤◌, ℕ, List, length, Ok, refl}
+use Rattle.std.proofs.Common.{◌≡◌, ℕ, List, Ok, refl}
 use Rattle.tm_plan_map.specs.declared.admitted.Admitted.{Admitted}
 use Rattle.tm_plan_cases.specs.declared.program.Program.{Program}
 use Rattle.tm_refusals.specs.declared.inputs.BuildFault.{BuildFault}
 use Rattle.tm_refusals.specs.declared.inputs.BuildFault.TheVariants as fault
 use Rattle.tm_image_inputs.specs.Inputs.{inputs, IsFaultOf}
 use Rattle.tm_image_program.specs.Program.{program_for}
-use Rattle.tm_image_build.specs.Built.{image_file, built, program_from, IsOfTexts}
+use Rattle.tm_image_build.specs.Built.{image_file, built, program_from}
 
 pub built_ok : (topo template : List ℕ) (seed : ℕ) (a : Admitted) (p : Program) (file : List ℕ) → inputs topo template
     ≡ Ok a
@@ -18,20 +18,6 @@ pub program_ok : (topo template : List ℕ) (seed : ℕ) (a : Admitted) (p : Pro
     → p ≡ program_for a seed
     → program_from seed (inputs topo template) ≡ Ok p
 program_ok topo template seed a p read is = rw (read, is) refl
-
--- so the program and its file are those of the two texts
-pub of_texts : (topo template : List ℕ) (seed : ℕ) (a : Admitted) (p : Program) (file : List ℕ) → length topo ≤ 65536
-    → length template ≤ 1048576
-    → inputs topo template ≡ Ok a → p ≡ program_for a seed → file ≡ image_file p topo template seed
-    → IsOfTexts p seed file
-of_texts topo template seed a p file topo_short template_short read is written = record {
-  topo = topo;
-  template = template;
-  topo_short = topo_short;
-  template_short = template_short;
-  its_program = program_ok topo template seed a p read is;
-  its_file = built_ok topo template seed a p file read is written;
-}
 
 pub built_err : (f : BuildFault) (topo template : List ℕ) (seed : ℕ) → IsFaultOf f (inputs topo template)
     → IsFaultOf f (built topo template seed)

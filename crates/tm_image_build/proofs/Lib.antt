@@ -1,3 +1,4 @@
 pub mod Rows
 pub mod NameLemmas
 pub mod BuildLemmas
+pub mod Opening

@@ -1,5 +1,5 @@
 -- The file that is built of two texts and a seed, or their first fault (this project's own).
-use Rattle.std.specs.Prelude.{◌≡◌, ℕ, ◌≤◌, List, length, Result, Ok, Err}
+use Rattle.std.specs.Prelude.{ℕ, List, Result, Ok, Err}
 use Rattle.tm_elf_write.specs.declared.parts.Parts.{Parts}
 use Rattle.tm_elf_write.specs.Elf.{elf_file}
 use Rattle.tm_plan_map.specs.declared.admitted.Admitted.{Admitted}
@@ -35,12 +35,3 @@ built topo template seed = built_of topo template seed (inputs topo template)
 abbrev pub program_from : ℕ → Result Admitted InputFault → Result Program InputFault
 program_from seed (Ok a) = Ok (program_for a seed)
 program_from seed (Err fault) = Err fault
-
--- A program and a file are what is built of some two texts within the limits and a seed.
-pub record IsOfTexts (p : Program) (seed : ℕ) (file : List ℕ) : Type 0 where
-  pub topo : List ℕ
-  pub template : List ℕ
-  pub topo_short : length topo ≤ 65536
-  pub template_short : length template ≤ 1048576
-  pub its_program : program_from seed (inputs topo template) ≡ Ok p
-  pub its_file : built topo template seed ≡ Ok file

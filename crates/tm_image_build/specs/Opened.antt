@@ -1,10 +1,12 @@
 -- What a file is opened as.
-use Rattle.std.specs.Prelude.{ℕ, List, Option, Some, None, Result, Ok, Err}
+use Rattle.std.specs.Prelude.{◌≡◌, ℕ, List, Option, Some, None, Result, Ok, Err}
 use Rattle.tm_elf_write.specs.declared.parts.Parts.{Parts}
 use Rattle.tm_refusals.specs.declared.elf.ElfFault.{ElfFault}
 use Rattle.tm_elf_head.specs.Differences.{first_difference}
 use Rattle.tm_elf.specs.Read.{elf_of}
-use Rattle.tm_image_build.specs.Built.{built}
+use Rattle.tm_plan_cases.specs.declared.program.Program.{Program}
+use Rattle.tm_image_inputs.specs.Inputs.{inputs}
+use Rattle.tm_image_build.specs.Built.{built, program_from}
 use Rattle.tm_refusals.specs.declared.inputs.InputFault.{InputFault}
 use Rattle.tm_refusals.specs.declared.image.ImageFault.{ImageFault}
 use Rattle.tm_refusals.specs.declared.image.ImageFault.TheVariants.{Elf, Inputs, Differs}
@@ -32,3 +34,12 @@ opened_from bytes (Err fault) = Err (Elf fault)
 -- that the plan doesn't give
 unfoldable pub opened : List ℕ → Result (List ℕ) ImageFault
 opened bytes = opened_from bytes (elf_of bytes)
+
+-- A program, a seed and a file are those of an image: the file is read as parts, and is what is built again of the plan
+-- of these parts; the seed is the plan's; and the program is that of the test which the plan's texts ask for.
+pub record IsOfItsPlan (p : Program) (seed : ℕ) (file : List ℕ) : Type 0 where
+  pub parts : Parts
+  pub form : elf_of file ≡ Ok parts
+  pub again : rebuilt parts ≡ Ok file
+  pub its_seed : seed ≡ parts.plan.seed
+  pub its_program : program_from parts.plan.seed (inputs parts.plan.topo parts.plan.template) ≡ Ok p

@@ -3,7 +3,8 @@ ghost use Rattle.std.specs.Prelude.{◌≡◌, ◌≤◌, Ok, IfOk, IfErr, lengt
 ghost use Rattle.tm_plan_cases.specs.Shaped.{IsProgram};
 ghost use Rattle.tm_world.specs.Sound.{Sound};
 ghost use Rattle.tm_image_inputs.specs.Inputs.{inputs, IsFaultOf};
-ghost use Rattle.tm_image_build.specs.Built.{built, image_file, program_from, IsOfTexts};
+ghost use Rattle.tm_image_build.specs.Built.{built, image_file, program_from};
+ghost use Rattle.tm_image_build.specs.Opened.{IsOfItsPlan};
 
 use crate::symbols::symbols_of;
 use std::alloc::Global;
@@ -14,15 +15,15 @@ use tm_image_program::program_of;
 use tm_plan_cases::Program;
 use tm_refusals::BuildFault;
 
-/// A program with the seed that it was built with, and its file. Each image is sound, and is what is built of some two
-/// texts within the limits.
+/// A program with the seed that it was built with, and its file. Each image is sound, and its file is what is built of
+/// its own plan, with this seed and program.
 #[derive(Drop)]
 pub struct Image {
     pub program: Program,
     pub seed: u64,
     pub file: Bytes,
     pub ghost is_sound: { ∥ Sound program ∥₁ },
-    pub ghost of_texts: { ∥ IsOfTexts program seed file ∥₁ },
+    pub ghost of_its_plan: { ∥ IsOfItsPlan program seed file ∥₁ },
 }
 
 /// The image of two texts and a seed, or their first fault. The topology, of at most 65,536 bytes, is
