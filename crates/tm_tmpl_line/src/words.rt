@@ -1,12 +1,11 @@
 // What the tokens of a line are read as.
 ghost use Rattle.std.specs.Prelude.{◌≡◌, ◌≤◌, ◌+◌, ◌-◌, Ok, Err, Some, IfOk, IfErr, length, All, take, drop, codes};
-ghost use Rattle.std.specs.List.{list_all};
 ghost use Rattle.tm_lex.specs.Lines as lexed;
 ghost use Rattle.tm_tmpl_line.specs.Readings as readings;
 
 use crate::{Kind, TmplFault, Want};
-use tm_base::{NAME_BYTES, read_number};
-use tm_lex::{Token, TokenKind};
+use tm_base::read_number;
+use tm_lex::{Token, TokenKind, is_name, is_raw, is_word};
 
 /// The number at an index of a line.
 pub fn number_at(text: &[u8], line: &[Token], at: usize) -> Result<u32, TmplFault>
@@ -187,74 +186,4 @@ pub fn end_at(text: &[u8], line: &[Token], at: usize) -> Result<(), TmplFault>
             what: Want::LineEnd,
         }),
     }
-}
-
-fn is_word(kind: TokenKind) -> bool
-    ensures { result ≡ lexed.is_word kind }
-{
-    match kind {
-        TokenKind::Word => true,
-        _ => false,
-    }
-}
-
-fn is_raw(kind: TokenKind) -> bool
-    ensures { result ≡ lexed.is_raw kind }
-{
-    match kind {
-        TokenKind::Raw => true,
-        _ => false,
-    }
-}
-
-// 1 to 16 bytes, the first a letter.
-fn is_name(word: &[u8]) -> bool
-    ensures { result ≡ lexed.is_name word.now }
-{
-    if word.is_empty() {
-        return false;
-    }
-    if word.len() > NAME_BYTES {
-        return false;
-    }
-    if !is_letter(word[0]) {
-        return false;
-    }
-    has_name_bytes(word)
-}
-
-fn has_name_bytes(word: &[u8]) -> bool
-    ensures { result ≡ list_all lexed.is_name_byte word.now }
-{
-    word.iter().all(|byte| is_name_byte(*byte))
-}
-
-fn is_letter(byte: u8) -> bool
-    ensures { result ≡ lexed.is_letter byte }
-{
-    if byte < b'a' {
-        return false;
-    }
-    byte <= b'z'
-}
-
-fn is_digit(byte: u8) -> bool
-    ensures { result ≡ lexed.is_digit byte }
-{
-    if byte < b'0' {
-        return false;
-    }
-    byte <= b'9'
-}
-
-fn is_name_byte(byte: u8) -> bool
-    ensures { result ≡ lexed.is_name_byte byte }
-{
-    if is_letter(byte) {
-        return true;
-    }
-    if is_digit(byte) {
-        return true;
-    }
-    byte == b'_'
 }
