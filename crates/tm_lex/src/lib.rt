@@ -4,8 +4,10 @@
 mod bytes;
 mod faults;
 mod lines;
+mod readers;
 mod token;
 mod words;
 
 pub use lines::tokens;
+pub use readers::{is_name, is_raw, is_word};
 pub use token::{LexFault, Token, TokenKind};

@@ -2,8 +2,9 @@
 use Rattle.std.proofs.Common.{◌≡◌, List, [], ◌∷◌, ◌++◌, true, refl, ap, subst, ◌∙◌}
 use Rattle.tm_base.specs.declared.Pos.{Pos}
 use Rattle.tm_lex.specs.Lexing.{tokens_of}
+use Rattle.tm_lex.specs.Lines.{lexemes}
 use Rattle.tm_tmpl_types.specs.declared.template.Template.{Template}
-use Rattle.tm_tmpl_line.specs.Readings.{lexemes, Statement, template, passes, window, case_of, body, slot, At}
+use Rattle.tm_tmpl_line.specs.Readings.{Statement, template, passes, window, case_of, body, slot, At}
 use Rattle.tm_tmpl_read.specs.Grammar.{Before, start, Parts, put, put_all, no_parts, place_after, template_of}
 use Rattle.tm_tmpl_read.specs.Steps.{windows_at, cases_at}
 use Rattle.tm_tmpl.specs.Printed.{lines_of, printed, nowhere, bare_windows, bare_slots, bare_bodies, bare_cases}

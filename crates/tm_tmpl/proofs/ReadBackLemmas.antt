@@ -16,11 +16,12 @@ use Rattle.tm_lex.specs.declared.token.TokenKind.TheVariants.{Word, Raw, LineEnd
 use Rattle.tm_lex.specs.declared.token.Token.{Token}
 use Rattle.tm_lex.specs.Lexing.{is_word, words, spans, line_fault, line_tokens, lines_reading, token_at, as_words}
 use Rattle.tm_lex.specs.Tiling.{may_stand}
+use Rattle.tm_lex.specs.Lines.{Lexeme, lexemes}
 use Rattle.tm_tmpl_types.specs.declared.template.Kind.{Kind}
 use Rattle.tm_tmpl_types.specs.declared.template.Kind.TheVariants.{True, False, Own}
 use Rattle.tm_tmpl_types.specs.declared.template.Selector.TheVariants as whose
 use Rattle.tm_tmpl_types.specs.declared.template.SlotText.TheVariants.{Emit, Mix}
-use Rattle.tm_tmpl_line.specs.Readings.{Lexeme, lexemes, Statement, template, passes, window, case_of, body, slot, At}
+use Rattle.tm_tmpl_line.specs.Readings.{Statement, template, passes, window, case_of, body, slot, At}
 use Rattle.tm_tmpl_line.specs.Pieces.{kind_word, pieces_of, AreFit}
 use Rattle.tm_tmpl_read.specs.Spelled.{all_pieces}
 use Rattle.tm_tmpl_read.specs.Writable.{IsAsm, IsSayable, AreSayable}

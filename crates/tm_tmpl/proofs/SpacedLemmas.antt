@@ -21,7 +21,7 @@ use Rattle.tm_lex.specs.Lexing.{Span, is_word, is_separator, words, spans, text_
 use Rattle.tm_lex.specs.Lexing.{content, bad_byte, long_part, token_at}
 use Rattle.tm_lex.specs.Tiling.{may_stand}
 use Rattle.tm_lex.proofs.WordLemmas.{words-run}
-use Rattle.tm_tmpl_line.specs.Readings.{is_name_byte, is_name, Lexeme, lexemes}
+use Rattle.tm_lex.specs.Lines.{is_name_byte, is_name, Lexeme, lexemes}
 use Rattle.tm_tmpl_read.specs.Writable.{IsAsm}
 use Rattle.tm_tmpl.specs.Printed.{spaced}
 

@@ -1,10 +1,11 @@
 -- A statement's form reads exactly what stands for its pieces, and fails at the first token that doesn't.
 use Rattle.std.proofs.Common.{◌≡◌, false, List, [], ◌∷◌, ◌++◌, Option, None, Some, Ok, Err, refl, ap, subst, ◌∙◌}
+use Rattle.tm_lex.specs.Lines.{Lexeme, ◌>>=◌, fitting}
 use Rattle.tm_base.specs.declared.Pos.{Pos}
 use Rattle.tm_tmpl_types.specs.declared.template.Want.{Want}
 use Rattle.tm_tmpl_types.specs.declared.template.TmplFault.{TmplFault}
 use Rattle.tm_tmpl_types.specs.declared.template.TmplFault.TheVariants.{Lex, Early, Expected, NoMemory}
-use Rattle.tm_tmpl_line.specs.Readings.{Lexeme, Reading, ◌>>=◌, fitting, one, Statement}
+use Rattle.tm_tmpl_line.specs.Readings.{Reading, one, Statement}
 use Rattle.tm_tmpl_line.specs.Pieces.{Piece, want_of, Fits, AreFit}
 use Rattle.tm_tmpl_line.proofs.PieceLemmas.{is_end, ends_line, IsOpen, fit-end}
 use Rattle.tm_tmpl_line.proofs.TokenLemmas.{Reads}
@@ -82,7 +83,8 @@ module _ {A : Type 0} (w : Want) (read : Lexeme → Option A) (piece : A → Pie
       → Got (Then piece L) xs s rest
   one_sound [] s rest h = absurd (cc)
   one_sound (x ∷ xs) s rest h = by_read (read x) refl h where
-    by_read : (o : Option A) → read x ≡ o → (fitting w x xs o >>= f) ≡ Ok (s, rest) → Got (Then piece L) (x ∷ xs) s rest
+    by_read : (o : Option A) → read x ≡ o → (fitting (Expected x.0.at w) xs o >>= f) ≡ Ok (s, rest)
+        → Got (Then piece L) (x ∷ xs) s rest
     by_read None same h = absurd (cc)
     by_read (Some a) same h =
         let inner = (exact a).sound xs s rest h in
@@ -99,7 +101,8 @@ module _ {A : Type 0} (w : Want) (read : Lexeme → Option A) (piece : A → Pie
   one_complete s qs [] rest h fit = absurd (subst (λ l. AreFit l []) h.2 fit)
   one_complete s qs (x ∷ xs) rest h fit =
       let fits : AreFit (piece h.0 ∷ h.1) (x ∷ xs) = subst (λ l. AreFit l (x ∷ xs)) h.2 fit in
-      ap (λ o. fitting w x (xs ++ rest) o >>= f) (r.reads x h.0 fits.0) ∙ (exact h.0).complete s h.1 xs rest h.3 fits.1
+      ap (λ o. fitting (Expected x.0.at w) (xs ++ rest) o >>= f) (r.reads x h.0 fits.0)
+      ∙ (exact h.0).complete s h.1 xs rest h.3 fits.1
 
   -- the same value was read of a token
   same_value : (x : Lexeme) (a b : A) → read x ≡ Some a → Fits (piece b) x → b ≡ a
@@ -167,7 +170,8 @@ module _ {A : Type 0} (w : Want) (read : Lexeme → Option A) (piece : A → Pie
         }
     by_fault a NoMemory same h k = k
 
-    by_read : (o : Option A) → read x ≡ o → (fitting w x xs o >>= f) ≡ Err e → Blamed (Said (Then piece L)) (x ∷ xs) e
+    by_read : (o : Option A) → read x ≡ o → (fitting (Expected x.0.at w) xs o >>= f) ≡ Err e
+        → Blamed (Said (Then piece L)) (x ∷ xs) e
     by_read None same h =
         let fault : Expected x.0.at w ≡ e = cc in
         subst (λ d. Blamed (Said (Then piece L)) (x ∷ xs) d) fault

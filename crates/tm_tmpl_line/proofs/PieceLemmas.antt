@@ -1,7 +1,7 @@
 -- Tokens that stand for pieces, cut at the ends of lines.
 use Rattle.std.proofs.Common.{◌≡◌, Bool, true, false, List, [], ◌∷◌, ◌++◌, refl, sym, ap, ◌∙◌}
 use Rattle.std.proofs.lemmas.Bool.{true≢false}
-use Rattle.tm_tmpl_line.specs.Readings.{Lexeme, is_line_end}
+use Rattle.tm_lex.specs.Lines.{Lexeme, is_line_end}
 use Rattle.tm_tmpl_line.specs.Pieces.{Piece, opening, fixed, a_name, a_number, asm_line, the_end, Fits, AreFit}
 
 abbrev pub is_end : Piece → Bool

@@ -3,11 +3,12 @@ use Rattle.std.proofs.Common.{◌≡◌, false, [], ◌∷◌, codes, refl, arit
 use Rattle.tm_base.specs.Numbers.{number_of, place_value, value_of, reading_at, digits_reading}
 use Rattle.tm_base.specs.declared.Pos.{Pos}
 use Rattle.tm_lex.specs.declared.token.TokenKind.TheVariants.{Word}
+use Rattle.tm_lex.specs.Lines.{is_name}
 use Rattle.tm_tmpl_types.specs.declared.template.Want.TheVariants as want
 use Rattle.tm_tmpl_types.specs.declared.template.Kind.TheVariants.{True}
 use Rattle.tm_tmpl_types.specs.declared.template.Selector.TheVariants.{Hart}
 use Rattle.tm_tmpl_types.specs.declared.template.SlotText.TheVariants.{Emit}
-use Rattle.tm_tmpl_line.specs.Readings.{is_name, window, body, slot}
+use Rattle.tm_tmpl_line.specs.Readings.{window, body, slot}
 use Rattle.tm_tmpl_line.specs.Pieces.{opening, fixed, a_name, a_number, asm_line, the_end, pieces_of, Fits}
 use Rattle.tm_tmpl_line.proofs.TokenLemmas.{token_of}
 

@@ -1,5 +1,6 @@
 -- Each form of statement reads exactly its statements.
 use Rattle.std.proofs.Common.{◌≡◌, List, [], ◌∷◌, ◌++◌, drop, codes, ℕ, Ok, Err, refl, sym, ap, subst, ◌∙◌}
+use Rattle.tm_lex.specs.Lines.{Lexeme, keyword, name, number, line_end, ◌>>=◌}
 use Rattle.tm_tmpl_types.specs.declared.template.Want.TheVariants as want
 use Rattle.tm_tmpl_types.specs.declared.template.Selector.TheVariants.{All, Hart, Core, Thread}
 use Rattle.tm_tmpl_types.specs.declared.template.SlotText.TheVariants.{Emit, Mix}
@@ -7,7 +8,7 @@ use Rattle.tm_tmpl_line.specs.declared.words.Whom.{Whom}
 use Rattle.tm_tmpl_line.specs.declared.words.Whom.TheVariants as whose
 use Rattle.tm_tmpl_types.specs.declared.template.TmplFault.{TmplFault}
 use Rattle.tm_tmpl_types.specs.declared.template.TmplFault.TheVariants.{Early, Expected}
-use Rattle.tm_tmpl_line.specs.Readings.{Lexeme, keyword, name, number, kind, whom, asm, line_end, Reading, ◌>>=◌, one}
+use Rattle.tm_tmpl_line.specs.Readings.{kind, whom, asm, Reading, one}
 use Rattle.tm_tmpl_line.specs.Readings.{Statement, template, passes, window, case_of, body, slot, ended, last_number}
 use Rattle.tm_tmpl_line.specs.Readings.{weight, after_whom, template_line, passes_line, window_line, case_line}
 use Rattle.tm_tmpl_line.specs.Readings.{body_line, emit_line, mix_line}

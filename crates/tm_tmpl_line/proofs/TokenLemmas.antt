@@ -12,14 +12,15 @@ use Rattle.tm_base.specs.declared.numbers.NumberFault.{NumberFault}
 use Rattle.tm_base.proofs.PrintLemmas.{decimal_reads_back}
 use Rattle.tm_lex.specs.declared.token.TokenKind.{TokenKind}
 use Rattle.tm_lex.specs.declared.token.TokenKind.TheVariants.{Word, Raw, LineEnd}
+use Rattle.tm_lex.specs.Lines.{Lexeme, is_word, is_raw, is_line_end, keyword, is_name, name, small_number, number}
+use Rattle.tm_lex.specs.Lines.{line_end}
 use Rattle.tm_tmpl_types.specs.declared.template.Want.{Want}
 use Rattle.tm_tmpl_types.specs.declared.template.Want.TheVariants as want
 use Rattle.tm_tmpl_types.specs.declared.template.Kind.{Kind}
 use Rattle.tm_tmpl_types.specs.declared.template.Kind.TheVariants.{True, False, Own}
 use Rattle.tm_tmpl_line.specs.declared.words.Whom.{Whom}
 use Rattle.tm_tmpl_line.specs.declared.words.Whom.TheVariants as whose
-use Rattle.tm_tmpl_line.specs.Readings.{Lexeme, is_word, is_raw, is_line_end, keyword, is_name, name, small_number}
-use Rattle.tm_tmpl_line.specs.Readings.{number, kind, whom, asm, line_end}
+use Rattle.tm_tmpl_line.specs.Readings.{kind, whom, asm}
 use Rattle.tm_tmpl_line.specs.Pieces.{Piece, fixed, a_name, a_number, asm_line, the_end, want_of, kind_word, Fits}
 
 -- a reader of one token, the pieces that it reads, and one that some token stands for

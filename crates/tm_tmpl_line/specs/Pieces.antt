@@ -4,6 +4,7 @@ use Rattle.std.specs.Prelude.{ℕ, ◌≡◌, ◌<◌, ◌^◌, true, List, [], 
 use Rattle.tm_base.specs.Numbers.{number_of}
 use Rattle.tm_base.specs.declared.Pos.{Pos}
 use Rattle.tm_lex.specs.declared.token.TokenKind.TheVariants.{Word, Raw, LineEnd}
+use Rattle.tm_lex.specs.Lines.{Lexeme, is_name}
 use Rattle.tm_tmpl_types.specs.declared.template.Want.{Want}
 use Rattle.tm_tmpl_types.specs.declared.template.Want.TheVariants as want
 use Rattle.tm_tmpl_types.specs.declared.template.Kind.{Kind}
@@ -11,7 +12,7 @@ use Rattle.tm_tmpl_types.specs.declared.template.Kind.TheVariants.{True, False, 
 use Rattle.tm_tmpl_types.specs.declared.template.Selector.{Selector}
 use Rattle.tm_tmpl_types.specs.declared.template.Selector.TheVariants.{All, Hart, Core, Thread}
 use Rattle.tm_tmpl_types.specs.declared.template.SlotText.TheVariants.{Emit, Mix}
-use Rattle.tm_tmpl_line.specs.Readings.{Lexeme, is_name, At, template, passes, window, case_of, body, slot}
+use Rattle.tm_tmpl_line.specs.Readings.{At, template, passes, window, case_of, body, slot}
 
 -- ---- the pieces of a statement
 

@@ -1,5 +1,6 @@
 // The form of each statement, behind its first word.
 ghost use Rattle.std.specs.Prelude.{◌≡◌, ◌+◌, Ok, Err, IfOk, IfErr, All, drop, codes, ◌≤◌};
+ghost use Rattle.tm_lex.specs.Lines as lexed;
 ghost use Rattle.tm_tmpl_line.specs.Readings as readings;
 
 use crate::words::{Whom, asm_at, class_at, end_at, kind_at, name_at, number_at, whom_at};
@@ -8,10 +9,10 @@ use tm_lex::Token;
 
 /// The name behind `template`: 1 to 16 bytes.
 pub fn template_line<'a>(text: &'a [u8], line: &[Token]) -> Result<&'a [u8], TmplFault>
-    requires { All (readings.IsSpan text.now) line.now }
-    ensures ok { IfOk result (λ name. readings.template_line (readings.lexemes text.now (drop 1 line.now))
-        ≡ Ok (readings.template name.now, readings.lexemes text.now (drop 3 line.now))) }
-    ensures err { IfErr result (λ e. readings.template_line (readings.lexemes text.now (drop 1 line.now)) ≡ Err e) }
+    requires { All (lexed.IsSpan text.now) line.now }
+    ensures ok { IfOk result (λ name. readings.template_line (lexed.lexemes text.now (drop 1 line.now))
+        ≡ Ok (readings.template name.now, lexed.lexemes text.now (drop 3 line.now))) }
+    ensures err { IfErr result (λ e. readings.template_line (lexed.lexemes text.now (drop 1 line.now)) ≡ Err e) }
 {
     let name = name_at(text, line, 1)?;
     end_at(text, line, 2)?;
@@ -20,20 +21,20 @@ pub fn template_line<'a>(text: &'a [u8], line: &[Token]) -> Result<&'a [u8], Tmp
 
 /// The number behind `passes`, as it is written.
 pub fn passes_line(text: &[u8], line: &[Token]) -> Result<u32, TmplFault>
-    requires { All (readings.IsSpan text.now) line.now }
-    ensures ok { IfOk result (λ n. readings.passes_line (readings.lexemes text.now (drop 1 line.now))
-        ≡ Ok (readings.passes n, readings.lexemes text.now (drop 3 line.now))) }
-    ensures err { IfErr result (λ e. readings.passes_line (readings.lexemes text.now (drop 1 line.now)) ≡ Err e) }
+    requires { All (lexed.IsSpan text.now) line.now }
+    ensures ok { IfOk result (λ n. readings.passes_line (lexed.lexemes text.now (drop 1 line.now))
+        ≡ Ok (readings.passes n, lexed.lexemes text.now (drop 3 line.now))) }
+    ensures err { IfErr result (λ e. readings.passes_line (lexed.lexemes text.now (drop 1 line.now)) ≡ Err e) }
 {
     last_number(text, line, 1)
 }
 
 /// The number, the kind and the lines of a window, as they are written.
 pub fn window_line(text: &[u8], line: &[Token]) -> Result<(u32, Kind, u32), TmplFault>
-    requires { All (readings.IsSpan text.now) line.now }
-    ensures ok { IfOk result (λ w. readings.window_line (readings.lexemes text.now (drop 1 line.now))
-        ≡ Ok (readings.window w.0 w.1 w.2, readings.lexemes text.now (drop 5 line.now))) }
-    ensures err { IfErr result (λ e. readings.window_line (readings.lexemes text.now (drop 1 line.now)) ≡ Err e) }
+    requires { All (lexed.IsSpan text.now) line.now }
+    ensures ok { IfOk result (λ w. readings.window_line (lexed.lexemes text.now (drop 1 line.now))
+        ≡ Ok (readings.window w.0 w.1 w.2, lexed.lexemes text.now (drop 5 line.now))) }
+    ensures err { IfErr result (λ e. readings.window_line (lexed.lexemes text.now (drop 1 line.now)) ≡ Err e) }
 {
     let number = number_at(text, line, 1)?;
     let kind = kind_at(text, line, 2)?;
@@ -43,10 +44,10 @@ pub fn window_line(text: &[u8], line: &[Token]) -> Result<(u32, Kind, u32), Tmpl
 
 /// The name behind `case`: 1 to 16 bytes.
 pub fn case_line<'a>(text: &'a [u8], line: &[Token]) -> Result<&'a [u8], TmplFault>
-    requires { All (readings.IsSpan text.now) line.now }
-    ensures ok { IfOk result (λ name. readings.case_line (readings.lexemes text.now (drop 1 line.now))
-        ≡ Ok (readings.case_of name.now, readings.lexemes text.now (drop 3 line.now))) }
-    ensures err { IfErr result (λ e. readings.case_line (readings.lexemes text.now (drop 1 line.now)) ≡ Err e) }
+    requires { All (lexed.IsSpan text.now) line.now }
+    ensures ok { IfOk result (λ name. readings.case_line (lexed.lexemes text.now (drop 1 line.now))
+        ≡ Ok (readings.case_of name.now, lexed.lexemes text.now (drop 3 line.now))) }
+    ensures err { IfErr result (λ e. readings.case_line (lexed.lexemes text.now (drop 1 line.now)) ≡ Err e) }
 {
     let name = name_at(text, line, 1)?;
     end_at(text, line, 2)?;
@@ -55,10 +56,10 @@ pub fn case_line<'a>(text: &'a [u8], line: &[Token]) -> Result<&'a [u8], TmplFau
 
 /// Whom the body is for, behind `body`.
 pub fn body_line(text: &[u8], line: &[Token]) -> Result<Selector, TmplFault>
-    requires { All (readings.IsSpan text.now) line.now }
-    ensures ok { IfOk result (λ whom. readings.body_line (readings.lexemes text.now (drop 1 line.now))
-        ≡ Ok (readings.body whom, readings.lexemes text.now (drop (readings.body_len whom) line.now))) }
-    ensures err { IfErr result (λ e. readings.body_line (readings.lexemes text.now (drop 1 line.now)) ≡ Err e) }
+    requires { All (lexed.IsSpan text.now) line.now }
+    ensures ok { IfOk result (λ whom. readings.body_line (lexed.lexemes text.now (drop 1 line.now))
+        ≡ Ok (readings.body whom, lexed.lexemes text.now (drop (readings.body_len whom) line.now))) }
+    ensures err { IfErr result (λ e. readings.body_line (lexed.lexemes text.now (drop 1 line.now)) ≡ Err e) }
 {
     match whom_at(text, line, 1)? {
         Whom::All => {
@@ -73,10 +74,10 @@ pub fn body_line(text: &[u8], line: &[Token]) -> Result<Selector, TmplFault>
 
 /// The assembler line behind `emit`: the raw token, not read further.
 pub fn emit_line<'a>(text: &'a [u8], line: &[Token]) -> Result<&'a [u8], TmplFault>
-    requires { All (readings.IsSpan text.now) line.now }
-    ensures ok { IfOk result (λ asm. readings.emit_line (readings.lexemes text.now (drop 1 line.now))
-        ≡ Ok (readings.slot (SlotText.Emit asm.now), readings.lexemes text.now (drop 3 line.now))) }
-    ensures err { IfErr result (λ e. readings.emit_line (readings.lexemes text.now (drop 1 line.now)) ≡ Err e) }
+    requires { All (lexed.IsSpan text.now) line.now }
+    ensures ok { IfOk result (λ asm. readings.emit_line (lexed.lexemes text.now (drop 1 line.now))
+        ≡ Ok (readings.slot (SlotText.Emit asm.now), lexed.lexemes text.now (drop 3 line.now))) }
+    ensures err { IfErr result (λ e. readings.emit_line (lexed.lexemes text.now (drop 1 line.now)) ≡ Err e) }
 {
     let asm = asm_at(text, line, 1)?;
     end_at(text, line, 2)?;
@@ -85,10 +86,10 @@ pub fn emit_line<'a>(text: &'a [u8], line: &[Token]) -> Result<&'a [u8], TmplFau
 
 /// The number of slots and the weights behind `mix`, as they are written.
 pub fn mix_line(text: &[u8], line: &[Token]) -> Result<SlotText, TmplFault>
-    requires { All (readings.IsSpan text.now) line.now }
-    ensures ok { IfOk result (λ mix. readings.mix_line (readings.lexemes text.now (drop 1 line.now))
-        ≡ Ok (readings.slot mix, readings.lexemes text.now (drop 11 line.now))) }
-    ensures err { IfErr result (λ e. readings.mix_line (readings.lexemes text.now (drop 1 line.now)) ≡ Err e) }
+    requires { All (lexed.IsSpan text.now) line.now }
+    ensures ok { IfOk result (λ mix. readings.mix_line (lexed.lexemes text.now (drop 1 line.now))
+        ≡ Ok (readings.slot mix, lexed.lexemes text.now (drop 11 line.now))) }
+    ensures err { IfErr result (λ e. readings.mix_line (lexed.lexemes text.now (drop 1 line.now)) ≡ Err e) }
 {
     let count = number_at(text, line, 1)?;
     let alu = weight_at(text, line, 2, b"alu")?;
@@ -107,11 +108,11 @@ pub fn mix_line(text: &[u8], line: &[Token]) -> Result<SlotText, TmplFault>
 
 // A class and its weight.
 fn weight_at(text: &[u8], line: &[Token], at: usize, class: &[u8]) -> Result<u32, TmplFault>
-    requires spans { All (readings.IsSpan text.now) line.now }
+    requires spans { All (lexed.IsSpan text.now) line.now }
     requires few { at ≤ 8 }
-    ensures ok { IfOk result (λ n. readings.weight class.now (readings.lexemes text.now (drop at line.now))
-        ≡ Ok (n, readings.lexemes text.now (drop (at + 2) line.now))) }
-    ensures err { IfErr result (λ e. readings.weight class.now (readings.lexemes text.now (drop at line.now)) ≡ Err e) }
+    ensures ok { IfOk result (λ n. readings.weight class.now (lexed.lexemes text.now (drop at line.now))
+        ≡ Ok (n, lexed.lexemes text.now (drop (at + 2) line.now))) }
+    ensures err { IfErr result (λ e. readings.weight class.now (lexed.lexemes text.now (drop at line.now)) ≡ Err e) }
 {
     class_at(text, line, at, class)?;
     number_at(text, line, at + 1)
@@ -119,11 +120,11 @@ fn weight_at(text: &[u8], line: &[Token], at: usize, class: &[u8]) -> Result<u32
 
 // A number that is the last word of its line.
 fn last_number(text: &[u8], line: &[Token], at: usize) -> Result<u32, TmplFault>
-    requires spans { All (readings.IsSpan text.now) line.now }
+    requires spans { All (lexed.IsSpan text.now) line.now }
     requires few { at ≤ 8 }
-    ensures ok { IfOk result (λ n. readings.last_number (readings.lexemes text.now (drop at line.now))
-        ≡ Ok (n, readings.lexemes text.now (drop (at + 2) line.now))) }
-    ensures err { IfErr result (λ e. readings.last_number (readings.lexemes text.now (drop at line.now)) ≡ Err e) }
+    ensures ok { IfOk result (λ n. readings.last_number (lexed.lexemes text.now (drop at line.now))
+        ≡ Ok (n, lexed.lexemes text.now (drop (at + 2) line.now))) }
+    ensures err { IfErr result (λ e. readings.last_number (lexed.lexemes text.now (drop at line.now)) ≡ Err e) }
 {
     let number = number_at(text, line, at)?;
     end_at(text, line, at + 1)?;

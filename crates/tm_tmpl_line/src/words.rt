@@ -1,16 +1,16 @@
 // What the tokens of a line are read as.
 ghost use Rattle.std.specs.Prelude.{◌≡◌, ◌≤◌, ◌+◌, ◌-◌, Ok, Err, Some, IfOk, IfErr, length, All, take, drop, codes};
-ghost use Rattle.std.specs.List.{list_all};
+ghost use Rattle.tm_lex.specs.Lines as lexed;
 ghost use Rattle.tm_tmpl_line.specs.Readings as readings;
 
 use crate::{Kind, TmplFault, Want};
-use tm_base::{NAME_BYTES, read_number};
-use tm_lex::{Token, TokenKind};
+use tm_base::read_number;
+use tm_lex::{Token, TokenKind, is_name, is_raw, is_word};
 
 /// The number at an index of a line.
 pub fn number_at(text: &[u8], line: &[Token], at: usize) -> Result<u32, TmplFault>
-    requires spans { All (readings.IsSpan text.now) line.now }
-    ensures { readings.ReadsOne Want.Number readings.number text.now line.now at result }
+    requires spans { All (lexed.IsSpan text.now) line.now }
+    ensures { readings.ReadsOne Want.Number lexed.number text.now line.now at result }
 {
     if at >= line.len() {
         return Err(TmplFault::Early { what: Want::Number });
@@ -37,7 +37,7 @@ pub fn number_at(text: &[u8], line: &[Token], at: usize) -> Result<u32, TmplFaul
 
 /// The kind of a window at an index of a line.
 pub fn kind_at(text: &[u8], line: &[Token], at: usize) -> Result<Kind, TmplFault>
-    requires spans { All (readings.IsSpan text.now) line.now }
+    requires spans { All (lexed.IsSpan text.now) line.now }
     ensures { readings.ReadsOne Want.Kind readings.kind text.now line.now at result }
 {
     if at >= line.len() {
@@ -75,7 +75,7 @@ pub enum Whom {
 
 /// Whom a body is for, at an index of a line.
 pub fn whom_at(text: &[u8], line: &[Token], at: usize) -> Result<Whom, TmplFault>
-    requires spans { All (readings.IsSpan text.now) line.now }
+    requires spans { All (lexed.IsSpan text.now) line.now }
     ensures { readings.ReadsOne Want.Selector readings.whom text.now line.now at result }
 {
     if at >= line.len() {
@@ -109,8 +109,8 @@ pub fn whom_at(text: &[u8], line: &[Token], at: usize) -> Result<Whom, TmplFault
 
 /// That a class of a mix stands at an index of a line.
 pub fn class_at(text: &[u8], line: &[Token], at: usize, class: &[u8]) -> Result<(), TmplFault>
-    requires spans { All (readings.IsSpan text.now) line.now }
-    ensures { readings.ReadsOne Want.Class (readings.keyword class.now) text.now line.now at result }
+    requires spans { All (lexed.IsSpan text.now) line.now }
+    ensures { readings.ReadsOne Want.Class (lexed.keyword class.now) text.now line.now at result }
 {
     if at >= line.len() {
         return Err(TmplFault::Early { what: Want::Class });
@@ -131,9 +131,9 @@ pub fn class_at(text: &[u8], line: &[Token], at: usize, class: &[u8]) -> Result<
 
 /// The name at an index of a line.
 pub fn name_at<'a>(text: &'a [u8], line: &[Token], at: usize) -> Result<&'a [u8], TmplFault>
-    requires spans { All (readings.IsSpan text.now) line.now }
-    ensures ok { IfOk result (λ name. readings.ReadsOne Want.Name readings.name text.now line.now at (Ok name.now)) }
-    ensures err { IfErr result (λ e. readings.ReadsOne Want.Name readings.name text.now line.now at (Err e)) }
+    requires spans { All (lexed.IsSpan text.now) line.now }
+    ensures ok { IfOk result (λ name. readings.ReadsOne Want.Name lexed.name text.now line.now at (Ok name.now)) }
+    ensures err { IfErr result (λ e. readings.ReadsOne Want.Name lexed.name text.now line.now at (Err e)) }
 {
     if at >= line.len() {
         return Err(TmplFault::Early { what: Want::Name });
@@ -152,7 +152,7 @@ pub fn name_at<'a>(text: &'a [u8], line: &[Token], at: usize) -> Result<&'a [u8]
 
 /// The assembler line at an index of a line.
 pub fn asm_at<'a>(text: &'a [u8], line: &[Token], at: usize) -> Result<&'a [u8], TmplFault>
-    requires spans { All (readings.IsSpan text.now) line.now }
+    requires spans { All (lexed.IsSpan text.now) line.now }
     ensures ok { IfOk result (λ asm. readings.ReadsOne Want.Asm readings.asm text.now line.now at (Ok asm.now)) }
     ensures err { IfErr result (λ e. readings.ReadsOne Want.Asm readings.asm text.now line.now at (Err e)) }
 {
@@ -171,7 +171,7 @@ pub fn asm_at<'a>(text: &'a [u8], line: &[Token], at: usize) -> Result<&'a [u8],
 
 /// That the line ends at an index.
 pub fn end_at(text: &[u8], line: &[Token], at: usize) -> Result<(), TmplFault>
-    ensures { readings.ReadsOne Want.LineEnd readings.line_end text.now line.now at result }
+    ensures { readings.ReadsOne Want.LineEnd lexed.line_end text.now line.now at result }
 {
     if at >= line.len() {
         return Err(TmplFault::Early {
@@ -186,74 +186,4 @@ pub fn end_at(text: &[u8], line: &[Token], at: usize) -> Result<(), TmplFault>
             what: Want::LineEnd,
         }),
     }
-}
-
-fn is_word(kind: TokenKind) -> bool
-    ensures { result ≡ readings.is_word kind }
-{
-    match kind {
-        TokenKind::Word => true,
-        _ => false,
-    }
-}
-
-fn is_raw(kind: TokenKind) -> bool
-    ensures { result ≡ readings.is_raw kind }
-{
-    match kind {
-        TokenKind::Raw => true,
-        _ => false,
-    }
-}
-
-// 1 to 16 bytes, the first a letter.
-fn is_name(word: &[u8]) -> bool
-    ensures { result ≡ readings.is_name word.now }
-{
-    if word.is_empty() {
-        return false;
-    }
-    if word.len() > NAME_BYTES {
-        return false;
-    }
-    if !is_letter(word[0]) {
-        return false;
-    }
-    has_name_bytes(word)
-}
-
-fn has_name_bytes(word: &[u8]) -> bool
-    ensures { result ≡ list_all readings.is_name_byte word.now }
-{
-    word.iter().all(|byte| is_name_byte(*byte))
-}
-
-fn is_letter(byte: u8) -> bool
-    ensures { result ≡ readings.is_letter byte }
-{
-    if byte < b'a' {
-        return false;
-    }
-    byte <= b'z'
-}
-
-fn is_digit(byte: u8) -> bool
-    ensures { result ≡ readings.is_digit byte }
-{
-    if byte < b'0' {
-        return false;
-    }
-    byte <= b'9'
-}
-
-fn is_name_byte(byte: u8) -> bool
-    ensures { result ≡ readings.is_name_byte byte }
-{
-    if is_letter(byte) {
-        return true;
-    }
-    if is_digit(byte) {
-        return true;
-    }
-    byte == b'_'
 }

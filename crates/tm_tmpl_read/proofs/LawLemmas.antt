@@ -9,7 +9,7 @@ use Rattle.tm_tmpl_types.specs.declared.template.Want.{Want}
 use Rattle.tm_tmpl_types.specs.declared.template.Template.{Template}
 use Rattle.tm_tmpl_types.specs.declared.template.TmplFault.{TmplFault}
 use Rattle.tm_tmpl_types.specs.declared.template.TmplFault.TheVariants.{Lex, Early, Expected, NoMemory}
-use Rattle.tm_tmpl_line.specs.Readings.{Lexeme, lexemes, template, passes, At}
+use Rattle.tm_tmpl_line.specs.Readings.{template, passes, At}
 use Rattle.tm_tmpl_read.specs.Steps.{windows_at, cases_at}
 use Rattle.tm_tmpl_read.specs.Grammar.{start, token_lines, statements, put_all, no_parts, end_of, made_of, of_tokens}
 use Rattle.tm_tmpl_read.specs.Grammar.{template_of, IsStatedFault}
@@ -19,6 +19,7 @@ use Rattle.tm_tmpl_read.specs.Spelled.{all_pieces, statements_of, Spells, IsSpel
 use Rattle.tm_tmpl_read.specs.Spelled.{IsFaultOf, IsOrNoMemory}
 use Rattle.tm_tmpl_read.specs.Writable.{IsWritable}
 use Rattle.tm_lex.proofs.FaultLemmas.{tokens-are}
+use Rattle.tm_lex.specs.Lines.{Lexeme, lexemes}
 use Rattle.tm_tmpl_read.proofs.LexemeLemmas.{are-lines}
 use Rattle.tm_tmpl_read.proofs.RawLemmas.{tokens-asm}
 use Rattle.tm_tmpl_read.proofs.WritableLemmas.{writable}

@@ -9,7 +9,7 @@ use Rattle.tm_lex.specs.declared.token.TokenKind.TheVariants.{Word, LineEnd}
 use Rattle.tm_lex.specs.declared.token.Token.{Token}
 use Rattle.tm_lex.specs.Lexing.{Span, content, text_of, token_at, with_end, as_words, as_raw}
 use Rattle.tm_lex.specs.Tiling.{AreParts, AreKinds, HaveTokens, AreTokens, lines_of}
-use Rattle.tm_tmpl_line.specs.Readings.{Lexeme, lexemes, is_line_end}
+use Rattle.tm_lex.specs.Lines.{Lexeme, lexemes, is_line_end}
 use Rattle.tm_tmpl_read.specs.Grammar.{token_lines}
 use Rattle.tm_tmpl_line.proofs.PieceLemmas.{ends_line, EndsOnce}
 use Rattle.tm_tmpl_read.proofs.LineLemmas.{IsLine}

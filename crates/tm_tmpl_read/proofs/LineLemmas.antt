@@ -6,13 +6,14 @@ use Rattle.std.proofs.lemmas.Bool.{cases_Bool, true≢false}
 use Rattle.std.proofs.lemmas.Slice.Eq.{bytes_eq-Decides}
 use Rattle.tm_base.specs.declared.Pos.{Pos}
 use Rattle.tm_lex.specs.declared.token.TokenKind.TheVariants.{Word}
+use Rattle.tm_lex.specs.Lines.{Lexeme}
 use Rattle.tm_tmpl_types.specs.declared.template.Want.{Want}
 use Rattle.tm_tmpl_types.specs.declared.template.Want.TheVariants as want
 use Rattle.tm_tmpl_types.specs.declared.template.Selector.TheVariants.{All, Hart, Core, Thread}
 use Rattle.tm_tmpl_types.specs.declared.template.SlotText.TheVariants.{Emit, Mix}
 use Rattle.tm_tmpl_types.specs.declared.template.TmplFault.{TmplFault}
 use Rattle.tm_tmpl_types.specs.declared.template.TmplFault.TheVariants.{Lex, Early, Expected, NoMemory}
-use Rattle.tm_tmpl_line.specs.Readings.{Lexeme, Reading, Statement, template, passes, window, case_of, body, slot, At}
+use Rattle.tm_tmpl_line.specs.Readings.{Reading, Statement, template, passes, window, case_of, body, slot, At}
 use Rattle.tm_tmpl_read.specs.Grammar.{Before, start, head, windows, cases, slots, choice, placed, line_reading}
 use Rattle.tm_tmpl_line.specs.Pieces.{Piece, opening, want_of, pieces_of, Fits, AreFit}
 use Rattle.tm_tmpl_line.proofs.PieceLemmas.{is_end, ends_line, EndsOnce, ends-fit, same-front}

@@ -4,11 +4,12 @@ use Rattle.std.proofs.Common.{append-nil, append_assoc}
 use Rattle.tm_base.specs.declared.Pos.{Pos}
 use Rattle.tm_lex.specs.declared.token.Token.{Token}
 use Rattle.tm_lex.specs.Tiling.{AreInOrder}
+use Rattle.tm_lex.specs.Lines.{IsSpan}
 use Rattle.tm_tmpl_types.specs.declared.template.SlotDecl.{SlotDecl}
 use Rattle.tm_tmpl_types.specs.declared.template.BodyDecl.{BodyDecl}
 use Rattle.tm_tmpl_types.specs.declared.template.CaseDecl.{CaseDecl}
 use Rattle.tm_tmpl_types.specs.declared.template.WindowDecl.{WindowDecl}
-use Rattle.tm_tmpl_line.specs.Readings.{IsSpan, template, passes, At}
+use Rattle.tm_tmpl_line.specs.Readings.{template, passes, At}
 use Rattle.tm_tmpl_read.specs.Grammar.{Parts, put_all, no_parts, end_of}
 use Rattle.tm_tmpl_read.specs.Steps.{windows_at, slots_at, bodies_at, cases_at}
 

@@ -18,7 +18,7 @@ use Rattle.tm_lex.specs.declared.token.Token.{Token}
 use Rattle.tm_lex.specs.Lexing.{Span, content, text_of, with_end, token_at, as_words, as_raw}
 use Rattle.tm_lex.specs.Tiling.{may_stand, WordsAt, RawAt, IsTrimmed, AreKinds, AreParts, IsFine, HaveTokens}
 use Rattle.tm_lex.specs.Tiling.{AreTokens, lines_of}
-use Rattle.tm_tmpl_line.specs.Readings.{lexemes}
+use Rattle.tm_lex.specs.Lines.{lexemes}
 use Rattle.tm_tmpl_read.specs.Writable.{IsAsm, HaveAsm}
 
 -- ---- parts of lists

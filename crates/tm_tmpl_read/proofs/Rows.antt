@@ -12,7 +12,7 @@ use Rattle.tm_tmpl_types.specs.declared.template.Template.{Template}
 use Rattle.tm_lex.specs.declared.token.Token.{Token}
 use Rattle.tm_lex.specs.declared.token.TokenKind.{TokenKind}
 use Rattle.tm_lex.specs.declared.token.TokenKind.TheVariants.{Word, LineEnd}
-use Rattle.tm_tmpl_line.specs.Readings.{Lexeme}
+use Rattle.tm_lex.specs.Lines.{Lexeme}
 use Rattle.tm_tmpl_line.specs.Pieces.{pieces_of}
 use Rattle.tm_tmpl_read.specs.Spelled.{Spells}
 use Rattle.tm_tmpl_read.specs.Grammar.{template_of, choice, token_lines, statements, put_all}

@@ -9,10 +9,11 @@ use Rattle.std.proofs.lemmas.Slice.Eq.{bytes_eq-Decides}
 use Rattle.std.proofs.lemmas.Grind.{common_steps}
 use Rattle.tm_lex.specs.declared.token.Token.{Token}
 use Rattle.tm_lex.specs.declared.token.TokenKind.TheVariants.{Word}
+use Rattle.tm_lex.specs.Lines.{Lexeme, lexemes, is_line_end}
 use Rattle.tm_tmpl_types.specs.declared.template.Want.TheVariants as want
 use Rattle.tm_tmpl_types.specs.declared.template.TmplFault.{TmplFault}
 use Rattle.tm_tmpl_types.specs.declared.template.TmplFault.TheVariants.{Early, Expected}
-use Rattle.tm_tmpl_line.specs.Readings.{Lexeme, lexemes, is_line_end, Statement, Reading, template_line, passes_line}
+use Rattle.tm_tmpl_line.specs.Readings.{Statement, Reading, template_line, passes_line}
 use Rattle.tm_tmpl_line.specs.Readings.{window_line, case_line, body_line, emit_line, mix_line, At}
 use Rattle.tm_tmpl_read.specs.Grammar.{Before, start, head, windows, cases, slots, token_lines, statements, choice}
 use Rattle.tm_tmpl_read.specs.Grammar.{place_after, more, then_more, line_reading}

@@ -6,11 +6,12 @@ use Rattle.std.proofs.lemmas.Bool.{cases_Bool}
 use Rattle.tm_base.specs.declared.Pos.{Pos}
 use Rattle.tm_base.proofs.PrintLemmas.{decimal_reads_back}
 use Rattle.tm_lex.specs.declared.token.TokenKind.TheVariants.{Word, LineEnd}
+use Rattle.tm_lex.specs.Lines.{Lexeme, is_line_end}
 use Rattle.tm_tmpl_types.specs.declared.template.Want.{Want}
 use Rattle.tm_tmpl_types.specs.declared.template.Want.TheVariants as want
 use Rattle.tm_tmpl_types.specs.declared.template.TmplFault.{TmplFault}
 use Rattle.tm_tmpl_types.specs.declared.template.TmplFault.TheVariants.{Lex, Early, Expected, NoMemory}
-use Rattle.tm_tmpl_line.specs.Readings.{Lexeme, Statement, template, passes, window, case_of, body, slot, is_line_end}
+use Rattle.tm_tmpl_line.specs.Readings.{Statement, template, passes, window, case_of, body, slot}
 use Rattle.tm_tmpl_line.specs.Readings.{At}
 use Rattle.tm_tmpl_read.specs.Grammar.{Before, start, head, windows, cases, slots, early, at_end, more, then_more}
 use Rattle.tm_tmpl_read.specs.Grammar.{place_after, line_reading, token_lines, onto_first, statements, IsStatedFault}

@@ -1,9 +1,10 @@
 -- What tokens spell, some line spells.
 use Rattle.std.proofs.Common.{◌≡◌, true, List, [], ◌∷◌, ◌++◌, subst}
+use Rattle.tm_lex.specs.Lines.{Lexeme, is_raw, is_name}
 use Rattle.tm_tmpl_types.specs.declared.template.Selector.TheVariants.{All, Hart, Core, Thread}
 use Rattle.tm_tmpl_types.specs.declared.template.SlotText.TheVariants.{Emit, Mix}
 use Rattle.tm_tmpl_types.specs.declared.template.Template.{Template}
-use Rattle.tm_tmpl_line.specs.Readings.{Lexeme, is_raw, is_name, template, passes, window, case_of, body, slot, At}
+use Rattle.tm_tmpl_line.specs.Readings.{template, passes, window, case_of, body, slot, At}
 use Rattle.tm_tmpl_read.specs.Steps.{windows_at, cases_at}
 use Rattle.tm_tmpl_line.specs.Pieces.{Piece, opening, fixed, a_name, a_number, asm_line, the_end, pieces_of, Fits}
 use Rattle.tm_tmpl_line.specs.Pieces.{AreFit}

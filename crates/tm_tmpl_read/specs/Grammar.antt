@@ -7,7 +7,8 @@ use Rattle.tm_base.specs.declared.Pos.{Pos}
 use Rattle.tm_lex.specs.Lexing.{tokens_of}
 use Rattle.tm_lex.specs.declared.token.Token.{Token}
 use Rattle.tm_lex.specs.declared.token.LexFault.{LexFault}
-use Rattle.tm_tmpl_line.specs.Readings.{Lexeme, lexemes, is_line_end, Reading, Statement, At, template, passes}
+use Rattle.tm_lex.specs.Lines.{Lexeme, lexemes, is_line_end}
+use Rattle.tm_tmpl_line.specs.Readings.{Reading, Statement, At, template, passes}
 use Rattle.tm_tmpl_line.specs.Readings.{window, case_of, body, slot, template_line, passes_line, window_line}
 use Rattle.tm_tmpl_line.specs.Readings.{case_line, body_line, emit_line, mix_line}
 use Rattle.tm_tmpl_types.specs.declared.template.Want.TheVariants as want

@@ -4,11 +4,12 @@ use Rattle.std.specs.Prelude.{ℕ, ◌≡◌, List, [], ◌∷◌, ◌++◌, Res
 use Rattle.tm_base.specs.declared.Pos.{Pos}
 use Rattle.tm_lex.specs.Lexing.{tokens_of}
 use Rattle.tm_lex.specs.declared.token.Token.{Token}
+use Rattle.tm_lex.specs.Lines.{Lexeme, lexemes}
 use Rattle.tm_tmpl_types.specs.declared.template.Want.{Want}
 use Rattle.tm_tmpl_types.specs.declared.template.Template.{Template}
 use Rattle.tm_tmpl_types.specs.declared.template.TmplFault.{TmplFault}
 use Rattle.tm_tmpl_types.specs.declared.template.TmplFault.TheVariants.{Lex, Early, Expected, NoMemory}
-use Rattle.tm_tmpl_line.specs.Readings.{Lexeme, lexemes, At, template, passes}
+use Rattle.tm_tmpl_line.specs.Readings.{At, template, passes}
 use Rattle.tm_tmpl_line.specs.Pieces.{Piece, want_of, pieces_of, AreFit}
 use Rattle.tm_tmpl_read.specs.Grammar.{end_of}
 use Rattle.tm_tmpl_read.specs.Steps.{windows_at, cases_at}

@@ -6,7 +6,8 @@ use Rattle.std.specs.List.{prefix_len}
 use Rattle.std.specs.Str.{bytes_eq}
 use Rattle.tm_base.specs.declared.Pos.{Pos}
 use Rattle.tm_lex.specs.declared.token.Token.{Token}
-use Rattle.tm_tmpl_line.specs.Readings.{lexemes, is_line_end, window, case_of, body, slot, At}
+use Rattle.tm_lex.specs.Lines.{lexemes, is_line_end}
+use Rattle.tm_tmpl_line.specs.Readings.{window, case_of, body, slot, At}
 use Rattle.tm_tmpl_read.specs.Grammar.{Before, cases, token_lines, statements}
 use Rattle.tm_tmpl_types.specs.declared.template.Want.TheVariants as want
 use Rattle.tm_tmpl_types.specs.declared.template.TmplFault.{TmplFault}

@@ -4,12 +4,13 @@ use Rattle.std.specs.List.{list_all}
 use Rattle.tm_base.specs.declared.limits.TheConstants.{WORD_BYTES}
 use Rattle.tm_lex.specs.Lexing.{is_separator}
 use Rattle.tm_lex.specs.Tiling.{may_stand}
+use Rattle.tm_lex.specs.Lines.{Lexeme, is_raw, is_name}
 use Rattle.tm_tmpl_types.specs.declared.template.Selector.{Selector}
 use Rattle.tm_tmpl_types.specs.declared.template.Selector.TheVariants as whose
 use Rattle.tm_tmpl_types.specs.declared.template.SlotText.{SlotText}
 use Rattle.tm_tmpl_types.specs.declared.template.SlotText.TheVariants.{Emit, Mix}
 use Rattle.tm_tmpl_types.specs.declared.template.Template.{Template}
-use Rattle.tm_tmpl_line.specs.Readings.{Lexeme, is_raw, is_name, Statement, template, passes, window, case_of, body}
+use Rattle.tm_tmpl_line.specs.Readings.{Statement, template, passes, window, case_of, body}
 use Rattle.tm_tmpl_line.specs.Readings.{slot, At}
 use Rattle.tm_tmpl_read.specs.Steps.{windows_at, cases_at}
 

@@ -1,7 +1,7 @@
 ghost use Rattle.std.specs.Prelude.{◌≡◌, ◌≢◌, ◌^◌, ◌<◌, ◌≤◌, ◌+◌, ◌==◌, Ok, Err, IfOk, IfErr, All, length, count_by};
 ghost use Rattle.std.specs.Prelude.{not};
 ghost use Rattle.std.specs.List.{suffix_len};
-ghost use Rattle.tm_tmpl_line.specs.Readings as readings;
+ghost use Rattle.tm_lex.specs.Lines as lexed;
 ghost use Rattle.tm_tmpl_read.specs.Grammar as grammar;
 ghost use Rattle.tm_tmpl_read.specs.Spelled as spelled;
 ghost use Rattle.tm_tmpl_read.specs.Writable.{IsWritable};
@@ -47,7 +47,7 @@ fn of_tokens(fault: LexFault) -> TmplFault
 
 // The template of tokens.
 fn read_tokens(alloc: Global, text: &[u8], tokens: &[Token]) -> Result<Template, TmplFault>
-    requires spans { All (readings.IsSpan text.now) tokens.now }
+    requires spans { All (lexed.IsSpan text.now) tokens.now }
     requires size { length text.now < 2 ^ 31 }
     ensures ok { IfOk result (λ t. grammar.made_of text.now (steps.follows text.now tokens.now grammar.start) ≡ Ok t) }
     ensures err { IfErr result (λ e. e ≢ TmplFault.NoMemory

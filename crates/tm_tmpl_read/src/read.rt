@@ -1,6 +1,7 @@
 // A template is read statement by statement, each part of it with the parts that it holds.
 ghost use Rattle.std.specs.Prelude.{◌≡◌, ◌≢◌, ◌≤◌, ◌<◌, ◌^◌, ◌∷◌, [], Ok, Err, Some, None, IfOk, IfErr, IfSome, OnOk};
 ghost use Rattle.std.specs.Prelude.{OnErr, All, length, codes};
+ghost use Rattle.tm_lex.specs.Lines as lexed;
 ghost use Rattle.tm_tmpl_line.specs.Readings as readings;
 ghost use Rattle.tm_tmpl_read.specs.Grammar as grammar;
 ghost use Rattle.tm_tmpl_read.specs.Steps as steps;
@@ -20,12 +21,12 @@ pub fn read_name<'a>(
     text: &[u8],
     tokens: &'a [Token],
 ) -> Result<(Text, &'a [Token]), TmplFault>
-    requires { All (readings.IsSpan text.now) tokens.now }
+    requires { All (lexed.IsSpan text.now) tokens.now }
     ensures ok { IfOk result (λ r. steps.follows text.now tokens.now grammar.start
         ≡ grammar.more (steps.first_at tokens.now, readings.template r.0)
         (steps.follows text.now r.1.now grammar.head)) }
     ensures err { IfErr result (λ e. e ≢ TmplFault.NoMemory → steps.follows text.now tokens.now grammar.start ≡ Err e) }
-    ensures spans { IfOk result (λ r. All (readings.IsSpan text.now) r.1.now) }
+    ensures spans { IfOk result (λ r. All (lexed.IsSpan text.now) r.1.now) }
 {
     if tokens.is_empty() {
         return Err(TmplFault::Early {
@@ -48,11 +49,11 @@ pub fn read_passes<'a>(
     text: &[u8],
     tokens: &'a [Token],
 ) -> Result<(u32, Pos, &'a [Token]), TmplFault>
-    requires { All (readings.IsSpan text.now) tokens.now }
+    requires { All (lexed.IsSpan text.now) tokens.now }
     ensures ok { IfOk result (λ r. steps.follows text.now tokens.now grammar.head
         ≡ grammar.more (r.1, readings.passes r.0) (steps.follows text.now r.2.now grammar.windows)) }
     ensures err { IfErr result (λ e. steps.follows text.now tokens.now grammar.head ≡ Err e) }
-    ensures spans { IfOk result (λ r. All (readings.IsSpan text.now) r.2.now) }
+    ensures spans { IfOk result (λ r. All (lexed.IsSpan text.now) r.2.now) }
 {
     if tokens.is_empty() {
         return Err(TmplFault::Early { what: Want::Passes });
@@ -74,10 +75,10 @@ fn next_window<'a>(
     text: &[u8],
     tokens: &'a [Token],
 ) -> Result<Option<(WindowDecl, &'a [Token])>, TmplFault>
-    requires { All (readings.IsSpan text.now) tokens.now }
+    requires { All (lexed.IsSpan text.now) tokens.now }
     ensures next { steps.IsNext (steps.follows text.now tokens.now grammar.windows) (λ w. steps.window_at w ∷ [])
         (λ rest. steps.follows text.now rest grammar.windows) (steps.case_next text.now tokens.now) result }
-    ensures left { steps.IsLeft (readings.IsSpan text.now) tokens.now result }
+    ensures left { steps.IsLeft (lexed.IsSpan text.now) tokens.now result }
 {
     if !opens(text, tokens, b"window") {
         return Ok(None);
@@ -100,12 +101,12 @@ pub fn read_windows<'a>(
     text: &[u8],
     tokens: &'a [Token],
 ) -> Result<(List<WindowDecl>, &'a [Token]), TmplFault>
-    requires { All (readings.IsSpan text.now) tokens.now }
+    requires { All (lexed.IsSpan text.now) tokens.now }
     ensures ok { IfOk result (λ r. steps.follows text.now tokens.now grammar.windows
         ≡ steps.more_all (steps.windows_at r.0) (steps.case_next text.now r.1.now)) }
     ensures err { IfErr result (λ e. e ≢ TmplFault.NoMemory → steps.follows text.now tokens.now grammar.windows
         ≡ Err e) }
-    ensures spans { IfOk result (λ r. All (readings.IsSpan text.now) r.1.now) }
+    ensures spans { IfOk result (λ r. All (lexed.IsSpan text.now) r.1.now) }
 {
     let mut windows = List::new(alloc);
     let mut rest = tokens;
@@ -124,10 +125,10 @@ fn next_slot<'a>(
     text: &[u8],
     tokens: &'a [Token],
 ) -> Result<Option<(SlotDecl, &'a [Token])>, TmplFault>
-    requires { All (readings.IsSpan text.now) tokens.now }
+    requires { All (lexed.IsSpan text.now) tokens.now }
     ensures next { steps.IsNext (steps.follows text.now tokens.now grammar.slots) (λ d. steps.slot_at d ∷ [])
         (λ rest. steps.follows text.now rest grammar.slots) (steps.body_next text.now tokens.now) result }
-    ensures left { steps.IsLeft (readings.IsSpan text.now) tokens.now result }
+    ensures left { steps.IsLeft (lexed.IsSpan text.now) tokens.now result }
 {
     if opens(text, tokens, b"emit") {
         let len = line_len(tokens);
@@ -151,11 +152,11 @@ fn read_slots<'a>(
     text: &[u8],
     tokens: &'a [Token],
 ) -> Result<(List<SlotDecl>, &'a [Token]), TmplFault>
-    requires { All (readings.IsSpan text.now) tokens.now }
+    requires { All (lexed.IsSpan text.now) tokens.now }
     ensures ok { IfOk result (λ r. steps.follows text.now tokens.now grammar.slots
         ≡ steps.more_all (steps.slots_at r.0) (steps.body_next text.now r.1.now)) }
     ensures err { IfErr result (λ e. e ≢ TmplFault.NoMemory → steps.follows text.now tokens.now grammar.slots ≡ Err e) }
-    ensures left { IfOk result (λ r. (All (readings.IsSpan text.now) r.1.now) × (length r.1.now ≤ length tokens.now)) }
+    ensures left { IfOk result (λ r. (All (lexed.IsSpan text.now) r.1.now) × (length r.1.now ≤ length tokens.now)) }
 {
     let mut slots = List::new(alloc);
     let mut rest = tokens;
@@ -174,10 +175,10 @@ fn next_body<'a>(
     text: &[u8],
     tokens: &'a [Token],
 ) -> Result<Option<(BodyDecl, &'a [Token])>, TmplFault>
-    requires { All (readings.IsSpan text.now) tokens.now }
+    requires { All (lexed.IsSpan text.now) tokens.now }
     ensures next { steps.IsNext (steps.body_next text.now tokens.now) steps.body_at (steps.body_next text.now)
         (steps.case_next text.now tokens.now) result }
-    ensures left { steps.IsLeft (readings.IsSpan text.now) tokens.now result }
+    ensures left { steps.IsLeft (lexed.IsSpan text.now) tokens.now result }
 {
     if !opens(text, tokens, b"body") {
         return Ok(None);
@@ -195,11 +196,11 @@ fn read_bodies<'a>(
     text: &[u8],
     tokens: &'a [Token],
 ) -> Result<(List<BodyDecl>, &'a [Token]), TmplFault>
-    requires { All (readings.IsSpan text.now) tokens.now }
+    requires { All (lexed.IsSpan text.now) tokens.now }
     ensures ok { IfOk result (λ r. steps.body_next text.now tokens.now
         ≡ steps.more_all (steps.bodies_at r.0) (steps.case_next text.now r.1.now)) }
     ensures err { IfErr result (λ e. e ≢ TmplFault.NoMemory → steps.body_next text.now tokens.now ≡ Err e) }
-    ensures left { IfOk result (λ r. (All (readings.IsSpan text.now) r.1.now) × (length r.1.now ≤ length tokens.now)) }
+    ensures left { IfOk result (λ r. (All (lexed.IsSpan text.now) r.1.now) × (length r.1.now ≤ length tokens.now)) }
 {
     let mut bodies = List::new(alloc);
     let mut rest = tokens;
@@ -218,10 +219,10 @@ fn next_case<'a>(
     text: &[u8],
     tokens: &'a [Token],
 ) -> Result<Option<(CaseDecl, &'a [Token])>, TmplFault>
-    requires { All (readings.IsSpan text.now) tokens.now }
+    requires { All (lexed.IsSpan text.now) tokens.now }
     ensures next { steps.IsNext (steps.case_next text.now tokens.now) steps.case_at (steps.case_next text.now) (Ok [])
         result }
-    ensures left { steps.IsLeft (readings.IsSpan text.now) tokens.now result }
+    ensures left { steps.IsLeft (lexed.IsSpan text.now) tokens.now result }
 {
     if tokens.is_empty() {
         return Ok(None);
@@ -241,7 +242,7 @@ fn next_case<'a>(
 
 // The cases, up to the text's end.
 pub fn read_cases(alloc: Global, text: &[u8], tokens: &[Token]) -> Result<List<CaseDecl>, TmplFault>
-    requires { All (readings.IsSpan text.now) tokens.now }
+    requires { All (lexed.IsSpan text.now) tokens.now }
     ensures ok { IfOk result (λ cases. steps.case_next text.now tokens.now
         ≡ steps.more_all (steps.cases_at cases) (Ok [])) }
     ensures err { IfErr result (λ e. e ≢ TmplFault.NoMemory → steps.case_next text.now tokens.now ≡ Err e) }

@@ -1,7 +1,7 @@
 // The first line of the tokens that are left.
 ghost use Rattle.std.specs.Prelude.{◌≡◌, ◌≤◌, ◌<◌, ◌+◌, length, All, not, true};
 ghost use Rattle.std.specs.List.{prefix_len};
-ghost use Rattle.tm_tmpl_line.specs.Readings as readings;
+ghost use Rattle.tm_lex.specs.Lines as lexed;
 ghost use Rattle.tm_tmpl_read.specs.Steps as steps;
 
 use tm_lex::{Token, TokenKind};
@@ -9,7 +9,7 @@ use tm_lex::{Token, TokenKind};
 /// Whether the first token is this word.
 #[tactic(auto, unfolding(crate::specs::Steps::opens_with))]
 pub fn opens(text: &[u8], tokens: &[Token], word: &[u8]) -> bool
-    requires { All (readings.IsSpan text.now) tokens.now }
+    requires { All (lexed.IsSpan text.now) tokens.now }
     ensures value { result ≡ steps.opens_with text.now tokens.now word.now }
     ensures some { result ≡ true → 0 < length tokens.now }
 {
@@ -35,7 +35,7 @@ pub fn line_len(tokens: &[Token]) -> usize
 }
 
 fn words_len(tokens: &[Token]) -> usize
-    ensures len { result ≡ prefix_len (λ t. not (readings.is_line_end t.kind)) tokens.now }
+    ensures len { result ≡ prefix_len (λ t. not (lexed.is_line_end t.kind)) tokens.now }
     ensures within { result ≤ length tokens.now }
 {
     tokens
@@ -45,7 +45,7 @@ fn words_len(tokens: &[Token]) -> usize
 }
 
 fn is_line_end(kind: TokenKind) -> bool
-    ensures { result ≡ readings.is_line_end kind }
+    ensures { result ≡ lexed.is_line_end kind }
 {
     match kind {
         TokenKind::LineEnd => true,

@@ -1,5 +1,5 @@
 use Rattle.std.proofs.Common.{◌≡◌, ◌≤◌, All, length}
-use Rattle.tm_tmpl_line.specs.Readings.{IsSpan}
+use Rattle.tm_lex.specs.Lines.{IsSpan}
 use Rattle.tm_tmpl_read.specs.Grammar.{slots}
 use Rattle.tm_tmpl_read.specs.Steps.{follows, more_all, slots_at}
 use Rattle.tm_tmpl_read.proofs.read.read_slots.Given as goal
