@@ -13,14 +13,16 @@ use Rattle.tm_runs.proofs.Compose.{keeps_after, keeps_map}
 use Rattle.tm_runs.proofs.Tables.{at_front, at_next}
 use Rattle.tm_blocks_base.specs.Laws.{accesses}
 use Rattle.tm_blocks_base.specs.Instrs.{fence, go_to}
+use Rattle.tm_blocks_base.proofs.Lists.{accesses-append}
 use Rattle.tm_barrier.specs.Words.{prepare, signal, wait, turn, waits, meet, barrier}
 use Rattle.tm_barrier.specs.Laws.{Meeting, Meets, Looks, Barred, HasMet, MeetRuns, FenceRuns}
 use Rattle.tm_runs.specs.Phases.{signals_in, idles_in}
 use Rattle.tm_barrier.specs.Laws.{ReturnRuns}
 use Rattle.tm_runs.proofs.Steps.{step_fence, step_jalr}
+use Rattle.tm_runs.proofs.Story.{each-map}
 use Rattle.tm_barrier.proofs.Lists.{any-here, any-right, front-append}
 use Rattle.tm_barrier.proofs.Made.{Made, each-both, worked-append, worked-length}
-use Rattle.tm_barrier.proofs.Told.{accesses-append, accesses-each, each-map, does-map, looks-meets, late-silent}
+use Rattle.tm_barrier.proofs.Told.{accesses-each, does-map, looks-meets, late-silent}
 use Rattle.tm_barrier.proofs.Told.{late-story}
 use Rattle.tm_barrier.proofs.Signal.{Signalled, signal_takes}
 use Rattle.tm_barrier.proofs.Wait.{WaitedAll, waits_keep}

@@ -5,6 +5,7 @@ use Rattle.std.proofs.Common.{Option, None, Some, refl, sym, ap, ◌∙◌, subs
 use Rattle.std.specs.Prelude.{slice_index, slice_index_or, if◌then◌else◌}
 use Rattle.std.proofs.lemmas.Bool.Decides.{nat_tests}
 use Rattle.std.proofs.lemmas.Grind.{get_or_default_zero}
+use Rattle.std.proofs.lemmas.Bool.{or_right}
 use Rattle.tm_table.specs.declared.state.Access.{Access}
 use Rattle.tm_table.specs.declared.state.Access.TheVariants.{Quiet, Read, Write}
 use Rattle.tm_plan_cases.specs.declared.program.Program.{Program}
@@ -17,7 +18,6 @@ use Rattle.tm_world.specs.Run.{got}
 use Rattle.tm_world.specs.Writers.{run_phase}
 use Rattle.tm_world.specs.Course.{reads_in}
 use Rattle.tm_runs.specs.Machine.{Entry, Table}
-use Rattle.tm_runs.proofs.Places.{or-right}
 use Rattle.tm_pass_way.specs.Logs.{read_in}
 use Rattle.tm_runs.specs.Phases.{phase_in, steps_in}
 use Rattle.tm_pass_way.specs.Facts.{Gathered}
@@ -54,7 +54,7 @@ read-any p h q a v (x ∷ past) e = by (read_in p h q a past) refl (phase_in (ex
         → any (λ (t : Entry). reads_in a 8 t.access) (if b then x ∷ steps_in (exit_of p h) q past
         else steps_in (exit_of p h) q past) ≡ true
     by (Some w) f true r g =
-        or-right (reads_in a 8 x.access) (any (λ (t : Entry). reads_in a 8 t.access) (steps_in (exit_of p h) q past))
+        or_right (reads_in a 8 x.access) (any (λ (t : Entry). reads_in a 8 t.access) (steps_in (exit_of p h) q past))
         (r w f)
     by (Some w) f false r g = r w f
     by None f true r g =

@@ -3,8 +3,9 @@ use Rattle.std.proofs.Common.{◌≡◌, ℕ, zero, suc, ◌+◌, ◌<◌, ◌�
 use Rattle.std.proofs.Common.{sym, subst, ◌∙◌, add-one, arith}
 use Rattle.tm_world.specs.Slots.{Slot, Jumps, Covers, SurelyOverwrites}
 use Rattle.tm_world.specs.Trails.{At, Steered, Follows, Derived, RaceDependent}
+use Rattle.tm_world.proofs.Trails.{one-more}
 use Rattle.tm_race_walk.specs.Forward.{IsSteered, IsReach, Stands, HeldAfter, Raised, Turns}
-use Rattle.tm_race_walk.proofs.Trails.{one-more, derived-rule}
+use Rattle.tm_race_walk.proofs.Trails.{derived-rule}
 
 lt_or_ge : (m n : ℕ) → (m < n) ⊎ (n ≤ m)
 lt_or_ge m n = grind arith

@@ -1,1 +1,5 @@
+pub mod Accesses
+pub mod Options
 pub mod Prefix
+pub mod Streams
+pub mod Trails
