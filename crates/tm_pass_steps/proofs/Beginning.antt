@@ -37,8 +37,6 @@ image-few : (p : Program) → Formed p → (a : ℕ) → image_dword p a < 2 ^ 6
 unfolding image_dword
 image-few p formed a = joined-lt (λ i. image_byte p (a + i)) 8 (λ i. image-lt p (a + i) (formed-sizes formed))
 
-}
-
 module _ (p : Program) (formed : Formed p) (fit : MasksFit p.cases p.masks) (h : ℕ) (number : h < harts p) (base far : ℕ
     → ℕ) (site : GateSite p h base far) (clear : Clear p h text_base (base h + 56)) (limit : ℕ → ℕ) where
   abbrev exit : ℕ

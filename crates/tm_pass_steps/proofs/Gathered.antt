@@ -103,4 +103,3 @@ widen lo mid hi A l (e ∷ es) h = record {
   access = h.access;
 }
 
-}

@@ -40,8 +40,6 @@ gathered-more p h None e es g = tt
 gathered-more p h (Some d) e es g = λ k x l. or_right (reads_in (slice_index_or (owned p.cases h) k x) 8 e.access)
     (any (λ (t : Entry). reads_in (slice_index_or (owned p.cases h) k x) 8 t.access) es) (g k x l)
 
-}
-
 module _ (p : Program) (formed : Formed p) (fit : MasksFit p.cases p.masks) (h : ℕ) (number : h < harts p) (limit : ℕ
     → ℕ) (lo hi : ℕ) (clear : Clear p h lo hi) (A : Access → Type 0) where
   abbrev exit : ℕ
