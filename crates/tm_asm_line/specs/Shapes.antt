@@ -1,4 +1,5 @@
--- The names of the ops, and the table of their operands (this project; the names are those of RV64I 2.1 in lower case).
+-- The names of the ops, and the table of their operands (this project; the names are those of RV64I 2.1 and M 2.0, in
+-- lower case).
 use Rattle.std.specs.Prelude.{ℕ, ℤ, pos, negsuc, Bool, true, false, List, [], ◌∷◌, get_or, codes}
 use Rattle.tm_table.specs.declared.instr.Op.{Op}
 use Rattle.tm_table.specs.declared.instr.Op.TheVariants.{Lui, Auipc, Jal, Jalr, Beq, Bne, Blt, Bge, Bltu, Bgeu, Lb}
@@ -6,6 +7,8 @@ use Rattle.tm_table.specs.declared.instr.Op.TheVariants.{Lh, Lw, Ld, Lbu, Lhu, L
 use Rattle.tm_table.specs.declared.instr.Op.TheVariants.{Xori, Ori, Andi, Slli, Srli, Srai, Add, Sll, Slt, Sltu, Xor}
 use Rattle.tm_table.specs.declared.instr.Op.TheVariants.{Srl, Or, And, Sub, Sra, Addiw, Slliw, Srliw, Sraiw, Addw}
 use Rattle.tm_table.specs.declared.instr.Op.TheVariants.{Sllw, Srlw, Subw, Sraw, Fence, Ecall, Ebreak}
+use Rattle.tm_table.specs.declared.instr.Op.TheVariants.{Mul, Mulh, Mulhsu, Mulhu, Div, Divu, Rem, Remu}
+use Rattle.tm_table.specs.declared.instr.Op.TheVariants.{Mulw, Divw, Divuw, Remw, Remuw}
 use Rattle.tm_asm_line.specs.declared.shape.Slot.{Slot}
 use Rattle.tm_asm_line.specs.declared.shape.Slot.TheVariants.{Rd, Rs1, Rs2}
 use Rattle.tm_asm_line.specs.declared.shape.Side.TheVariants.{Before, After}
@@ -17,7 +20,7 @@ use Rattle.tm_asm_line.specs.declared.shape.Shape.{Shape}
 use Rattle.tm_asm_line.specs.declared.shape.Shape.TheVariants.{Upper, Jump, Memory, Branch, Store, Immediate, Shift64}
 use Rattle.tm_asm_line.specs.declared.shape.Shape.TheVariants.{Shift32, Registers, Fences, Bare}
 
--- the op's name (RV64I 2.1)
+-- the op's name (RV64I 2.1, M 2.0)
 unfoldable pub name_of : Op → List ℕ
 name_of Lui = codes "lui"
 name_of Auipc = codes "auipc"
@@ -71,6 +74,19 @@ name_of Sraw = codes "sraw"
 name_of Fence = codes "fence"
 name_of Ecall = codes "ecall"
 name_of Ebreak = codes "ebreak"
+name_of Mul = codes "mul"
+name_of Mulh = codes "mulh"
+name_of Mulhsu = codes "mulhsu"
+name_of Mulhu = codes "mulhu"
+name_of Div = codes "div"
+name_of Divu = codes "divu"
+name_of Rem = codes "rem"
+name_of Remu = codes "remu"
+name_of Mulw = codes "mulw"
+name_of Divw = codes "divw"
+name_of Divuw = codes "divuw"
+name_of Remw = codes "remw"
+name_of Remuw = codes "remuw"
 
 -- which operands an op has (this project)
 unfoldable pub shape_of : Op → Shape
@@ -126,6 +142,19 @@ shape_of Sraw = Registers
 shape_of Fence = Fences
 shape_of Ecall = Bare
 shape_of Ebreak = Bare
+shape_of Mul = Registers
+shape_of Mulh = Registers
+shape_of Mulhsu = Registers
+shape_of Mulhu = Registers
+shape_of Div = Registers
+shape_of Divu = Registers
+shape_of Rem = Registers
+shape_of Remu = Registers
+shape_of Mulw = Registers
+shape_of Divw = Registers
+shape_of Divuw = Registers
+shape_of Remw = Registers
+shape_of Remuw = Registers
 
 -- from one number to another, all of them or the even ones
 abbrev range : ℤ → ℤ → Bool → Range

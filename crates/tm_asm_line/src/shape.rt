@@ -190,6 +190,19 @@ pub fn shape_of(op: Op) -> Shape
         | Op::Srlw
         | Op::Subw
         | Op::Sraw => Shape::Registers,
+        Op::Mul
+        | Op::Mulh
+        | Op::Mulhsu
+        | Op::Mulhu
+        | Op::Div
+        | Op::Divu
+        | Op::Rem
+        | Op::Remu
+        | Op::Mulw
+        | Op::Divw
+        | Op::Divuw
+        | Op::Remw
+        | Op::Remuw => Shape::Registers,
         Op::Fence => Shape::Fences,
         Op::Ecall | Op::Ebreak => Shape::Bare,
     }
@@ -254,11 +267,24 @@ pub fn name(op: Op) -> &'static [u8]
         Op::Fence => b"fence".as_slice(),
         Op::Ecall => b"ecall".as_slice(),
         Op::Ebreak => b"ebreak".as_slice(),
+        Op::Mul => b"mul".as_slice(),
+        Op::Mulh => b"mulh".as_slice(),
+        Op::Mulhsu => b"mulhsu".as_slice(),
+        Op::Mulhu => b"mulhu".as_slice(),
+        Op::Div => b"div".as_slice(),
+        Op::Divu => b"divu".as_slice(),
+        Op::Rem => b"rem".as_slice(),
+        Op::Remu => b"remu".as_slice(),
+        Op::Mulw => b"mulw".as_slice(),
+        Op::Divw => b"divw".as_slice(),
+        Op::Divuw => b"divuw".as_slice(),
+        Op::Remw => b"remw".as_slice(),
+        Op::Remuw => b"remuw".as_slice(),
     }
 }
 
 /// The ops, in the table's order.
-pub static OPS: [Op; 52] = [
+pub static OPS: [Op; 65] = [
     Op::Lui,
     Op::Auipc,
     Op::Jal,
@@ -311,6 +337,19 @@ pub static OPS: [Op; 52] = [
     Op::Fence,
     Op::Ecall,
     Op::Ebreak,
+    Op::Mul,
+    Op::Mulh,
+    Op::Mulhsu,
+    Op::Mulhu,
+    Op::Div,
+    Op::Divu,
+    Op::Rem,
+    Op::Remu,
+    Op::Mulw,
+    Op::Divw,
+    Op::Divuw,
+    Op::Remw,
+    Op::Remuw,
 ];
 
 /// The sets of FENCE.

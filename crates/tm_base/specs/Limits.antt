@@ -1,14 +1,19 @@
--- The greatest numbers of harts and of cases, by the version of the image. Source: this project.
+-- The limits that differ by the version of the image. Source: this project.
 use Rattle.std.specs.Prelude.{ℕ}
+use Rattle.tm_base.specs.declared.limits.TheConstants.{IMAGE_VERSION, IMAGE_1_HARTS, IMAGE_1_CASES, IMAGE_1_ALU_OPS}
 
 -- the version of the images that are built
 abbrev pub image_version : ℕ
-image_version = 1
+image_version = IMAGE_VERSION
 
 -- how many harts an image of a version has at most
 abbrev pub most_harts : ℕ → ℕ
-most_harts version = 8
+most_harts version = IMAGE_1_HARTS
 
 -- how many cases an image of a version has at most
 abbrev pub most_cases : ℕ → ℕ
-most_cases version = 32
+most_cases version = IMAGE_1_CASES
+
+-- how many operations the class `alu` of an image of a version has
+abbrev pub alu_ops : ℕ → ℕ
+alu_ops version = IMAGE_1_ALU_OPS

@@ -14,5 +14,6 @@ fn main(rt: HostRuntime) -> io::Result<()> {
     files::long_file(&rt)?;
     sinks::output(&rt)?;
     sinks::refusals(&rt)?;
-    sinks::short_writes(&rt)
+    sinks::short_writes(&rt)?;
+    sinks::long_writes(&rt)
 }

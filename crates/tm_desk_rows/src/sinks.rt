@@ -1,6 +1,6 @@
 // Sinks over the output and over streams that are made up.
 use crate::shown::{show, show_done, show_text};
-use crate::streams::{OneByte, Refusing};
+use crate::streams::{Few, Refusing};
 use std::io::{self, ErrorKind};
 use tm_desk::{RealSink, Sink, SinkError, put_all};
 
@@ -42,11 +42,22 @@ pub fn refusals(rt: &HostRuntime) -> io::Result<()> {
 
 /// Over a stream that takes one byte at a time, and is interrupted before each, nothing is lost.
 pub fn short_writes(rt: &HostRuntime) -> io::Result<()> {
-    let stream = OneByte::new(rt.alloc());
+    let stream = Few::new(rt.alloc(), 1);
     let mut sink = RealSink::new(&stream);
     println!(rt; "a stream that takes one byte at a time")?;
     let answer = put_all(&mut sink, b"some bytes");
     show_done(rt, "put of 10 bytes", answer)?;
+    show(rt, "faults", sink.faults())?;
+    show_text(rt, "taken", stream.into_taken().as_slice())
+}
+
+/// One put gives a stream all the bytes at once, and answers how many of them it took.
+pub fn long_writes(rt: &HostRuntime) -> io::Result<()> {
+    let stream = Few::new(rt.alloc(), 4);
+    let mut sink = RealSink::new(&stream);
+    println!(rt; "a stream that takes four bytes at a time")?;
+    show_put(rt, "put of 10 bytes", sink.put(b"some bytes"))?;
+    show_put(rt, "put of 3 bytes", sink.put(b"ony"))?;
     show(rt, "faults", sink.faults())?;
     show_text(rt, "taken", stream.into_taken().as_slice())
 }

@@ -31,17 +31,19 @@ impl Print for Refusing {
     }
 }
 
-/// A stream that takes one byte at a time and keeps it, and of which every other write is interrupted.
+/// A stream that takes so many bytes at a time and keeps them, and of which every other write is interrupted.
 #[derive(Drop)]
-pub struct OneByte {
+pub struct Few {
+    most: usize,
     interrupts: Cell<bool>,
     taken: RefCell<Vec<u8>>,
 }
 
-impl OneByte {
-    /// A stream that has taken nothing, and is interrupted at first.
-    pub fn new(alloc: Global) -> OneByte {
-        OneByte {
+impl Few {
+    /// A stream that takes `most` bytes at a time. It has taken nothing, and is interrupted at first.
+    pub fn new(alloc: Global, most: usize) -> Few {
+        Few {
+            most,
             interrupts: Cell::new(true),
             taken: RefCell::new(Vec::new(alloc)),
         }
@@ -49,7 +51,8 @@ impl OneByte {
 
     /// The bytes that it took.
     pub fn into_taken(self) -> Vec<u8> {
-        let OneByte {
+        let Few {
+            most: _,
             interrupts: _,
             taken,
         } = self;
@@ -57,7 +60,7 @@ impl OneByte {
     }
 }
 
-impl Print for OneByte {
+impl Print for Few {
     fn print<D: Display + Drop>(&self, _value: D) -> io::Result<()> {
         Ok(())
     }
@@ -76,13 +79,11 @@ impl Print for OneByte {
         if interrupts {
             return Err(ErrorKind::Interrupted.into());
         }
-        let [first, ..] = bytes else {
-            return Ok(0);
-        };
+        let count = bytes.len().min(self.most);
         let Ok(mut taken) = self.taken.try_borrow_mut() else {
             return Err(ErrorKind::WouldBlock.into());
         };
-        taken.push(*first)?;
-        Ok(1)
+        taken.extend_from_slice(&bytes[..count])?;
+        Ok(count)
     }
 }

@@ -28,6 +28,8 @@ pub struct Entry {
     pub width: u8,
 }
 
+const _: () = prove!(size_of::<Entry>() == 40);
+
 /// The events of a simulation, in order, and the room that was taken for them.
 #[derive(Drop)]
 pub struct Journal {
@@ -36,7 +38,7 @@ pub struct Journal {
 }
 
 impl Model for Journal {
-    ghost use Rattle.std.specs.Prelude.{◌≤◌, length, map};
+    ghost use Rattle.std.specs.Prelude.{◌≡◌, ◌≤◌, length, map};
     ghost use Rattle.std.specs.Vec.{vec_capacity};
     ghost use Rattle.tm_plan_journal.specs.Journaled.{Journaled};
 
@@ -46,7 +48,7 @@ impl Model for Journal {
 
     ghost view = { λ j. record { events = map event_of j.entries.items; room = j.room } };
 
-    ghost invariant = { λ j. (length j.entries.items ≤ j.room) × (j.room ≤ vec_capacity j.entries) };
+    ghost invariant = { λ j. (length j.entries.items ≤ j.room) × (vec_capacity j.entries ≡ j.room) };
 }
 
 impl Journal {

@@ -1,11 +1,13 @@
 -- What effects hold are numbers of 64 bits.
 use Rattle.std.proofs.Common.{ℕ, ◌/◌, ◌%◌, ◌^◌, ◌<◌, ℤ, pos, negsuc, Bool, true, false, arith}
-use Rattle.std.proofs.lemmas.Nat.{xor_lt, or_lt, and_le_l, shr_le}
+use Rattle.std.proofs.lemmas.Nat.{xor_lt, or_lt, and_le_l, shr_le, mul-lt}
 use Rattle.tm_table.specs.declared.instr.Op.{Op}
 use Rattle.tm_table.specs.declared.instr.Op.TheVariants.{Lui, Auipc, Jal, Jalr, Sb, Sh, Sw, Sd, Addi, Slti, Sltiu}
 use Rattle.tm_table.specs.declared.instr.Op.TheVariants.{Xori, Ori, Andi, Slli, Srli, Srai, Add, Sll, Slt, Sltu, Xor}
 use Rattle.tm_table.specs.declared.instr.Op.TheVariants.{Srl, Or, And, Sub, Sra, Addiw, Slliw, Srliw, Sraiw, Addw}
 use Rattle.tm_table.specs.declared.instr.Op.TheVariants.{Sllw, Srlw, Subw, Sraw}
+use Rattle.tm_table.specs.declared.instr.Op.TheVariants.{Mul, Mulh, Mulhsu, Mulhu, Div, Divu, Rem, Remu}
+use Rattle.tm_table.specs.declared.instr.Op.TheVariants.{Mulw, Divw, Divuw, Remw, Remuw}
 use Rattle.tm_table.specs.Row.{Effect, Gives, Loads, Stores, Branches, Jumps, effect, shifted_down, flag}
 use Rattle.tm_table.proofs.Signs.{low-lt}
 
@@ -62,4 +64,17 @@ effect-bounded Sllw pc a b i h p q = low-lt 64 _
 effect-bounded Srlw pc a b i h p q = low-lt 64 _
 effect-bounded Subw pc a b i h p q = low-lt 64 _
 effect-bounded Sraw pc a b i h p q = shifted_down-lt _ _
+effect-bounded Mul pc a b i h p q = omega arith
+effect-bounded Mulh pc a b i h p q = shifted_down-lt 64 _
+effect-bounded Mulhsu pc a b i h p q = shifted_down-lt 64 _
+effect-bounded Mulhu pc a b i h p q = let m = mul-lt a b (2 ^ 64) (2 ^ 64) h p in omega arith
+effect-bounded Div pc a b i h p q = low-lt 64 _
+effect-bounded Divu pc a b i h p q = low-lt 64 _
+effect-bounded Rem pc a b i h p q = low-lt 64 _
+effect-bounded Remu pc a b i h p q = low-lt 64 _
+effect-bounded Mulw pc a b i h p q = low-lt 64 _
+effect-bounded Divw pc a b i h p q = low-lt 64 _
+effect-bounded Divuw pc a b i h p q = low-lt 64 _
+effect-bounded Remw pc a b i h p q = low-lt 64 _
+effect-bounded Remuw pc a b i h p q = low-lt 64 _
 effect-bounded _ pc a b i h p q = tt

@@ -119,7 +119,7 @@ parts-decoded f i h e = go (find (is_of f) table) refl e
 
 -- ---- the parts of an instruction's word are in range
 
-parts-in_range : (l : Layout) (r : Row) (i : Instr) → r.opcode < 128 → r.funct3 < 8 → r.funct6 < 64 → r.extra < 32
+parts-in_range : (l : Layout) (r : Row) (i : Instr) → r.opcode < 128 → r.funct3 < 8 → r.funct6 < 64 → r.extra < 2
     → FitsAs l i → InRange (parts_as l r i)
 parts-in_range R r i a b c d h = record {
   opcode = a;
@@ -127,7 +127,7 @@ parts-in_range R r i a b c d h = record {
   funct3 = b;
   rs1 = h.1;
   rs2 = h.2;
-  bit25 = omega arith;
+  bit25 = d;
   funct6 = c;
 }
 parts-in_range I r i a b c d h = let n : low 12 i.imm < 2 ^ 12 = low-lt 12 i.imm in
@@ -175,7 +175,7 @@ parts-in_range Whole r i a b c d h = record {
   rd = omega arith;
   funct3 = b;
   rs1 = omega arith;
-  rs2 = d;
+  rs2 = omega (arith, d);
   bit25 = omega arith;
   funct6 = c;
 }
@@ -184,7 +184,7 @@ pub encoded-in_range : (i : Instr) → Fits i → InRange (parts_of i)
 unfolding Fits
 encoded-in_range i h =
     let r = row_of i.op in
-    let p = and_parts (nat_lt r.opcode 128 && nat_lt r.funct3 8 && nat_lt r.funct6 64) (nat_lt r.extra 32)
+    let p = and_parts (nat_lt r.opcode 128 && nat_lt r.funct3 8 && nat_lt r.funct6 64) (nat_lt r.extra 2)
     (row-right i.op) in
     let q = and_parts (nat_lt r.opcode 128 && nat_lt r.funct3 8) (nat_lt r.funct6 64) p.0 in
     let w = and_parts (nat_lt r.opcode 128) (nat_lt r.funct3 8) q.0 in

@@ -85,7 +85,7 @@ both x y h = and_parts x y h
 pub parts-read : (l : Layout) (op : Op) (r : Row) (f : Fields) → InRange f → f.opcode ≡ r.opcode → fixes l r f ≡ true
     → parts_as l r (read_as l op f) ≡ f
 parts-read R op r f h o x =
-    let p = and_parts (f.funct3 == r.funct3 && f.funct6 == r.funct6) (f.bit25 == 0) x in
+    let p = and_parts (f.funct3 == r.funct3 && f.funct6 == r.funct6) (f.bit25 == r.extra) x in
     let q = and_parts (f.funct3 == r.funct3) (f.funct6 == r.funct6) p.0 in
     same_fields _ f (sym o) refl (sym (eqb-true _ _ q.0)) refl refl (sym (eqb-true _ _ p.1)) (sym (eqb-true _ _ q.1))
 parts-read I op r f h o x =

@@ -1,3 +1,4 @@
+pub mod High
 pub mod Own
 pub mod Fields
 pub mod Signs

@@ -23,7 +23,7 @@ row-op Lui = refl
 row-op _ = refl
 
 abbrev pub is_right : Op → Bool
-is_right op = let r = row_of op in nat_lt r.opcode 128 && nat_lt r.funct3 8 && nat_lt r.funct6 64 && nat_lt r.extra 32
+is_right op = let r = row_of op in nat_lt r.opcode 128 && nat_lt r.funct3 8 && nat_lt r.funct6 64 && nat_lt r.extra 2
 
 pub row-right : (op : Op) → is_right op ≡ true
 row-right Lui = refl

@@ -1,6 +1,6 @@
 -- Worked rows of the instruction table, computed: words as assemblers write them, and the step of each.
 use Rattle.std.proofs.Common.{◌≡◌, ℕ, [], ◌∷◌, pos, negsuc, Some, None, refl}
-use Rattle.tm_table.specs.declared.instr.Op.TheVariants.{Jal, Beq, Ld, Sd, Addi, Slliw, Fence}
+use Rattle.tm_table.specs.declared.instr.Op.TheVariants.{Jal, Beq, Ld, Sd, Addi, Slliw, Fence, Mul, Div}
 use Rattle.tm_table.specs.declared.instr.Instr.{Instr}
 use Rattle.tm_table.specs.declared.state.Access.TheVariants.{Quiet, Read, Write}
 use Rattle.tm_table.specs.State.{Hart}
@@ -47,6 +47,21 @@ fence_word = (refl, refl)
 slliw_word : Has (record { op = Slliw; rd = 0; rs1 = 0; rs2 = 0; imm = pos 0 }) 4123
 unfolding word_of decoded
 slliw_word = (refl, refl)
+
+-- mul x5, x6, x7
+mul_word : Has (record { op = Mul; rd = 5; rs1 = 6; rs2 = 7; imm = pos 0 }) 0x027302B3
+unfolding word_of decoded
+mul_word = (refl, refl)
+
+-- div x5, x6, x7
+div_word : Has (record { op = Div; rd = 5; rs1 = 6; rs2 = 7; imm = pos 0 }) 0x027342B3
+unfolding word_of decoded
+div_word = (refl, refl)
+
+-- funct7 3, which no row has
+no_product : decoded (split 0x067302B3) ≡ None
+unfolding decoded
+no_product = refl
 
 -- a word of zeros: no row
 zeros : decoded (split 0) ≡ None
@@ -270,3 +285,97 @@ bltu = refl
 bge_same : row_word (hart 4096 6 6 7) 6476899 0 ≡ Some (hart 4104 6 6 7, Quiet)
 unfolding decoded put effect after row row_word
 bge_same = refl
+
+-- div x5, x6, x7 of 5 by 0
+div_by_0 : row_word (hart 4096 5 5 0) 41108147 0 ≡ Some (hart 4100 18446744073709551615 5 0, Quiet)
+unfolding decoded put effect after row row_word
+div_by_0 = refl
+
+-- rem x5, x6, x7 of 5 by 0
+rem_by_0 : row_word (hart 4096 5 5 0) 41116339 0 ≡ Some (hart 4100 5 5 0, Quiet)
+unfolding decoded put effect after row row_word
+rem_by_0 = refl
+
+-- mulhu x5, x6, x7
+mulhu : row_word (hart 4096 5 18446744073709551615 2) 41104051 0 ≡ Some (hart 4100 1 18446744073709551615 2, Quiet)
+unfolding decoded put effect after row row_word
+mulhu = refl
+
+-- mulhsu x5, x6, x7 of -1 by 2
+mulhsu : row_word (hart 4096 5 18446744073709551615 2) 41099955 0
+    ≡ Some (hart 4100 18446744073709551615 18446744073709551615 2, Quiet)
+unfolding decoded put effect after row row_word
+mulhsu = refl
+
+-- divuw x5, x6, x7
+divuw : row_word (hart 4096 5 2147483648 1) 41112251 0 ≡ Some (hart 4100 18446744071562067968 2147483648 1, Quiet)
+unfolding decoded put effect after row row_word
+divuw = refl
+
+-- remw x5, x6, x7 of the least number by -1
+remw : row_word (hart 4096 5 2147483648 4294967295) 41116347 0 ≡ Some (hart 4100 0 2147483648 4294967295, Quiet)
+unfolding decoded put effect after row row_word
+remw = refl
+
+-- div x5, x6, x7 of the least number by -1
+div_least : row_word (hart 4096 5 9223372036854775808 18446744073709551615) 41108147 0
+    ≡ Some (hart 4100 9223372036854775808 9223372036854775808 18446744073709551615, Quiet)
+unfolding decoded put effect after row row_word
+div_least = refl
+
+-- rem x5, x6, x7 of the least number by -1
+rem_least : row_word (hart 4096 5 9223372036854775808 18446744073709551615) 41116339 0
+    ≡ Some (hart 4100 0 9223372036854775808 18446744073709551615, Quiet)
+unfolding decoded put effect after row row_word
+rem_least = refl
+
+-- div x5, x6, x7 of -7 by 2, towards 0
+div_signs : row_word (hart 4096 5 18446744073709551609 2) 41108147 0
+    ≡ Some (hart 4100 18446744073709551613 18446744073709551609 2, Quiet)
+unfolding decoded put effect after row row_word
+div_signs = refl
+
+-- rem x5, x6, x7 of -7 by 2, with the sign of -7
+rem_signs : row_word (hart 4096 5 18446744073709551609 2) 41116339 0
+    ≡ Some (hart 4100 18446744073709551615 18446744073709551609 2, Quiet)
+unfolding decoded put effect after row row_word
+rem_signs = refl
+
+-- mulh x5, x6, x7 of -1 by -1
+mulh : row_word (hart 4096 5 18446744073709551615 18446744073709551615) 41095859 0
+    ≡ Some (hart 4100 0 18446744073709551615 18446744073709551615, Quiet)
+unfolding decoded put effect after row row_word
+mulh = refl
+
+-- mul x5, x6, x7, modulo 2 ^ 64
+mul : row_word (hart 4096 5 18446744073709551615 3) 41091763 0
+    ≡ Some (hart 4100 18446744073709551613 18446744073709551615 3, Quiet)
+unfolding decoded put effect after row row_word
+mul = refl
+
+-- divw x5, x6, x7 of the least number by -1
+divw_least : row_word (hart 4096 5 2147483648 4294967295) 41108155 0
+    ≡ Some (hart 4100 18446744071562067968 2147483648 4294967295, Quiet)
+unfolding decoded put effect after row row_word
+divw_least = refl
+
+-- divu x5, x6, x7 of 5 by 0
+divu_by_0 : row_word (hart 4096 5 5 0) 41112243 0 ≡ Some (hart 4100 18446744073709551615 5 0, Quiet)
+unfolding decoded put effect after row row_word
+divu_by_0 = refl
+
+-- remu x5, x6, x7 by 0
+remu_by_0 : row_word (hart 4096 5 18446744073709551611 0) 41120435 0
+    ≡ Some (hart 4100 18446744073709551611 18446744073709551611 0, Quiet)
+unfolding decoded put effect after row row_word
+remu_by_0 = refl
+
+-- remuw x5, x6, x7 by 0 on 32 bits
+remuw_by_0 : row_word (hart 4096 5 4294967301 4294967296) 41120443 0 ≡ Some (hart 4100 5 4294967301 4294967296, Quiet)
+unfolding decoded put effect after row row_word
+remuw_by_0 = refl
+
+-- mulw x5, x6, x7
+mulw : row_word (hart 4096 5 65536 32768) 41091771 0 ≡ Some (hart 4100 18446744071562067968 65536 32768, Quiet)
+unfolding decoded put effect after row row_word
+mulw = refl

@@ -1,13 +1,15 @@
 -- One instruction's step. All values are modulo 2 ^ 64.
 use Rattle.std.specs.Prelude.{◌≡◌, ◌⊎◌, ℕ, zero, suc, ◌+◌, ◌-◌, ◌*◌, ◌/◌, ◌%◌, ◌^◌, ◌<◌, ℤ, pos, negsuc, int_lt, Bool}
 use Rattle.std.specs.Prelude.{true, false, not, nat_lt, ◌==◌, List, slice_index, slice_set, bit_and, bit_or, bit_xor}
-use Rattle.std.specs.Prelude.{if◌then◌else◌, Option, Some, None, option_map}
+use Rattle.std.specs.Prelude.{if◌then◌else◌, Option, Some, None, option_map, ◌*ℤ◌, int_div, int_rem}
 use Rattle.tm_table.specs.declared.instr.Op.{Op}
 use Rattle.tm_table.specs.declared.instr.Op.TheVariants.{Lui, Auipc, Jal, Jalr, Beq, Bne, Blt, Bge, Bltu, Bgeu, Lb}
 use Rattle.tm_table.specs.declared.instr.Op.TheVariants.{Lh, Lw, Ld, Lbu, Lhu, Lwu, Sb, Sh, Sw, Sd, Addi, Slti, Sltiu}
 use Rattle.tm_table.specs.declared.instr.Op.TheVariants.{Xori, Ori, Andi, Slli, Srli, Srai, Add, Sll, Slt, Sltu, Xor}
 use Rattle.tm_table.specs.declared.instr.Op.TheVariants.{Srl, Or, And, Sub, Sra, Addiw, Slliw, Srliw, Sraiw, Addw}
 use Rattle.tm_table.specs.declared.instr.Op.TheVariants.{Sllw, Srlw, Subw, Sraw, Fence, Ecall, Ebreak}
+use Rattle.tm_table.specs.declared.instr.Op.TheVariants.{Mul, Mulh, Mulhsu, Mulhu, Div, Divu, Rem, Remu}
+use Rattle.tm_table.specs.declared.instr.Op.TheVariants.{Mulw, Divw, Divuw, Remw, Remuw}
 use Rattle.tm_table.specs.declared.instr.Instr.{Instr}
 use Rattle.tm_table.specs.declared.state.Access.{Access}
 use Rattle.tm_table.specs.declared.state.Access.TheVariants.{Quiet, Read, Write}
@@ -43,6 +45,18 @@ abbrev pub shifted_down : ℕ → ℤ → ℕ
 shifted_down k (pos n) = low 64 (pos (n / 2 ^ k))
 shifted_down k (negsuc n) = low 64 (negsuc (n / 2 ^ k))
 
+-- z divided by d and rounded towards 0, and -1 where d is 0 (M 2.0)
+abbrev pub quotient : ℤ → ℤ → ℤ
+quotient z (pos zero) = negsuc 0
+quotient z (pos (suc n)) = int_div z (pos (suc n))
+quotient z (negsuc n) = int_div z (negsuc n)
+
+-- what is left of z then, with the sign of z, and z where d is 0 (M 2.0)
+abbrev pub remainder : ℤ → ℤ → ℤ
+remainder z (pos zero) = z
+remainder z (pos (suc n)) = int_rem z (pos (suc n))
+remainder z (negsuc n) = int_rem z (negsuc n)
+
 -- 1 where it holds, else 0 (RV64I 2.1)
 abbrev pub flag : Bool → ℕ
 flag b = if b then 1 else 0
@@ -73,10 +87,11 @@ effect_by (Branch taken) = Branches taken
 effect_by (Jump link target) = Jumps link target
 
 -- The effect of an op at pc, where a is x[rs1], b is x[rs2] and i the immediate, all modulo 2 ^ 64
--- (RV64I 2.1). LUI and AUIPC take the field shifted left by 12, with the sign of bit 31. A shift of 64 bits
+-- (RV64I 2.1, M 2.0). LUI and AUIPC take the field shifted left by 12, with the sign of bit 31. A shift of 64 bits
 -- is by the low 6 bits of its amount, one of 32 bits by the low 5. The ops on 32 bits give their result with
 -- the sign of bit 31. JALR clears the lowest bit of its target. FENCE, ECALL and EBREAK only go on, as a
--- branch that isn't taken (the last two: this project).
+-- branch that isn't taken (the last two: this project). A high half of a product is the product, rounded down,
+-- divided by 2^64.
 unfoldable pub effect : Op → ℕ → ℕ → ℕ → ℕ → Effect
 effect Lui pc a b i = Gives (sign_extended 31 (i * 2 ^ 12))
 effect Auipc pc a b i = Gives (word64 (pc + sign_extended 31 (i * 2 ^ 12)))
@@ -130,6 +145,19 @@ effect Sraw pc a b i = Gives (shifted_down (b % 32) (signed32 a))
 effect Fence pc a b i = Branches false
 effect Ecall pc a b i = Branches false
 effect Ebreak pc a b i = Branches false
+effect Mul pc a b i = Gives (word64 (a * b))
+effect Mulh pc a b i = Gives (shifted_down 64 (signed64 a *ℤ signed64 b))
+effect Mulhsu pc a b i = Gives (shifted_down 64 (signed64 a *ℤ pos b))
+effect Mulhu pc a b i = Gives (a * b / 2 ^ 64)
+effect Div pc a b i = Gives (low 64 (quotient (signed64 a) (signed64 b)))
+effect Divu pc a b i = Gives (low 64 (quotient (pos a) (pos b)))
+effect Rem pc a b i = Gives (low 64 (remainder (signed64 a) (signed64 b)))
+effect Remu pc a b i = Gives (low 64 (remainder (pos a) (pos b)))
+effect Mulw pc a b i = Gives (sign_extended 31 (a * b))
+effect Divw pc a b i = Gives (sign_extended 31 (low 64 (quotient (signed32 a) (signed32 b))))
+effect Divuw pc a b i = Gives (sign_extended 31 (low 64 (quotient (pos (a % 2 ^ 32)) (pos (b % 2 ^ 32)))))
+effect Remw pc a b i = Gives (sign_extended 31 (low 64 (remainder (signed32 a) (signed32 b))))
+effect Remuw pc a b i = Gives (sign_extended 31 (low 64 (remainder (pos (a % 2 ^ 32)) (pos (b % 2 ^ 32)))))
 
 -- what a load of so many bytes puts into rd, of the bytes read (RV64I 2.1)
 abbrev pub loaded : Bool → ℕ → ℕ → ℕ

@@ -6,6 +6,8 @@ use Rattle.tm_table.specs.declared.instr.Op.TheVariants.{Lh, Lw, Ld, Lbu, Lhu, L
 use Rattle.tm_table.specs.declared.instr.Op.TheVariants.{Xori, Ori, Andi, Slli, Srli, Srai, Add, Sll, Slt, Sltu, Xor}
 use Rattle.tm_table.specs.declared.instr.Op.TheVariants.{Srl, Or, And, Sub, Sra, Addiw, Slliw, Srliw, Sraiw, Addw}
 use Rattle.tm_table.specs.declared.instr.Op.TheVariants.{Sllw, Srlw, Subw, Sraw, Fence, Ecall, Ebreak}
+use Rattle.tm_table.specs.declared.instr.Op.TheVariants.{Mul, Mulh, Mulhsu, Mulhu, Div, Divu, Rem, Remu}
+use Rattle.tm_table.specs.declared.instr.Op.TheVariants.{Mulw, Divw, Divuw, Remw, Remuw}
 use Rattle.tm_table.specs.declared.table.Layout.{Layout}
 use Rattle.tm_table.specs.declared.table.Layout.TheVariants.{R, I, S, B, U, J, Shift6, Shift5, Order, Whole}
 use Rattle.tm_table.specs.declared.table.Row.{Row}
@@ -21,8 +23,9 @@ row op layout opcode funct3 funct6 extra = record {
   extra = extra;
 }
 
--- The row of an op: layout, opcode, funct3, the upper six bits of funct7, and what stands in rs2 of a word
--- with no operands (RV64I 2.1, instruction listings).
+-- The row of an op: layout, opcode, funct3, the upper six bits of funct7, and the lowest bit of funct7 where there are
+-- two sources and a target, or what stands in rs2 of a word with no operands (RV64I 2.1 and M 2.0, instruction
+-- listings).
 abbrev pub row_of : Op → Row
 row_of Lui = row Lui U 55 0 0 0
 row_of Auipc = row Auipc U 23 0 0 0
@@ -76,14 +79,27 @@ row_of Sraw = row Sraw R 59 5 16 0
 row_of Fence = row Fence Order 15 0 0 0
 row_of Ecall = row Ecall Whole 115 0 0 0
 row_of Ebreak = row Ebreak Whole 115 0 0 1
+row_of Mul = row Mul R 51 0 0 1
+row_of Mulh = row Mulh R 51 1 0 1
+row_of Mulhsu = row Mulhsu R 51 2 0 1
+row_of Mulhu = row Mulhu R 51 3 0 1
+row_of Div = row Div R 51 4 0 1
+row_of Divu = row Divu R 51 5 0 1
+row_of Rem = row Rem R 51 6 0 1
+row_of Remu = row Remu R 51 7 0 1
+row_of Mulw = row Mulw R 59 0 0 1
+row_of Divw = row Divw R 59 4 0 1
+row_of Divuw = row Divuw R 59 5 0 1
+row_of Remw = row Remw R 59 6 0 1
+row_of Remuw = row Remuw R 59 7 0 1
 
 -- the ops, in the table's order (this project)
 abbrev pub ops : List Op
 ops = Lui ∷ Auipc ∷ Jal ∷ Jalr ∷ Beq ∷ Bne ∷ Blt ∷ Bge ∷ Bltu ∷ Bgeu ∷ Lb ∷ Lh ∷ Lw ∷ Ld ∷ Lbu ∷ Lhu ∷ Lwu ∷ Sb ∷ Sh
     ∷ Sw ∷ Sd ∷ Addi ∷ Slti ∷ Sltiu ∷ Xori ∷ Ori ∷ Andi ∷ Slli ∷ Srli ∷ Srai ∷ Add ∷ Sll ∷ Slt ∷ Sltu ∷ Xor ∷ Srl
     ∷ Or ∷ And ∷ Sub ∷ Sra ∷ Addiw ∷ Slliw ∷ Srliw ∷ Sraiw ∷ Addw ∷ Sllw ∷ Srlw ∷ Subw ∷ Sraw ∷ Fence ∷ Ecall
-    ∷ Ebreak ∷ []
+    ∷ Ebreak ∷ Mul ∷ Mulh ∷ Mulhsu ∷ Mulhu ∷ Div ∷ Divu ∷ Rem ∷ Remu ∷ Mulw ∷ Divw ∷ Divuw ∷ Remw ∷ Remuw ∷ []
 
--- the rows of the instruction table (RV64I 2.1)
+-- the rows of the instruction table (RV64I 2.1, M 2.0)
 abbrev pub table : List Row
 table = map row_of ops

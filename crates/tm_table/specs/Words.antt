@@ -75,7 +75,7 @@ imm_j f = signed 20 (f.rs2 / 2 * 2 + f.bit25 * 32 + f.funct6 % 32 * 64 + f.rs2 %
 
 -- whether a word has what a row of this layout fixes, its opcode left out (RV64I 2.1)
 abbrev pub fixes : Layout → Row → Fields → Bool
-fixes R r f = f.funct3 == r.funct3 && f.funct6 == r.funct6 && f.bit25 == 0
+fixes R r f = f.funct3 == r.funct3 && f.funct6 == r.funct6 && f.bit25 == r.extra
 fixes I r f = f.funct3 == r.funct3
 fixes S r f = f.funct3 == r.funct3
 fixes B r f = f.funct3 == r.funct3
@@ -115,7 +115,7 @@ parts_as R r i = record {
   funct3 = r.funct3;
   rs1 = i.rs1;
   rs2 = i.rs2;
-  bit25 = 0;
+  bit25 = r.extra;
   funct6 = r.funct6;
 }
 parts_as I r i = let n = low 12 i.imm in record {

@@ -92,7 +92,8 @@ fn is_of(f: Fields, row: &Row) -> bool
     let funct6 = f.funct6 == row.funct6;
     f.opcode == row.opcode
         && match row.layout {
-            Layout::R | Layout::Shift5 => funct3 && funct6 && f.bit25 == 0,
+            Layout::R => funct3 && funct6 && f.bit25 == row.extra,
+            Layout::Shift5 => funct3 && funct6 && f.bit25 == 0,
             Layout::I | Layout::S | Layout::B => funct3,
             Layout::U | Layout::J => true,
             Layout::Shift6 => funct3 && funct6,
@@ -218,6 +219,7 @@ fn parts_as(row: Row, i: Instr) -> Fields
         },
         Layout::Shift5 => Fields {
             rs2: (n % 32) as u8,
+            bit25: 0,
             ..plain
         },
         Layout::Order => Fields {
@@ -228,6 +230,7 @@ fn parts_as(row: Row, i: Instr) -> Fields
         },
         Layout::Whole => Fields {
             rs2: row.extra,
+            bit25: 0,
             ..bare
         },
     }
@@ -243,7 +246,7 @@ fn plain_parts(row: Row, i: Instr) -> Fields
         funct3: row.funct3,
         rs1: i.rs1,
         rs2: i.rs2,
-        bit25: 0,
+        bit25: row.extra,
         funct6: row.funct6,
     }
 }

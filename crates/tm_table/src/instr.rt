@@ -1,4 +1,4 @@
-/// The operations of RV64I, version 2.1.
+/// The operations of RV64I and of the extension M, versions 2.1 and 2.0.
 #[derive(Clone, Copy, Debug, PartialEq, Eq)]
 pub enum Op {
     Lui,
@@ -53,6 +53,19 @@ pub enum Op {
     Fence,
     Ecall,
     Ebreak,
+    Mul,
+    Mulh,
+    Mulhsu,
+    Mulhu,
+    Div,
+    Divu,
+    Rem,
+    Remu,
+    Mulw,
+    Divw,
+    Divuw,
+    Remw,
+    Remuw,
 }
 
 /// One instruction. Registers are 0 to 31, and fields that the op doesn't have are 0. The immediate is

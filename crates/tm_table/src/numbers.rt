@@ -1,4 +1,6 @@
-ghost use Rattle.std.specs.Prelude.{◌≡◌, ◌<◌, ◌%◌, ◌^◌, ◌*◌};
+ghost use Rattle.std.specs.Prelude.{◌≡◌, ◌<◌, ◌/◌, ◌%◌, ◌^◌, ◌*◌, ◌*ℤ◌, pos};
+ghost use Rattle.tm_table.specs.Words.{low as low_bits};
+ghost use Rattle.tm_table.specs.Row.{quotient as quotient_of, remainder as remainder_of};
 ghost use Rattle.tm_table.specs.Row.{IsWidth, sign_extended, shifted_down, signed64, signed32, signed_lt};
 ghost use Rattle.tm_table.specs.Row.{flag as flag_of, loaded as loaded_value};
 
@@ -83,4 +85,72 @@ pub fn low_bytes(value: u64, width: u8) -> u64
         4 => value & 0xffff_ffff,
         _ => value,
     }
+}
+
+/// The high 64 bits of a product, both numbers with a sign.
+pub fn high_signed(a: u64, b: u64) -> u64
+    ensures { result ≡ shifted_down 64 (signed64 a *ℤ signed64 b) }
+{
+    let product = i128::from(a.cast_signed()) * i128::from(b.cast_signed());
+    ((product >> 64) as i64).cast_unsigned()
+}
+
+/// The high 64 bits of a product, the first number with a sign and the second without.
+pub fn high_mixed(a: u64, b: u64) -> u64
+    ensures { result ≡ shifted_down 64 (signed64 a *ℤ pos b) }
+{
+    let product = i128::from(a.cast_signed()) * i128::from(b);
+    ((product >> 64) as i64).cast_unsigned()
+}
+
+/// The high 64 bits of a product, both numbers without a sign.
+pub fn high_unsigned(a: u64, b: u64) -> u64
+    ensures { result ≡ a * b / 2 ^ 64 }
+{
+    let product = u128::from(a) * u128::from(b);
+    (product >> 64) as u64
+}
+
+/// The quotient towards zero, both numbers with a sign; all bits set where the second is 0.
+pub fn quotient_signed(a: u64, b: u64) -> u64
+    ensures { result ≡ low_bits 64 (quotient_of (signed64 a) (signed64 b)) }
+{
+    if b == 0 {
+        return u64::MAX;
+    }
+    a.cast_signed()
+        .wrapping_div(b.cast_signed())
+        .cast_unsigned()
+}
+
+/// The quotient, both numbers without a sign; all bits set where the second is 0.
+pub fn quotient_unsigned(a: u64, b: u64) -> u64
+    ensures { result ≡ low_bits 64 (quotient_of (pos a) (pos b)) }
+{
+    if b == 0 {
+        return u64::MAX;
+    }
+    a / b
+}
+
+/// What is left by that quotient, with the sign of the first number, which it is where the second is 0.
+pub fn remainder_signed(a: u64, b: u64) -> u64
+    ensures { result ≡ low_bits 64 (remainder_of (signed64 a) (signed64 b)) }
+{
+    if b == 0 {
+        return a;
+    }
+    a.cast_signed()
+        .wrapping_rem(b.cast_signed())
+        .cast_unsigned()
+}
+
+/// What is left by the quotient without signs, and the first number where the second is 0.
+pub fn remainder_unsigned(a: u64, b: u64) -> u64
+    ensures { result ≡ low_bits 64 (remainder_of (pos a) (pos b)) }
+{
+    if b == 0 {
+        return a;
+    }
+    a % b
 }

@@ -5,7 +5,10 @@ ghost use Rattle.tm_table.specs.Row.{put as put_in, Loads, Stores, Jumps, word64
 ghost use Rattle.tm_table.specs.Row.{row, read_in, loads as loads_of, read_at, is_load, IsGiven, IsWidth, HasWidth};
 
 use crate::instr::{Instr, Op};
-use crate::numbers::{flag, less, loaded, low_bytes, shift_down, shift_word_down, word};
+use crate::numbers::{
+    flag, high_mixed, high_signed, high_unsigned, less, loaded, low_bytes, quotient_signed,
+    quotient_unsigned, remainder_signed, remainder_unsigned, shift_down, shift_word_down, word,
+};
 use crate::state::{Access, Cpu};
 
 /// What an instruction does with its operands.
@@ -134,6 +137,19 @@ fn action_of(op: Op, pc: u64, a: u64, b: u64, n: u64) -> Action
         Op::Subw => Action::Give(word(a.wrapping_sub(b))),
         Op::Sraw => Action::Give(shift_word_down(a, b % 32)),
         Op::Fence | Op::Ecall | Op::Ebreak => Action::Branch(false),
+        Op::Mul => Action::Give(a.wrapping_mul(b)),
+        Op::Mulh => Action::Give(high_signed(a, b)),
+        Op::Mulhsu => Action::Give(high_mixed(a, b)),
+        Op::Mulhu => Action::Give(high_unsigned(a, b)),
+        Op::Div => Action::Give(quotient_signed(a, b)),
+        Op::Divu => Action::Give(quotient_unsigned(a, b)),
+        Op::Rem => Action::Give(remainder_signed(a, b)),
+        Op::Remu => Action::Give(remainder_unsigned(a, b)),
+        Op::Mulw => Action::Give(word(a.wrapping_mul(b))),
+        Op::Divw => Action::Give(word(quotient_signed(word(a), word(b)))),
+        Op::Divuw => Action::Give(word(quotient_unsigned(a & 0xffff_ffff, b & 0xffff_ffff))),
+        Op::Remw => Action::Give(word(remainder_signed(word(a), word(b)))),
+        Op::Remuw => Action::Give(word(remainder_unsigned(a & 0xffff_ffff, b & 0xffff_ffff))),
     }
 }
 

@@ -25,8 +25,8 @@ pub enum Layout {
     Whole,
 }
 
-/// One row of the instruction table. `funct6` is the upper six bits of funct7, whose lowest bit is 0 in
-/// each row; `extra` is what stands in the place of rs2 in a word with no operands.
+/// One row of the instruction table. `funct6` is the upper six bits of funct7; `extra` is the lowest bit of funct7
+/// where there are two sources and a target, and what stands in the place of rs2 in a word with no operands.
 #[derive(Clone, Copy)]
 pub struct Row {
     pub op: Op,
@@ -63,8 +63,8 @@ macro_rules! row {
     };
 }
 
-/// The rows of the instruction table, in the order of the ops (RV64I 2.1, instruction listings).
-pub static ROWS: [Row; 52] = [
+/// The rows of the instruction table, in the order of the ops (RV64I 2.1 and M 2.0, instruction listings).
+pub static ROWS: [Row; 65] = [
     row!(Lui, U, 0x37, 0, 0, 0),
     row!(Auipc, U, 0x17, 0, 0, 0),
     row!(Jal, J, 0x6f, 0, 0, 0),
@@ -117,4 +117,17 @@ pub static ROWS: [Row; 52] = [
     row!(Fence, Order, 0x0f, 0, 0, 0),
     row!(Ecall, Whole, 0x73, 0, 0, 0),
     row!(Ebreak, Whole, 0x73, 0, 0, 1),
+    row!(Mul, R, 0x33, 0, 0, 1),
+    row!(Mulh, R, 0x33, 1, 0, 1),
+    row!(Mulhsu, R, 0x33, 2, 0, 1),
+    row!(Mulhu, R, 0x33, 3, 0, 1),
+    row!(Div, R, 0x33, 4, 0, 1),
+    row!(Divu, R, 0x33, 5, 0, 1),
+    row!(Rem, R, 0x33, 6, 0, 1),
+    row!(Remu, R, 0x33, 7, 0, 1),
+    row!(Mulw, R, 0x3b, 0, 0, 1),
+    row!(Divw, R, 0x3b, 4, 0, 1),
+    row!(Divuw, R, 0x3b, 5, 0, 1),
+    row!(Remw, R, 0x3b, 6, 0, 1),
+    row!(Remuw, R, 0x3b, 7, 0, 1),
 ];

@@ -1,5 +1,6 @@
 // A line and its seats.
-ghost use Rattle.std.specs.Prelude.{◌≡◌, ◌≤◌, ◌^◌, ◌<◌, ◌++◌, true, false, [], Some, length, drop, max, IfOk};
+ghost use Rattle.std.specs.Prelude.{◌≡◌, ◌≤◌, ◌^◌, ◌<◌, ◌++◌, true, false, [], Some, length, drop, max, vec_capacity};
+ghost use Rattle.std.specs.Prelude.{IfOk};
 ghost use Rattle.tm_turn.specs.History.{made_by, BeginsWith, AddsAtMostOne, HasNoneFrom};
 ghost use Rattle.tm_turn.specs.Seats.{AreNew, AreAllOutside, BearsOutAll};
 
@@ -78,7 +79,8 @@ impl<T: Kept> LineSeat<T> {
 }
 
 impl<T: Kept> Line<T> {
-    /// A line before a value whose history is empty, and its seats in the order of their numbers, from 0 on.
+    /// A line before a value whose history is empty, and its seats in the order of their numbers, from 0 on. The list of
+    /// seats has room for as many as were asked for, and no more.
     pub fn start(
         alloc: Global,
         value: T,
@@ -88,6 +90,7 @@ impl<T: Kept> Line<T> {
         requires empty { T.history value ≡ [] }
         ensures line { IfOk result (λ r. (r.0.fixed ≡ Some (T.fixed value)) × (r.0.seats ≡ seats)) }
         ensures seats { IfOk result (λ r. (length r.1.items ≡ seats) × AreNew r.0 0 r.1.items) }
+        ensures room { IfOk result (λ r. vec_capacity r.1 ≡ seats) }
     {
         let Ok(mut all) = Vec::with_capacity(alloc, seats as usize) else {
             return Err(NoMemory);
