@@ -1,11 +1,8 @@
 -- A script without lines changes nothing: its runs are the plain ones, and each step is the row's.
-use Rattle.std.proofs.Common.{◌≡◌, ℕ, zero, suc, List, [], Option, None, Some, refl, ap, subst, ◌∙◌}
-use Rattle.std.specs.Prelude.{slice_index, bit_xor}
-use Rattle.std.specs.Int.Bits.{xor_zero_r}
-use Rattle.std.proofs.lemmas.List.{set-get_or}
+use Rattle.std.proofs.Common.{◌≡◌, ℕ, List, [], Option, None, Some, refl, ap, subst, ◌∙◌}
 use Rattle.tm_table.specs.declared.instr.Instr.{Instr}
 use Rattle.tm_table.specs.State.{Hart}
-use Rattle.tm_table.specs.Row.{put, row_word}
+use Rattle.tm_table.specs.Row.{row_word}
 use Rattle.tm_plan_map.specs.Slots.{instr_of}
 use Rattle.tm_plan_cases.specs.declared.program.Program.{Program}
 use Rattle.tm_plan_cases.specs.declared.journal.Event.{Event}
@@ -13,7 +10,7 @@ use Rattle.tm_plan_script.specs.declared.faults.FaultLine.{FaultLine}
 use Rattle.tm_world.specs.Run.{Step, Run, read_value}
 use Rattle.tm_world.specs.Kinds.{Plain, stream_at}
 use Rattle.tm_memory.specs.Faulted.{nothing}
-use Rattle.tm_memory.proofs.Nothing.{nothing-plain}
+use Rattle.tm_memory.proofs.Nothing.{nothing-plain, put-same}
 use Rattle.tm_world_script.specs.Script.{FaultedRun, change_of}
 use Rattle.tm_world_script.specs.Laws.{NoLinesArePlain}
 use Rattle.tm_guest.specs.Replay.{state_after, outcome, left_in, stepped}
@@ -25,11 +22,6 @@ no-lines p = let n = nothing-plain p in record { plain = n.plain; faulted = n.fa
 pub plain-where : (p : Program) (lines : List FaultLine) (r : Run) → FaultedRun p lines r → lines ≡ [] → Plain p r
 plain-where p lines r faulted none =
     (no-lines p).plain r (subst (λ (ls : List FaultLine). FaultedRun p ls r) none faulted)
-
-put-same : (x : List ℕ) (rd : ℕ) → put x rd (bit_xor (slice_index x rd) 0) ≡ x
-unfolding put
-put-same x zero = refl
-put-same x (suc r) = ap (put x (suc r)) (xor_zero_r (slice_index x (suc r))) ∙ set-get_or x (suc r) 0
 
 left-clean : (c : Option ℕ) (before clean : Hart) (i : Option Instr) → left_in c nothing before i clean ≡ clean
 left-clean None before clean i = refl
