@@ -25,7 +25,7 @@ use Rattle.tm_blocks_base.specs.Laws.{Uses, RegistersFit, accesses}
 use Rattle.tm_blocks_base.proofs.Dwords.{fit_put}
 use Rattle.tm_blocks_base.specs.Instrs.{fence}
 use Rattle.tm_barrier.specs.Words.{prepare, signal}
-use Rattle.tm_barrier.specs.Laws.{Meeting, Meets, KeepsInStep, Barred}
+use Rattle.tm_barrier.specs.Laws.{Meeting, MeetUses, KeepsInStep, Barred}
 use Rattle.tm_runs.specs.Phases.{signals_in, is_fence_in, idles_in}
 use Rattle.tm_runs.proofs.Steps.{step_fence}
 use Rattle.tm_runs.proofs.Story.{each-map}
@@ -144,7 +144,7 @@ module _ (w : World) (lo hi h n c m : ℕ) (meeting : Meeting w h n c) where
     pub log : t.log ≡ last ∷ before ++ s.log
     pub few : length before ≡ 6
     pub signals : signals_in h last ≡ true
-    pub each : Each (Does lo hi (Meets h n c)) (last ∷ before)
+    pub each : Each (Does lo hi (MeetUses h n c)) (last ∷ before)
     pub story : Story (KeepsInStep h n m) (last ∷ before)
     pub accesses : accesses t.log ≡ Write (flag_at h) 8 m ∷ Write c 8 m ∷ Read c 8 (s.mem c) ∷ accesses s.log
 

@@ -15,7 +15,7 @@ use Rattle.tm_runs.proofs.Compose.{keeps_after, keeps_then, keeps_map, keeps_now
 use Rattle.tm_runs.proofs.Tables.{get_put_zero, at_front, at_next}
 use Rattle.tm_blocks_base.specs.Instrs.{fence, go_to}
 use Rattle.tm_barrier.specs.Words.{meet, barrier}
-use Rattle.tm_barrier.specs.Laws.{Meeting, Meets, Barred, HasMet, after_fence, after_return}
+use Rattle.tm_barrier.specs.Laws.{Meeting, MeetUses, Barred, HasMet, after_fence, after_return}
 use Rattle.tm_barrier.specs.Course.{work_at, Comes, PassesBarrier}
 use Rattle.tm_runs.specs.Phases.{Keeping}
 use Rattle.tm_runs.proofs.Story.{each-map, story-map}
@@ -44,7 +44,8 @@ module _ (w : World) (p : Program) (h c q link : ℕ) (arrive : ℕ → ℕ → 
     (none : (from to : ℕ) → s.pc ≤ from → from < s.pc + 4 * length (meet h (harts p)) → s.pc < to
     → to ≤ s.pc + 4 * length (meet h (harts p)) → arrive from to ≡ [])
     (leaves : arrive (exit_of p h) link ≡ []) (comes : (from : ℕ) → arrive from (exit_of p h) ≡ Exit ∷ [])
-    (inside : (past : List Entry) (e : Entry) → Does s.pc (s.pc + 4 * length (meet h (harts p))) (Meets h (harts p) c) e
+    (inside : (past : List Entry) (e : Entry)
+    → Does s.pc (s.pc + 4 * length (meet h (harts p))) (MeetUses h (harts p) c) e
     → Keeping p h past e → F past e)
     (quiet : (past : List Entry) (e : Entry) → e.access ≡ Quiet → (e.next ≡ exit_of p h) ⊎ (e.next ≡ link)
     → Keeping p h past e → F past e)
@@ -65,13 +66,13 @@ module _ (w : World) (p : Program) (h c q link : ℕ) (arrive : ℕ → ℕ → 
     abbrev Told : State → Type 0
     Told t = Good arrive F size way most t.log
 
-    trail-same : (es log : List Entry) → Each (Does lo hi (Meets h n c)) es → trail arrive (es ++ log)
+    trail-same : (es log : List Entry) → Each (Does lo hi (MeetUses h n c)) es → trail arrive (es ++ log)
         ≡ trail arrive log
     trail-same [] log d = refl
     trail-same (e ∷ es) log d = ap₂ (λ (x y : List Mark). x ++ y) (trail-same es log d.1)
         (none e.pc e.next d.0.from d.0.below d.0.least d.0.most) ∙ append-nil (trail arrive log)
 
-    off : (e : Entry) → Does lo hi (Meets h n c) e → e.pc ≢ exit_of p h
+    off : (e : Entry) → Does lo hi (MeetUses h n c) e → e.pc ≢ exit_of p h
     off e d = λ z. omega (arith, d.below, exit)
 
     passes : Comes p h q s.log → Story F s.log → (t : State) (g : Barred lo hi h n c (q + 1) s t)
@@ -88,7 +89,7 @@ module _ (w : World) (p : Program) (h c q link : ℕ) (arrive : ℕ → ℕ → 
         let pass = passes coming so.story t g in
         let here : Sofar arrive F size ms (k + (7 + 2 * n)) (g.entries ++ s.log) = record {
           way = trail-same g.entries s.log g.each ∙ so.way;
-          story = story-join (Does lo hi (Meets h n c))
+          story = story-join (Does lo hi (MeetUses h n c))
               (Keeping p h) F inside g.entries s.log g.each pass.story so.story;
           few = omega (arith, pass.work, g.work, so.few);
         } in

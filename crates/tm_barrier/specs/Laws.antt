@@ -25,8 +25,8 @@ pub record IsOtherFlag (h n a : ℕ) : Type 0 where
   pub is : a ≡ flag_at hart
 
 -- The count at c is read and written, hart h's flag written, and the others' flags read.
-abbrev pub Meets : (h n c : ℕ) → Access → Type 0
-Meets h n c = Uses (λ a. (a ≡ c) ⊎ IsOtherFlag h n a) (λ a. (a ≡ c) ⊎ (a ≡ flag_at h))
+abbrev pub MeetUses : (h n c : ℕ) → Access → Type 0
+MeetUses h n c = Uses (λ a. (a ≡ c) ⊎ IsOtherFlag h n a) (λ a. (a ≡ c) ⊎ (a ≡ flag_at h))
 
 -- no access, or a read of another hart's flag
 abbrev pub Looks : (h n : ℕ) → Access → Type 0
@@ -61,7 +61,7 @@ pub record KeepsInStep (h n m : ℕ) (before : List Entry) (e : Entry) : Type 0 
 pub record Barred (lo hi h n c m : ℕ) (s t : State) : Type 0 where
   pub entries : List Entry
   pub log : t.log ≡ entries ++ s.log
-  pub each : Each (Does lo hi (Meets h n c)) entries
+  pub each : Each (Does lo hi (MeetUses h n c)) entries
   pub story : Story (KeepsInStep h n m) entries
   pub work : worked (idles_in h n m) entries ≤ 7 + 2 * n
 

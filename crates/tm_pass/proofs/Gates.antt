@@ -23,7 +23,7 @@ use Rattle.tm_pass_place.specs.Built.{start_at, end_at, halt_at, exit_at}
 use Rattle.tm_pass_place.proofs.Heads.{ends-low}
 use Rattle.tm_pass_place.proofs.Sizes.{count, short-hart}
 use Rattle.tm_pass.specs.declared.hart.HartCode.{HartCode}
-use Rattle.tm_pass.specs.Gate.{IsPlain, ShutsOut}
+use Rattle.tm_pass.specs.Gate.{IsUnmarked, ShutsOut}
 
 -- a number of a list by number
 of-count : (f : ℕ → ℕ) (a n c x : ℕ) → slice_get (map f (count_from a n)) c ≡ Some x → (c < n) × (x ≡ f (a + c))
@@ -100,7 +100,7 @@ module _ (cases : Cases) (shaped : AreShaped cases) (h : ℕ) (number : h < case
         (r.0, r.1 ∙ ap (end_at cases h base) z)
 
     -- before the first case no mark is
-    before : (a : ℕ) → a < base + 56 → IsPlain code a
+    before : (a : ℕ) → a < base + 56 → IsUnmarked code a
     before a l = record {
       streams = λ c start end b e. let s = start-is c start b in inl (omega (arith, s.1));
       exit = λ z. omega (arith, z, exit);
@@ -108,7 +108,7 @@ module _ (cases : Cases) (shaped : AreShaped cases) (h : ℕ) (number : h < case
     }
 
     -- and none is behind the last word
-    behind : (a : ℕ) → a ≡ base + 4 * size → IsPlain code a
+    behind : (a : ℕ) → a ≡ base + 4 * size → IsUnmarked code a
     behind a e = record {
       streams = λ c start end b f. let s = end-is c end f in
           inr (omega (arith, s.1, ends-low cases shaped h number base c s.0, behind-all));

@@ -27,7 +27,7 @@ use Rattle.tm_legal.proofs.Formed.{formed-sizes}
 use Rattle.tm_legal.specs.Tame.{Formed}
 use Rattle.tm_blocks_base.specs.Laws.{Uses}
 use Rattle.tm_barrier.specs.Words.{meet}
-use Rattle.tm_barrier.specs.Laws.{Meets, IsOtherFlag, KeepsInStep, worked}
+use Rattle.tm_barrier.specs.Laws.{MeetUses, IsOtherFlag, KeepsInStep, worked}
 use Rattle.tm_runs.specs.Phases.{idles_in}
 use Rattle.tm_barrier.specs.Course.{Comes, PassesBarrier}
 use Rattle.tm_barrier.proofs.Passing.{barriers_keep}
@@ -79,7 +79,7 @@ module _ (p : Program) (formed : Formed p) (fit : MasksFit p.cases p.masks) (h :
   cell = private_at h + 256
 
   abbrev Bars : Entry → Type 0
-  Bars = Does entry hi (Meets h n cell)
+  Bars = Does entry hi (MeetUses h n cell)
 
   pub low : h < 16
   low = let b = (formed-sizes formed).harts in omega arith
@@ -88,7 +88,7 @@ module _ (p : Program) (formed : Formed p) (fit : MasksFit p.cases p.masks) (h :
   unfolding private_size
   cell-own = (omega arith, omega arith)
 
-  pub uses : (x : Access) → Meets h n cell x → Uses IsBelow (Signals h) x
+  pub uses : (x : Access) → MeetUses h n cell x → Uses IsBelow (Signals h) x
   uses Quiet u = tt
   uses (Read a width v) u = (u.0, by u.1)
     where

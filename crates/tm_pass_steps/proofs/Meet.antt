@@ -33,7 +33,7 @@ use Rattle.tm_legal.specs.Tame.{Formed}
 use Rattle.tm_blocks_base.specs.Instrs.{fence, go_to}
 use Rattle.tm_blocks_base.specs.Laws.{Uses}
 use Rattle.tm_barrier.specs.Words.{meet, barrier}
-use Rattle.tm_barrier.specs.Laws.{Meets, Meeting, Barred, HasMet, after_fence, after_return}
+use Rattle.tm_barrier.specs.Laws.{MeetUses, Meeting, Barred, HasMet, after_fence, after_return}
 use Rattle.tm_barrier.specs.Course.{PassesBarrier}
 use Rattle.tm_barrier.proofs.Meet.{meet_runs, fence_runs, return_runs}
 use Rattle.tm_barrier.proofs.Worlds.{meeting_of}
@@ -106,9 +106,9 @@ module _ (p : Program) (formed : Formed p) (fit : MasksFit p.cases p.masks) (h :
       (read_in p h r b past))
 
   abbrev Bars : Entry → Type 0
-  Bars = Does entry hi (Meets h n cell)
+  Bars = Does entry hi (MeetUses h n cell)
 
-  uses-here : (x : Access) → Meets h n cell x → Uses IsBelow (Signals h) x
+  uses-here : (x : Access) → MeetUses h n cell x → Uses IsBelow (Signals h) x
   uses-here = uses p formed fit h number limit entry site
 
   beyond : (d a : ℕ) → d < case_count p → entry ≤ a → inside p h d a ≡ false
