@@ -2,19 +2,16 @@
 use Rattle.std.proofs.Common.{◌≡◌, ◌≢◌, ◌⊎◌, inl, inr, ℕ, suc, ◌+◌, ◌-◌, ◌<◌, ◌≤◌, Bool, true, false, ◌&&◌, not, ◌==◌}
 use Rattle.std.proofs.Common.{List, [], ◌∷◌, ◌++◌, length, Option, None, Some, refl, sym, ap, ◌∙◌, subst, arith}
 use Rattle.std.proofs.Common.{append-nil, length-append}
-use Rattle.std.specs.Prelude.{slice_index_or, IfSome, if◌then◌else◌}
-use Rattle.std.proofs.lemmas.Bool.{or_right}
+use Rattle.std.specs.Prelude.{IfSome, if◌then◌else◌}
 use Rattle.tm_pass_steps.proofs.Cells.{got-none}
 use Rattle.tm_table.specs.declared.state.Access.{Access}
 use Rattle.tm_plan_cases.specs.declared.program.Program.{Program}
 use Rattle.tm_plan_map.specs.Map.{windows_base}
-use Rattle.tm_plan_cases.specs.Collected.{owned}
-use Rattle.tm_base.specs.Lists.{any}
 use Rattle.tm_plan_cases.specs.Shaped.{MasksFit}
 use Rattle.tm_world.specs.Lists.{or_else, IsFront}
 use Rattle.tm_world.specs.Place.{harts, case_count, start_of, end_of, exit_of, halt_of, inside}
 use Rattle.tm_world.specs.Marks.{Mark, arrivals, whole_way}
-use Rattle.tm_world.specs.Course.{round_before, reads_in}
+use Rattle.tm_world.specs.Course.{round_before}
 use Rattle.tm_world.proofs.Options.{or_else-none}
 use Rattle.tm_runs.specs.Machine.{State, Entry, Table}
 use Rattle.tm_runs.specs.Runs.{Takes, Within, Does, Each, Since}
@@ -33,12 +30,6 @@ use Rattle.tm_pass_way.specs.Parts.{Hold, Ready, Leads}
 use Rattle.tm_pass_way.specs.Calm.{Clear, Steady, LeavesTo, IsBelow}
 use Rattle.tm_pass_way.proofs.Lift.{told-drop, none-either}
 use Rattle.tm_pass_way.proofs.Steady.{steady-more}
-
-pub gathered-more : (p : Program) (h : ℕ) (o : Option ℕ) (e : Entry) (es : List Entry) → IfSome o (λ d. Gathered p h es)
-    → IfSome o (λ d. Gathered p h (e ∷ es))
-gathered-more p h None e es g = tt
-gathered-more p h (Some d) e es g = λ k x l. or_right (reads_in (slice_index_or (owned p.cases h) k x) 8 e.access)
-    (any (λ (t : Entry). reads_in (slice_index_or (owned p.cases h) k x) 8 t.access) es) (g k x l)
 
 module _ (p : Program) (formed : Formed p) (fit : MasksFit p.cases p.masks) (h : ℕ) (number : h < harts p) (limit : ℕ
     → ℕ) (lo hi : ℕ) (clear : Clear p h lo hi) (A : Access → Type 0) where

@@ -49,10 +49,11 @@ use Rattle.tm_pass_way.proofs.Fronts.{saves-few}
 use Rattle.tm_pass_way.proofs.Shared.{set-fact}
 use Rattle.tm_pass_way.proofs.Calm.{private-below}
 use Rattle.tm_pass_way.proofs.Waiting.{now-all}
+use Rattle.tm_pass_way.proofs.Gathered.{gathered-one}
 use Rattle.tm_pass_steps.specs.Setting.{FirstTable, FirstIsSet, set_cost}
 use Rattle.tm_pass_steps.proofs.Mine.{Mine, mine, mine-window, mine-bytes, last_access, last-by-access, last-append}
 use Rattle.tm_pass_steps.proofs.Mine.{written-here, written-off}
-use Rattle.tm_pass_steps.proofs.Mixed.{gathered-more, off, halts, starts, one-more, left-through}
+use Rattle.tm_pass_steps.proofs.Mixed.{off, halts, starts, one-more, left-through}
 use Rattle.tm_pass_steps.proofs.Mixed.{read-through, far, start-steady, mixed-part, roomier}
 
 -- ---- lists
@@ -277,7 +278,7 @@ module _ (p : Program) (formed : Formed p) (fit : MasksFit p.cases p.masks) (h :
         subst (λ (ls : List Entry). IfSome (round_before p q) (λ x. Gathered p h ls))
             (sym (now-stays p formed fit h number (es ++ past) e
             (off p formed fit h number limit lo hi clear Sets e each.0)))
-            (gathered-more p h (round_before p q) e (now_in exit (es ++ past)) r.1),
+            (gathered-one p h (round_before p q) e (now_in exit (es ++ past)) r.1),
       )
 
   -- ---- what they leave

@@ -1,18 +1,16 @@
 -- A calm part whose last step leads to another place, at which there is no mark.
 use Rattle.std.proofs.Common.{◌≡◌, ◌≢◌, ◌⊎◌, inl, inr, ℕ, suc, ◌+◌, ◌<◌, ◌≤◌, Bool, true, false, ◌&&◌, not, ◌==◌}
-use Rattle.std.proofs.Common.{List, [], ◌∷◌, ◌++◌, length, Option, None, Some, refl, sym, ap, ap₂, ◌∙◌, subst, arith}
+use Rattle.std.proofs.Common.{List, [], ◌++◌, length, Option, None, Some, refl, sym, ap, ap₂, ◌∙◌, subst, arith}
 use Rattle.std.proofs.Common.{length-append}
-use Rattle.std.specs.Prelude.{slice_index, slice_index_or, IfSome, if◌then◌else◌}
-use Rattle.std.proofs.lemmas.Bool.{or_right}
+use Rattle.std.specs.Prelude.{slice_index, IfSome, if◌then◌else◌}
 use Rattle.tm_plan_cases.specs.declared.program.Program.{Program}
 use Rattle.tm_plan_map.specs.Map.{windows_base}
 use Rattle.tm_plan_cases.specs.Collected.{owned}
-use Rattle.tm_base.specs.Lists.{any}
 use Rattle.tm_plan_cases.specs.Shaped.{MasksFit}
 use Rattle.tm_world.specs.Lists.{or_else}
 use Rattle.tm_world.specs.Place.{harts, case_count, start_of, end_of, exit_of, halt_of, inside}
 use Rattle.tm_world.specs.Marks.{Mark, arrivals}
-use Rattle.tm_world.specs.Course.{round_before, reads_in}
+use Rattle.tm_world.specs.Course.{round_before}
 use Rattle.tm_world.proofs.Options.{or_else-none}
 use Rattle.tm_runs.specs.Machine.{State, Entry, Table}
 use Rattle.tm_runs.specs.Runs.{Takes}
@@ -31,6 +29,7 @@ use Rattle.tm_runs.proofs.Ahead.{Small, takes_told, world-low}
 use Rattle.tm_pass_way.proofs.Calm.{Still, steady-part, steady-one, now-stays}
 use Rattle.tm_plan_owned.proofs.Collected.{owned-above}
 use Rattle.tm_pass_way.proofs.Lift.{told-drop, left-same, read-same, got-low, none-either, gathered-more}
+use Rattle.tm_pass_way.proofs.Gathered.{gathered-one}
 
 module _ (p : Program) (formed : Formed p) (fit : MasksFit p.cases p.masks) (h : ℕ) (number : h < harts p) (limit : ℕ
     → ℕ) (lo hi place : ℕ) (clear : Clear p h lo hi) (off : hi ≢ exit_of p h) (some : lo ≤ hi) (beyond : (d : ℕ)
@@ -127,16 +126,10 @@ module _ (p : Program) (formed : Formed p) (fit : MasksFit p.cases p.masks) (h :
           };
           gathered = subst (λ (l : List Entry). IfSome (round_before p q) (λ d. Gathered p h (now_in exit l)))
               (sym a.log) (subst (λ (l : List Entry). IfSome (round_before p q) (λ d. Gathered p h l)) (sym now)
-              (one-more (round_before p q) (gathered-more p formed fit h number limit lo hi clear (round_before p q)
-              a.entries s.log a.each ready.gathered)));
+              (gathered-one p h (round_before p q) a.last (now_in exit (a.entries ++ s.log))
+              (gathered-more p formed fit h number limit lo hi clear (round_before p q) a.entries s.log a.each
+              ready.gathered)));
         }
-      where
-        one-more : (x : Option ℕ) → IfSome x (λ d. Gathered p h (now_in exit (a.entries ++ s.log)))
-            → IfSome x (λ d. Gathered p h (a.last ∷ now_in exit (a.entries ++ s.log)))
-        one-more None g = g
-        one-more (Some d) g = λ k e l. or_right (reads_in (slice_index_or (owned p.cases h) k e) 8 a.last.access)
-            (any (λ (x : Entry). reads_in (slice_index_or (owned p.cases h) k e) 8 x.access)
-            (now_in exit (a.entries ++ s.log))) (g k e l)
 
   -- So it leaves the way where it was, but for the place.
   pub hop-part : {Q : State → Type 0} (s : State) → Ready p h lo q c o ms s → Told p h limit s.log
