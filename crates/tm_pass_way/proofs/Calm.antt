@@ -28,7 +28,7 @@ use Rattle.tm_runs.specs.Runs.{Does, Each}
 use Rattle.tm_runs.specs.Course.{trail}
 use Rattle.tm_runs.proofs.Arrivals.{Quiet as Unmarked, quiet-off, arrivals-none}
 use Rattle.tm_plan_map.proofs.Within.{within-true, within-false}
-use Rattle.std.proofs.lemmas.Bool.{or_right, or_left}
+use Rattle.std.proofs.lemmas.Bool.{or_right, or_left, and_parts}
 use Rattle.std.proofs.lemmas.Option.{slice_get_within}
 use Rattle.tm_legal.proofs.Formed.{formed-sizes}
 use Rattle.tm_legal.specs.Tame.{Formed}

@@ -5,7 +5,7 @@ use Rattle.std.proofs.Common.{◌||◌, ◌==◌, eqb-true, eq-eqb, List, Option
 use Rattle.std.proofs.Common.{ap₂, ◌∙◌, subst, arith}
 use Rattle.std.specs.Prelude.{slice_index_or, IsTrue, IsFalse, IfSome, if◌then◌else◌}
 use Rattle.std.proofs.lemmas.Bool.Decides.{nat_tests}
-use Rattle.std.proofs.lemmas.Bool.{or_right}
+use Rattle.std.proofs.lemmas.Bool.{or_right, and_parts}
 use Rattle.std.proofs.lemmas.Option.{slice_get_within, IfSome_then}
 use Rattle.tm_table.specs.declared.state.Access.TheVariants.{Read, Write}
 use Rattle.tm_plan_cases.specs.declared.program.Program.{Program}
