@@ -1,5 +1,5 @@
 -- Which hart waits.
-use Rattle.std.proofs.Common.{◌≡◌, ℕ, ◌+◌, Bool, true, false, ◌&&◌, ◌||◌, ◌==◌, not}
+use Rattle.std.proofs.Common.{◌≡◌, ℕ, ◌+◌, Bool, true, ◌&&◌, ◌==◌, not}
 use Rattle.std.proofs.Common.{sym, ap, ◌∙◌, subst}
 use Rattle.std.specs.Prelude.{◌↔◌, IsTrue}
 use Rattle.tm_base.specs.Lists.{any, count_from}
@@ -15,10 +15,6 @@ use Rattle.tm_guest.specs.Guested.{Guested, steps, IsHalted}
 use Rattle.tm_guest.specs.Turns.{IsNextEvent}
 use Rattle.tm_guest.specs.Waiting.{IsIdle, Waits}
 use Rattle.tm_guest.proofs.Unique.{one-next}
-
-or-true : (b : Bool) → (b || true) ≡ true
-or-true true = λ i. true
-or-true false = λ i. true
 
 -- The access reads the flag of one of n harts but h, and finds less than most.
 abbrev pub finds_low : ℕ → ℕ → ℕ → Access → Bool
