@@ -15,7 +15,7 @@ use Rattle.tm_world.specs.Course.{signals, this_phase}
 use Rattle.tm_legal.proofs.Own.{own-here, own-there}
 use Rattle.tm_legal.proofs.Phases.{in_phase-here, in_phase-there, in_phase-above}
 use Rattle.tm_guest.specs.declared.hart.HartState.{HartState}
-use Rattle.tm_guest.specs.Replay.{opening, state_after}
+use Rattle.tm_world.specs.Replay.{opening, state_after}
 use Rattle.tm_guest.specs.Fields.{IsState, AreStates}
 use Rattle.tm_guest.specs.Waiting.{phase_after, signalled_after}
 

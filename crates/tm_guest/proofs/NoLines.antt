@@ -9,15 +9,11 @@ use Rattle.tm_plan_cases.specs.declared.journal.Event.{Event}
 use Rattle.tm_plan_script.specs.declared.faults.FaultLine.{FaultLine}
 use Rattle.tm_world.specs.Run.{Step, Run, read_value}
 use Rattle.tm_world.specs.Kinds.{Plain, stream_at}
-use Rattle.tm_memory.specs.Faulted.{nothing}
-use Rattle.tm_memory.proofs.Nothing.{nothing-plain, put-same}
-use Rattle.tm_world_script.specs.Script.{FaultedRun, change_of}
-use Rattle.tm_world_script.specs.Laws.{NoLinesArePlain}
-use Rattle.tm_guest.specs.Replay.{state_after, outcome, left_in, stepped}
-
-pub no-lines : (p : Program) → NoLinesArePlain p
-unfolding change_of
-no-lines p = let n = nothing-plain p in record { plain = n.plain; faulted = n.faulted }
+use Rattle.tm_world.specs.Faulted.{nothing}
+use Rattle.tm_memory.proofs.Nothing.{same-state}
+use Rattle.tm_memory.proofs.Keeping.{no-lines}
+use Rattle.tm_world.specs.Script.{FaultedRun, change_of}
+use Rattle.tm_world.specs.Replay.{state_after, outcome, left_in, stepped}
 
 pub plain-where : (p : Program) (lines : List FaultLine) (r : Run) → FaultedRun p lines r → lines ≡ [] → Plain p r
 plain-where p lines r faulted none =
@@ -26,8 +22,7 @@ plain-where p lines r faulted none =
 left-clean : (c : Option ℕ) (before clean : Hart) (i : Option Instr) → left_in c nothing before i clean ≡ clean
 left-clean None before clean i = refl
 left-clean (Some c) before clean None = refl
-left-clean (Some c) before clean (Some i) =
-    ap (λ (x : List ℕ). record { pc = clean.pc; x = x }) (put-same clean.x i.rd)
+left-clean (Some c) before clean (Some i) = same-state i before clean
 
 -- the step of an event by its row alone
 abbrev pub by_row : Hart → Event → Step

@@ -9,10 +9,10 @@ use Rattle.tm_plan_cases.specs.Shaped.{IsProgram}
 use Rattle.tm_plan_script.specs.declared.faults.FaultLine.{FaultLine}
 use Rattle.tm_ram.specs.Region.{Region}
 use Rattle.tm_world.specs.Kinds.{IsOpening}
-use Rattle.tm_world_script.specs.Script.{NeverStuck}
+use Rattle.tm_world.specs.Work.{NeverStuck}
 use Rattle.tm_guest.specs.declared.decoded.Decoded.{Decoded}
 use Rattle.tm_guest.specs.declared.hart.HartState.{HartState}
-use Rattle.tm_guest.specs.Replay.{opening, steps_of}
+use Rattle.tm_world.specs.Replay.{opening, steps_of}
 use Rattle.tm_guest.specs.Fields.{AreDecoded, IsMemory, Keeps}
 use Rattle.tm_guest.specs.Start.{AreOpened}
 

@@ -13,7 +13,7 @@ use Rattle.tm_world.specs.Run.{Step, Run, own, hart_of, access_of, first_state, 
 use Rattle.tm_world.specs.Kinds.{Follows, Path, Plain, plain_owed}
 use Rattle.tm_world.proofs.Options.{unwrap_or-or_else}
 use Rattle.tm_legal.proofs.Own.{own-here, own-there}
-use Rattle.tm_guest.specs.Replay.{opening, stepped, state_after, replay, steps_of}
+use Rattle.tm_world.specs.Replay.{opening, stepped, state_after, replay, steps_of}
 use Rattle.tm_guest.specs.Memory.{IsWritten}
 use Rattle.tm_guest.specs.Fields.{IsMemory}
 

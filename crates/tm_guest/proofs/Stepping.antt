@@ -13,16 +13,17 @@ use Rattle.tm_ram.specs.Region.{Region}
 use Rattle.tm_world.specs.Place.{harts, exit_of, halt_of}
 use Rattle.tm_world.specs.Run.{Step, Reads, read_value, HasShape}
 use Rattle.tm_world.specs.Kinds.{Follows, IsPossible, Plain, plain_owed}
-use Rattle.tm_world_script.specs.Script.{FaultedRun}
+use Rattle.tm_world.specs.Script.{FaultedRun}
 use Rattle.tm_guest.specs.declared.decoded.Decoded.{Decoded}
 use Rattle.tm_guest.specs.declared.hart.HartState.{HartState}
-use Rattle.tm_guest.specs.Replay.{outcome, state_after, steps_of, run_of}
+use Rattle.tm_world.specs.Replay.{outcome, state_after, steps_of, run_of}
 use Rattle.tm_guest.specs.Guested.{Guested, run, steps, state, IsHalted}
 use Rattle.tm_guest.specs.Turns.{IsNextEvent}
 use Rattle.tm_guest.specs.Waiting.{phase_after, signalled_after}
 use Rattle.tm_guest.specs.Memory.{owed_of, IsWritten}
 use Rattle.tm_guest.specs.Fields.{IsRow, IsState, AreStates, IsMemory, Keeps}
-use Rattle.tm_guest.proofs.NoLines.{no-lines, plain-where, by_row, stepped-row}
+use Rattle.tm_memory.proofs.Keeping.{no-lines}
+use Rattle.tm_guest.proofs.NoLines.{plain-where, by_row, stepped-row}
 use Rattle.tm_guest.proofs.Runs.{opened, steps-more, length-steps, plain-more, memory-more}
 use Rattle.tm_guest.proofs.Harts.{states-more, phase-few}
 use Rattle.tm_guest.proofs.Rows.{Finds, finds}

@@ -15,9 +15,9 @@ use Rattle.tm_world.specs.Place.{word_at}
 use Rattle.tm_world.specs.Run.{Step, Reads, HasShape, read_value, hart_of, pc_of, access_of}
 use Rattle.tm_world.specs.Kinds.{stream_at, plain_owed}
 use Rattle.tm_runs.proofs.Rows.{row-decoded}
-use Rattle.tm_memory.specs.Faulted.{Change, access_by, unloaded, nothing, FaultedStep}
-use Rattle.tm_world_script.specs.Script.{FaultedRun}
-use Rattle.tm_guest.specs.Replay.{state_after, stepped, steps_of, run_of, change_next}
+use Rattle.tm_world.specs.Faulted.{Change, access_by, unloaded, nothing, FaultedStep}
+use Rattle.tm_world.specs.Script.{FaultedRun}
+use Rattle.tm_world.specs.Replay.{state_after, stepped, steps_of, run_of, change_next}
 use Rattle.tm_guest.specs.Guested.{Guested}
 use Rattle.tm_guest.specs.Turns.{IsNextEvent}
 use Rattle.tm_guest.specs.Laws.{OneNextEvent}

@@ -10,7 +10,7 @@ use Rattle.tm_world.specs.Place.{harts, exit_of}
 use Rattle.tm_world.specs.Run.{own, phase}
 use Rattle.tm_world.specs.Course.{signals, this_phase}
 use Rattle.tm_world.specs.Work.{gets_less, is_idle_read}
-use Rattle.tm_guest.specs.Replay.{stepped}
+use Rattle.tm_world.specs.Replay.{stepped}
 use Rattle.tm_guest.specs.Guested.{Guested, steps, IsHalted}
 use Rattle.tm_guest.specs.Turns.{IsNextEvent}
 use Rattle.tm_guest.specs.Waiting.{IsIdle, Waits}

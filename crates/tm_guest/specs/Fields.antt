@@ -16,10 +16,11 @@ use Rattle.tm_world.specs.Run.{Step, own, phase, last_write}
 use Rattle.tm_world.specs.Kinds.{IsPossible}
 use Rattle.tm_world.specs.Course.{signals, this_phase}
 use Rattle.tm_plan_script.specs.declared.faults.FaultLine.{FaultLine}
-use Rattle.tm_world_script.specs.Script.{FaultedRun, NeverStuck}
+use Rattle.tm_world.specs.Script.{FaultedRun}
+use Rattle.tm_world.specs.Work.{NeverStuck}
 use Rattle.tm_guest.specs.declared.decoded.Decoded.{Decoded}
 use Rattle.tm_guest.specs.declared.hart.HartState.{HartState}
-use Rattle.tm_guest.specs.Replay.{run_of, steps_of, state_after}
+use Rattle.tm_world.specs.Replay.{run_of, steps_of, state_after}
 use Rattle.tm_guest.specs.Memory.{IsGuestRegion, byte_at}
 
 -- A word, and its instruction where it has one. Each instruction fits.

@@ -6,7 +6,7 @@ use Rattle.tm_plan_cases.specs.declared.journal.Event.{Event}
 use Rattle.tm_plan_script.specs.declared.faults.FaultLine.{FaultLine}
 use Rattle.tm_world.specs.Place.{halt_of}
 use Rattle.tm_world.specs.Run.{Run, Step}
-use Rattle.tm_guest.specs.Replay.{steps_of, run_of, state_after}
+use Rattle.tm_world.specs.Replay.{steps_of, run_of, state_after}
 
 -- the program, the lines of the script, the most events, and the events so far
 pub record Guested : Type 0 where

@@ -1,4 +1,3 @@
-pub mod Replay
 pub mod Guested
 pub mod Turns
 pub mod Rounds

@@ -4,7 +4,7 @@ use Rattle.tm_plan_cases.specs.declared.journal.Event.{Event}
 use Rattle.tm_world.specs.Run.{own}
 use Rattle.tm_world.specs.Kinds.{writes_flag}
 use Rattle.tm_world.specs.Work.{is_idle_read}
-use Rattle.tm_guest.specs.Replay.{stepped}
+use Rattle.tm_world.specs.Replay.{stepped}
 use Rattle.tm_guest.specs.Guested.{Guested, steps, IsHalted}
 use Rattle.tm_guest.specs.Turns.{IsNextEvent}
 

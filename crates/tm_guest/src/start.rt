@@ -3,7 +3,7 @@ ghost use Rattle.std.specs.Prelude.{◌≡◌, ◌≤◌, ◌*◌, [], length, I
 ghost use Rattle.tm_table.specs.State.{hart_of};
 ghost use Rattle.tm_plan_cases.specs.Shaped.{IsProgram};
 ghost use Rattle.tm_world.specs.Run.{first_state};
-ghost use Rattle.tm_guest.specs.Replay.{opening};
+ghost use Rattle.tm_world.specs.Replay.{opening};
 ghost use Rattle.tm_guest.specs.Memory.{IsGuestRegion};
 ghost use Rattle.tm_guest.specs.Start.{HasText, HasTables, IsOpened, AreOpened};
 ghost use Rattle.tm_guest.specs.Fields.{IsMemory};
@@ -52,7 +52,7 @@ fn opened_at(h: u32) -> HartState
     }
 }
 
-#[tactic(auto, unfolding(crate::specs::Replay::opening, tm_plan_map::specs::Map::text_base))]
+#[tactic(auto, unfolding(tm_world::specs::Replay::opening, tm_plan_map::specs::Map::text_base))]
 fn first_cpu(h: u32) -> Cpu
     ensures { hart_of result ≡ first_state (opening h) }
 {

@@ -7,7 +7,7 @@ use Rattle.tm_world.specs.Work.{is_idle_read}
 use Rattle.tm_guest.specs.declared.turn.Turn.{Turn}
 use Rattle.tm_guest.specs.declared.turn.Turn.TheVariants.{Stepped, Halted, Full}
 use Rattle.tm_guest.specs.Guested.{Guested, steps, with_event}
-use Rattle.tm_guest.specs.Replay.{stepped, steps_of}
+use Rattle.tm_world.specs.Replay.{stepped, steps_of}
 use Rattle.tm_guest.specs.Turns.{Answers, Makes}
 use Rattle.tm_guest.specs.Waiting.{IsIdle}
 use Rattle.tm_guest.proofs.Runs.{steps-more}

@@ -1,7 +1,7 @@
 // The guest under the lock.
 ghost use Rattle.std.specs.Prelude.{◌≤◌, ◌≡◌, ◌↔◌, ◌<◌, ◌^◌, [], IsTrue};
 ghost use Rattle.tm_world.specs.Place.{harts};
-ghost use Rattle.tm_world_script.specs.Script.{FaultedRun};
+ghost use Rattle.tm_world.specs.Script.{FaultedRun};
 ghost use Rattle.tm_guest.specs.Guested.{run};
 ghost use Rattle.tm_harts.specs.Idle.{NoIdle};
 ghost use Rattle.tm_harts.specs.Turns.{HoldsBack, AnswersOrNone};

@@ -1,7 +1,7 @@
 // The mill and its seats.
 ghost use Rattle.std.specs.Prelude.{◌≡◌, ◌≤◌, max, length, [], IfOk};
 ghost use Rattle.tm_world.specs.Place.{harts};
-ghost use Rattle.tm_world_script.specs.Script.{FaultedRun};
+ghost use Rattle.tm_world.specs.Script.{FaultedRun};
 ghost use Rattle.tm_guest.specs.Guested.{run};
 ghost use Rattle.tm_turn.specs.History.{made_by, BeginsWith};
 ghost use Rattle.tm_turn.specs.Seats.{AreNew, BearsOutAll};

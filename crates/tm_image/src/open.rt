@@ -1,6 +1,5 @@
 // Opens an image by building it again.
 ghost use Rattle.std.specs.Prelude.{◌≡◌, ◌≢◌, ◌≤◌, Ok, Err, IfOk, IfErr, MatchResult, length};
-ghost use Rattle.tm_plan_cases.specs.Shaped.{IsTyped};
 ghost use Rattle.tm_world.specs.Sound.{Sound};
 ghost use Rattle.tm_elf.specs.Read.{elf_of};
 ghost use Rattle.tm_image_build.specs.Built.{program_from};
@@ -28,7 +27,6 @@ pub fn open_image(alloc: Global, bytes: &[u8]) -> Result<Image, ImageFault>
     ensures program { IfOk result (λ image. MatchResult (elf_of bytes.now) (λ parts.
         program_from parts.plan.seed (inputs parts.plan.topo parts.plan.template) ≡ Ok image.program) (λ _. ⊥)) }
     ensures sound { IfOk result (λ image. Sound image.program) }
-    ensures typed { IfOk result (λ image. IsTyped image.program) }
     ensures err { IfErr result (λ e. e ≢ ImageFault.NoMemory → opened bytes.now ≡ Err e) }
     ensures named { IfErr result IsNamedFault }
 {
@@ -51,7 +49,6 @@ fn rebuild(alloc: Global, parts: &Parts, bytes: &[u8]) -> Result<Image, ImageFau
     ensures program { IfOk result (λ image. program_from parts.now.plan.seed
         (inputs parts.now.plan.topo parts.now.plan.template) ≡ Ok image.program) }
     ensures sound { IfOk result (λ image. Sound image.program) }
-    ensures typed { IfOk result (λ image. IsTyped image.program) }
     ensures err { IfErr result (λ e. e ≢ ImageFault.NoMemory → compared bytes.now (rebuilt parts.now) ≡ Err e) }
     ensures named { IfErr result IsNamedFault }
 {

@@ -1,6 +1,6 @@
 // From the two texts to the image.
 ghost use Rattle.std.specs.Prelude.{◌≡◌, ◌≤◌, Ok, IfOk, IfErr, length};
-ghost use Rattle.tm_plan_cases.specs.Shaped.{IsProgram, IsTyped};
+ghost use Rattle.tm_plan_cases.specs.Shaped.{IsProgram};
 ghost use Rattle.tm_world.specs.Sound.{Sound};
 ghost use Rattle.tm_image_inputs.specs.Inputs.{inputs, IsFaultOf};
 ghost use Rattle.tm_image_build.specs.Built.{built, image_file, program_from, IsOfTexts};
@@ -35,7 +35,6 @@ pub fn build(alloc: Global, topo: &[u8], template: &[u8], seed: u64) -> Result<I
     ensures program { IfOk result (λ image. program_from seed (inputs topo.now template.now) ≡ Ok image.program) }
     ensures file { IfOk result (λ image. image.file ≡ image_file image.program topo.now template.now seed) }
     ensures sound { IfOk result (λ image. Sound image.program) }
-    ensures typed { IfOk result (λ image. IsTyped image.program) }
     ensures seed { IfOk result (λ image. image.seed ≡ seed) }
     ensures err { IfErr result (λ fault. IsFaultOf fault (built topo.now template.now seed)) }
 {

@@ -1,6 +1,5 @@
 // The program of a test and a seed.
 ghost use Rattle.std.specs.Prelude.{◌≡◌, IfOk};
-ghost use Rattle.tm_plan_cases.specs.Shaped.{IsTyped};
 ghost use Rattle.tm_place.specs.Ruled.{IsRuled};
 ghost use Rattle.tm_world.specs.Sound.{Sound};
 ghost use Rattle.tm_image_program.specs.Program.{program_for};
@@ -19,7 +18,6 @@ pub fn program_of(alloc: Global, a: &Admitted, seed: u64) -> Result<Program, NoM
     requires { IsRuled a.now }
     ensures program { IfOk result (λ p. p ≡ program_for a.now seed) }
     ensures sound { IfOk result Sound }
-    ensures typed { IfOk result IsTyped }
 {
     let cases = streams(alloc, a, seed)?;
     let masks = track(alloc, &cases)?;

@@ -9,7 +9,7 @@ use Rattle.tm_table.specs.State.{Hart}
 use Rattle.tm_plan_cases.specs.declared.program.Program.{Program}
 use Rattle.tm_plan_map.specs.Map.{text_base, within, windows_base, windows_size}
 use Rattle.tm_plan_cases.specs.declared.cases.Stream.{Stream}
-use Rattle.tm_world.specs.Writers.{stream_in}
+use Rattle.tm_plan_cases.specs.Streams.{stream_in}
 use Rattle.tm_world.specs.Place.{harts, is_text, is_table, is_window, byte_of}
 use Rattle.tm_world.specs.Run.{Step, own, now, first_state, hart_of, access_of, written, Reads, Writes}
 use Rattle.tm_world.specs.Kinds.{IsOpening, Path, Follows, Legal, HalfPath, HalfStep, stream_at, half_owed}

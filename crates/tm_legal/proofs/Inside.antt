@@ -21,7 +21,7 @@ use Rattle.tm_plan_cases.specs.Collected.{is_declared}
 use Rattle.tm_plan_cases.specs.Shaped.{IsShapedWindow}
 use Rattle.tm_world.specs.Place.{harts, start_of, end_of, inside, is_window}
 use Rattle.tm_world.specs.Run.{Step, access_of, HasShape, Writes, read_value}
-use Rattle.tm_world.specs.Writers.{stream_in}
+use Rattle.tm_plan_cases.specs.Streams.{stream_in}
 use Rattle.tm_world.specs.Kinds.{Follows, Free}
 use Rattle.tm_runs.proofs.Rows.{row-decoded}
 use Rattle.tm_plan_map.proofs.Within.{within-true}

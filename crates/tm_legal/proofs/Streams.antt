@@ -18,11 +18,10 @@ use Rattle.tm_plan_cases.specs.Collected.{is_declared, declares}
 use Rattle.tm_base.specs.Lists.{any}
 use Rattle.tm_plan_cases.specs.Shaped.{IsShapedSlot, IsShapedWindow}
 use Rattle.tm_world.specs.Place.{harts, start_of, end_of, inside, is_text, is_window, word_at}
-use Rattle.tm_world.specs.Writers.{stream_in}
+use Rattle.tm_plan_cases.specs.Streams.{stream_in}
 use Rattle.tm_world.proofs.Streams.{shaped-stream}
 use Rattle.tm_runs.proofs.Places.{word-place}
-use Rattle.tm_plan_map.proofs.Within.{within-parts}
-use Rattle.tm_plan_map.proofs.Within.{within-true}
+use Rattle.tm_plan_map.proofs.Within.{within-parts, within-true}
 use Rattle.tm_legal.specs.Tame.{Formed}
 use Rattle.tm_legal.proofs.Formed.{formed-sizes}
 

@@ -5,7 +5,7 @@ use Rattle.tm_plan_cases.specs.declared.program.Program.{Program}
 use Rattle.tm_plan_cases.specs.Shaped.{IsProgram, IsTyped}
 use Rattle.tm_world.specs.Place.{harts}
 use Rattle.tm_world.specs.Run.{Step, Run, own}
-use Rattle.tm_world.specs.Kinds.{Legal, Half, HalfPath, first_of_hart}
+use Rattle.tm_world.specs.Kinds.{Legal, Half, Plain, HalfPath, first_of_hart}
 use Rattle.tm_world.specs.Course.{HartCourse}
 use Rattle.tm_world.specs.Whole.{Course}
 use Rattle.tm_world.specs.Sound.{Sound}
@@ -33,4 +33,8 @@ CourseRunsAreHalf p = IsProgram p → IsTyped p → Course p → (r : Run) → L
 
 -- and each legal run of a sound program.
 abbrev pub SoundRunsAreHalf : Program → Type 0
-SoundRunsAreHalf p = IsTyped p → Sound p → (r : Run) → Legal p r → Half p r
+SoundRunsAreHalf p = Sound p → (r : Run) → Legal p r → Half p r
+
+-- Each plain run of a sound program is legal, and a half run.
+abbrev pub SoundPlainRuns : Program → Type 0
+SoundPlainRuns p = Sound p → (r : Run) → Plain p r → Legal p r × Half p r

@@ -1,6 +1,6 @@
 // Laws over the definitions, each as the contract of a function that does nothing.
 ghost use Rattle.tm_legal.specs.Laws.{CourseIsTame, LegalRunsAreHalf, LegalStepsAreHalf, CourseRunsAreHalf};
-ghost use Rattle.tm_legal.specs.Laws.{SoundRunsAreHalf};
+ghost use Rattle.tm_legal.specs.Laws.{SoundRunsAreHalf, SoundPlainRuns};
 
 use tm_plan_cases::Program;
 
@@ -25,13 +25,15 @@ pub fn legal_half(program: &Program)
     let _ = program;
 }
 
-/// Each legal run of a sound program is a half run, and so is each one of a program that keeps the course.
+/// Each legal run of a sound program is a half run, and so is each one of a program that keeps the course. Each plain
+/// run of a sound program is legal, and so a half run too.
 ///
-/// Asked beside them: the ranges of numbers, which the types of a program's fields give; and of a program that
-/// keeps the course, its shape, a clause of what builds it.
+/// Asked beside a course: the program's shape, a clause of what builds it, and the ranges of numbers, which the types
+/// of its fields give.
 pub fn sound_half(program: &Program)
     ensures course { CourseRunsAreHalf program.now }
     ensures sound { SoundRunsAreHalf program.now }
+    ensures plain { SoundPlainRuns program.now }
 {
     let _ = program;
 }

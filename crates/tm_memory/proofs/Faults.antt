@@ -29,7 +29,7 @@ use Rattle.tm_legal.proofs.Inside.{Moves, moves}
 use Rattle.tm_legal.proofs.Order.{order-no_stray, based, stream-some}
 use Rattle.tm_memory.specs.Meet.{AllMeet}
 use Rattle.tm_memory.specs.Memory.{ReadsOf, MemoryStep, OneMemory}
-use Rattle.tm_memory.specs.Faulted.{Change, access_by, pc_by, state_by, Changed, FaultedStep, Faulted}
+use Rattle.tm_world.specs.Faulted.{Change, access_by, pc_by, state_by, Changed, FaultedStep, Faulted}
 use Rattle.tm_memory.specs.Laws.{FaultedIsMemory, FaultedIsHalf}
 use Rattle.tm_memory.proofs.Machines.{half-machine}
 use Rattle.tm_memory.proofs.Memory.{memory-half}

@@ -7,3 +7,5 @@ pub mod Machines
 pub mod Faults
 pub mod Nothing
 pub mod Next
+pub mod Numbers
+pub mod Keeping

@@ -17,7 +17,7 @@ use Rattle.tm_world.specs.Kinds.{Path, Follows, IsPossible, Plain, plain_owed, s
 use Rattle.tm_world.proofs.Prefix.{earlier, Plain-earlier}
 use Rattle.tm_runs.proofs.Rows.{row-decoded}
 use Rattle.tm_legal.proofs.Own.{own-here, own-there}
-use Rattle.tm_memory.specs.Faulted.{access_by, unloaded, state_by, nothing, FaultedStep, Faulted}
+use Rattle.tm_world.specs.Faulted.{access_by, unloaded, state_by, nothing, FaultedStep, Faulted}
 use Rattle.tm_memory.specs.Laws.{NothingIsPlain}
 
 same-access : (a : Access) → access_by nothing a ≡ a
@@ -35,7 +35,7 @@ unfolding put
 put-same x zero = refl
 put-same x (suc r) = ap (λ (v : ℕ). put x (suc r) v) (xor_zero_r (slice_index x (suc r))) ∙ set-get_or x (suc r) 0
 
-same-state : (i : Instr) (before clean : Hart) → state_by nothing i before clean ≡ clean
+pub same-state : (i : Instr) (before clean : Hart) → state_by nothing i before clean ≡ clean
 same-state i before clean = ap (λ (x : List ℕ). record { pc = clean.pc; x = x }) (put-same clean.x i.rd)
 
 -- a step that nothing changes is the table's

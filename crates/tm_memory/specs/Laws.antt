@@ -1,16 +1,20 @@
 -- Laws of runs of one memory (this project's own).
-use Rattle.std.specs.Prelude.{◌≢◌, ℕ, ◌^◌, ◌<◌}
+use Rattle.std.specs.Prelude.{ℕ, ◌^◌, ◌<◌, List, []}
 use Rattle.tm_plan_cases.specs.declared.program.Program.{Program}
-use Rattle.tm_world.specs.Place.{harts, halt_of}
-use Rattle.tm_world.specs.Run.{Run, own, now}
-use Rattle.tm_world.specs.Kinds.{Legal, Half, Plain, first_of_hart}
+use Rattle.tm_plan_script.specs.declared.faults.FaultLine.{FaultLine}
+use Rattle.tm_plan_script.specs.Laws.{AreSmall}
+use Rattle.tm_world.specs.Place.{harts}
+use Rattle.tm_world.specs.Run.{Run}
+use Rattle.tm_world.specs.Kinds.{Legal, Half, Plain}
 use Rattle.tm_world.specs.Course.{OnHalf, KeepsOrder, EntersFresh, KeepsWrites, HartCourse}
 use Rattle.tm_world.specs.Whole.{WritesRight}
-use Rattle.tm_world.specs.Work.{HasNext, GoesOn}
+use Rattle.tm_world.specs.Work.{GoesOn, GoesOnAlways, GoOn, NeverStuck}
+use Rattle.tm_world.specs.Script.{FaultedRun}
+use Rattle.tm_world.specs.Sound.{Sound}
 use Rattle.tm_legal.specs.Tame.{Formed}
 use Rattle.tm_memory.specs.Meet.{AllMeet}
 use Rattle.tm_memory.specs.Memory.{OneMemory}
-use Rattle.tm_memory.specs.Faulted.{Change, Faulted, nothing}
+use Rattle.tm_world.specs.Faulted.{Change, Faulted, nothing}
 
 -- Harts that keep the course meet.
 abbrev pub CourseMeets : Program → Type 0
@@ -52,13 +56,7 @@ LegalWritesRight p = AllMeet p → (r : Run) → Legal p r → WritesRight p r
 -- streams too.
 abbrev pub NoneStuck : Program → Type 0
 NoneStuck p = Formed p → (h : ℕ) → h < harts p → OnHalf p h (KeepsOrder p h) → OnHalf p h (EntersFresh p h)
-    → OnHalf p h (GoesOn p h)
-    → OnHalf p h (λ first own. (now first own).pc ≢ halt_of p h → HasNext p (now first own))
-
--- Each hart that isn't at halt has a next step in the run.
-abbrev pub GoOn : Program → Run → Type 0
-GoOn p r = (h : ℕ) → h < harts p → (now (first_of_hart r h) (own h r.steps)).pc ≢ halt_of p h
-    → HasNext p (now (first_of_hart r h) (own h r.steps))
+    → OnHalf p h (GoesOn p h) → OnHalf p h (GoesOnAlways p h)
 
 -- So on legal runs, on plain runs, on all runs of one memory, and on runs in which steps of streams are changed.
 pub record Unstuck (p : Program) : Type 0 where
@@ -71,3 +69,24 @@ pub record Unstuck (p : Program) : Type 0 where
 -- where harts meet, and on half runs don't get stuck outside streams
 abbrev pub AllUnstuck : Program → Type 0
 AllUnstuck p = AllMeet p → ((h : ℕ) → h < harts p → OnHalf p h (GoesOn p h)) → Unstuck p
+
+-- ---- scripts
+
+-- A run that no line has changed is a plain run, and each plain run is one.
+pub record NoLinesArePlain (p : Program) : Type 0 where
+  pub plain : (r : Run) → FaultedRun p [] r → Plain p r
+  pub faulted : (r : Run) → Plain p r → FaultedRun p [] r
+
+-- Each run that the script has changed is a half run, and on none a hart gets stuck.
+pub record HalfAndUnstuck (p : Program) (lines : List FaultLine) : Type 0 where
+  pub half : (r : Run) → FaultedRun p lines r → Half p r
+  pub unstuck : NeverStuck p lines
+
+-- So it is for a formed program whose harts keep the course, and on half runs don't get stuck outside streams,
+abbrev pub CourseKeeps : Program → Type 0
+CourseKeeps p = Formed p → ((h : ℕ) → h < harts p → HartCourse p h) → ((h : ℕ) → h < harts p → OnHalf p h (GoesOn p h))
+    → (lines : List FaultLine) → AreSmall lines → HalfAndUnstuck p lines
+
+-- and for a sound program, whether the script is accepted or not.
+abbrev pub SoundKeeps : Program → Type 0
+SoundKeeps p = Sound p → (lines : List FaultLine) → AreSmall lines → HalfAndUnstuck p lines

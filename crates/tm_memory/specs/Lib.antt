@@ -1,4 +1,3 @@
 pub mod Meet
 pub mod Memory
-pub mod Faulted
 pub mod Laws

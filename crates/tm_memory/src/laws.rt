@@ -1,6 +1,7 @@
 // Laws over the definitions, each as the contract of a function that does nothing.
 ghost use Rattle.tm_memory.specs.Laws.{CourseMeets, MemoryIsHalf, PlainIsMemory, PlainIsHalf, FaultedIsMemory};
 ghost use Rattle.tm_memory.specs.Laws.{FaultedIsHalf, NothingIsPlain, LegalWritesRight, NoneStuck, AllUnstuck};
+ghost use Rattle.tm_memory.specs.Laws.{NoLinesArePlain, CourseKeeps, SoundKeeps};
 
 use tm_plan_cases::Program;
 
@@ -61,6 +62,25 @@ pub fn legal_writes(program: &Program)
 pub fn unstuck(program: &Program)
     ensures half { NoneStuck program.now }
     ensures runs { AllUnstuck program.now }
+{
+    let _ = program;
+}
+
+/// Without lines a run under a script is a plain run, and each plain run is one.
+pub fn no_lines(program: &Program)
+    ensures { NoLinesArePlain program.now }
+{
+    let _ = program;
+}
+
+/// Whatever a script changes in streams, each run is a half run, so that verdicts on it are exact; and no hart gets
+/// stuck.
+///
+/// Asked: numbers of 64 bits, as the type of lines gives; and a sound program, or a formed one whose harts keep the
+/// course and on half runs don't get stuck outside streams.
+pub fn scripts(program: &Program)
+    ensures course { CourseKeeps program.now }
+    ensures sound { SoundKeeps program.now }
 {
     let _ = program;
 }

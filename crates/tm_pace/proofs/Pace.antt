@@ -11,10 +11,11 @@ use Rattle.tm_plan_cases.specs.declared.cases.Case.{Case}
 use Rattle.tm_plan_cases.specs.Collected.{sum_of, owned, work_in, work_of}
 use Rattle.tm_base.specs.Lists.{count_from}
 use Rattle.tm_world.specs.Place.{harts, case_count, passes, start_of, end_of, exit_of}
-use Rattle.tm_world.specs.Run.{Step, hart_of, own, now, phase}
-use Rattle.tm_world.specs.Kinds.{first_of_hart, stream_at}
-use Rattle.tm_world.specs.Course.{last_phase}
-use Rattle.tm_world.specs.Work.{idle_lately}
+use Rattle.tm_world.specs.Run.{Step, Run, hart_of, own, now, phase}
+use Rattle.tm_world.specs.Kinds.{Legal, first_of_hart, stream_at}
+use Rattle.tm_world.specs.Course.{OnHalf, last_phase}
+use Rattle.tm_world.specs.Script.{change_of}
+use Rattle.tm_world.specs.Work.{idle_lately, work_steps}
 use Rattle.tm_legal.proofs.Order.{sum-zero}
 use Rattle.tm_stays.specs.Stays.{one_outside, outside_work, words_in}
 use Rattle.tm_stays.proofs.Stays.{Forward, short-by, works-little, work-parts as stays-parts}
@@ -22,10 +23,13 @@ use Rattle.tm_legal.proofs.Own.{own-here, own-there}
 use Rattle.tm_legal.proofs.Streams.{Onward}
 use Rattle.tm_memory.specs.Meet.{AllMeet}
 use Rattle.tm_stays.specs.Pace.{phase_work, Pace, KeepsPace}
+use Rattle.tm_pace.specs.Pace.{PaceFits}
 use Rattle.tm_memory.specs.Memory.{MemoryStep}
 use Rattle.tm_pace.specs.Laws.{PhasesEnd, PhasesAddUp, PaceBounds, PaceHolds, FaultedPaceHolds}
 use Rattle.tm_memory.proofs.Memory.{memory-half}
-use Rattle.tm_memory.proofs.Faults.{faulted-memory}
+use Rattle.tm_memory.proofs.Faults.{faulted-memory, faulted-half}
+use Rattle.tm_memory.proofs.Next.{none-stuck}
+use Rattle.tm_memory.proofs.Numbers.{accepted-results}
 use Rattle.tm_meet.proofs.Told.{StepsBy}
 use Rattle.tm_meet.proofs.Counts.{BarrierKept, phase-most}
 use Rattle.tm_memory.proofs.Meets.{tame}
@@ -112,20 +116,18 @@ paced-work p m h l pace first own k keeps =
     (omega arith) in
     omega arith
 
-pub pace-bounds : (p : Program) → PaceBounds p
+legal-work : (p : Program) → AllMeet p → (h : ℕ) → h < harts p → (pace : Pace) → PaceFits p h pace
+    → OnHalf p h (KeepsPace p h pace) → (r : Run) → Legal p r → work_steps p h (own h r.steps) ≤ work_of p.cases h
 unfolding work_of
-pace-bounds p m h l pace fits keeps next = record {
-  work = λ r legal.
-      let b = works-little p m.formed h l (tame p m h l)
-      (64 + case_count p * (passes p * (pace.sets + pace.runs + pace.ends) + pace.compares))
-      (λ r half. paced-work p m h l pace (first_of_hart r h) (own h r.steps) ((m.each h l).barrier r half)
-      (keeps r half)) r legal in
-      let e = work-parts p.cases h p.cases.cases in
-      let n = 64 + passes p * (256 + 32 * harts p + 32 * (30 + length (owned p.cases h))) in
-      let c = mul-le-mul_left (case_count p) fits in
-      omega arith;
-  next = next;
-}
+legal-work p m h l pace fits keeps r legal =
+    let b = works-little p m.formed h l (tame p m h l)
+    (64 + case_count p * (passes p * (pace.sets + pace.runs + pace.ends) + pace.compares))
+    (λ r half. paced-work p m h l pace (first_of_hart r h) (own h r.steps) ((m.each h l).barrier r half)
+    (keeps r half)) r legal in
+    let e = work-parts p.cases h p.cases.cases in
+    let n = 64 + passes p * (256 + 32 * harts p + 32 * (30 + length (owned p.cases h))) in
+    let c = mul-le-mul_left (case_count p) fits in
+    omega arith
 
 -- ---- runs of one memory
 
@@ -172,3 +174,15 @@ pace-holds p m h l pace fits keeps r memory =
 pub faulted-pace_holds : (p : Program) → FaultedPaceHolds p
 faulted-pace_holds p m h l pace fits keeps change small r faulted =
     pace-holds p m h l pace fits keeps r (faulted-memory p m change small r faulted)
+
+-- ---- the whole bound
+
+pub pace-bounds : (p : Program) → PaceBounds p
+pace-bounds p m h l pace fits keeps next = record {
+  work = legal-work p m h l pace fits keeps;
+  next = next;
+  faulted_work = λ lines accepted. faulted-pace_holds p m h l pace fits keeps (change_of p lines)
+      (accepted-results p lines accepted);
+  faulted_next = λ lines accepted r faulted. none-stuck p m.formed h l (m.each h l).order (m.each h l).fresh next r
+      (faulted-half p m (change_of p lines) (accepted-results p lines accepted) r faulted);
+}

@@ -11,7 +11,7 @@ use Rattle.tm_legal.specs.Laws.{OnLegal}
 use Rattle.tm_stays.specs.Stays.{words_in}
 use Rattle.tm_memory.specs.Meet.{Meets, AllMeet}
 use Rattle.tm_memory.specs.Memory.{OneMemory}
-use Rattle.tm_memory.specs.Faulted.{Change, Faulted}
+use Rattle.tm_world.specs.Faulted.{Change, Faulted}
 use Rattle.tm_pace.specs.Pace.{PaceFits}
 use Rattle.tm_stays.specs.Pace.{phase_work, Pace, KeepsPace}
 
@@ -27,7 +27,8 @@ PhasesAddUp p = AllMeet p → (h : ℕ) → h < harts p → (most : ℕ → ℕ)
     → OnLegal p h (λ first own. work_steps p h own
     ≤ sum_of most (count_from 0 (suc (last_phase p))) + passes p * words_in h p.cases.cases)
 
--- A hart that keeps a pace which fits, and on half runs doesn't get stuck, keeps its bound.
+-- A hart that keeps a pace which fits, and on half runs doesn't get stuck outside streams, keeps its bound, also on
+-- runs that an accepted script has changed.
 abbrev pub PaceBounds : Program → Type 0
 PaceBounds p = AllMeet p → (h : ℕ) → h < harts p → (pace : Pace) → PaceFits p h pace → OnHalf p h (KeepsPace p h pace)
     → OnHalf p h (GoesOn p h) → Bound p h

@@ -17,7 +17,7 @@ use Rattle.tm_plan_cases.specs.Layout.{table_size, HasTables}
 use Rattle.tm_plan_cases.specs.Tables.{dword_bytes, dwords_bytes, hart_table, hart_tables, case_table, table_bytes}
 use Rattle.tm_plan_cases.proofs.TableLemmas.{length-dword, length-dwords, length-hart, length-harts, tables-stand}
 use Rattle.tm_world.specs.Place.{harts, case_count, image_byte, byte_of}
-use Rattle.tm_world.specs.Writers.{stream_in}
+use Rattle.tm_plan_cases.specs.Streams.{stream_in}
 use Rattle.tm_world.proofs.Streams.{case-of, shaped-stream, stream-of}
 use Rattle.tm_runs.specs.World.{Sizes, image_dword, is_fixed_dword}
 use Rattle.tm_runs.proofs.Bytes.{joined-lt, joined-byte}

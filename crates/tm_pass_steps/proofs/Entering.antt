@@ -11,7 +11,7 @@ use Rattle.tm_plan_cases.specs.declared.program.Program.{Program}
 use Rattle.tm_plan_map.specs.Map.{guest_base, guest_end, tables_base, private_at, save_at, windows_base}
 use Rattle.tm_plan_cases.specs.Shaped.{MasksFit}
 use Rattle.tm_world.specs.Place.{harts, start_of, exit_of}
-use Rattle.tm_world.specs.Writers.{stream_in}
+use Rattle.tm_plan_cases.specs.Streams.{stream_in}
 use Rattle.tm_world.specs.Marks.{Mark, Exit}
 use Rattle.tm_runs.specs.Machine.{State, Entry, Table, get, put}
 use Rattle.tm_runs.specs.Runs.{Takes, Does, Each, Since, At}

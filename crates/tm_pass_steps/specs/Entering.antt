@@ -6,7 +6,7 @@ use Rattle.tm_plan_map.specs.Map.{tables_base, private_at}
 use Rattle.tm_plan_cases.specs.Shaped.{MasksFit}
 use Rattle.tm_world.specs.Place.{harts, case_count, passes, start_of}
 use Rattle.tm_world.specs.Marks.{Exit, Enter}
-use Rattle.tm_world.specs.Writers.{stream_in}
+use Rattle.tm_plan_cases.specs.Streams.{stream_in}
 use Rattle.tm_runs.specs.Machine.{State}
 use Rattle.tm_runs.specs.Runs.{At}
 use Rattle.tm_runs.specs.World.{support_at, image_dword}

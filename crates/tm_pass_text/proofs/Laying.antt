@@ -12,7 +12,7 @@ use Rattle.tm_plan_cases.specs.declared.cases.Stream.{Stream}
 use Rattle.tm_plan_cases.specs.declared.program.Program.{Program}
 use Rattle.tm_plan_map.specs.Map.{text_base, private_at}
 use Rattle.tm_world.specs.Place.{harts, case_count, start_of, halt_of, word_at}
-use Rattle.tm_world.specs.Writers.{stream_in}
+use Rattle.tm_plan_cases.specs.Streams.{stream_in}
 use Rattle.tm_world.specs.Whole.{Laid}
 use Rattle.tm_world.proofs.Streams.{case-of}
 use Rattle.tm_runs.proofs.Worlds.{text-at}

@@ -19,7 +19,7 @@ use Rattle.tm_world.specs.Run.{Writes}
 use Rattle.tm_world.specs.Writers.{may_write, may_write_window, case_of_phase}
 use Rattle.tm_world.specs.Course.{writes_in, reads_in, writes_shared, round_before}
 use Rattle.tm_world.proofs.Streams.{case-of}
-use Rattle.tm_world.proofs.Accesses.{writes-own}
+use Rattle.tm_world.proofs.Accesses.{writes-itself}
 use Rattle.tm_runs.specs.Machine.{Entry}
 use Rattle.tm_plan_map.proofs.Within.{within-true}
 use Rattle.tm_legal.proofs.Formed.{formed-sizes}
@@ -79,7 +79,7 @@ module _ (p : Program) (formed : Formed p) (fit : MasksFit p.cases p.masks) (h :
     verdict = λ d g l m f. no (not-cell d g l m) f;
     exact = λ d m u f g. let l : d < case_count p = let n = slice_get_within p.masks.cases d m f in omega
         (arith, fit.count) in
-        no (not-cell d h l number) (ap (writes_in (verdict_at d h) 8) g ∙ writes-own (verdict_at d h) u);
+        no (not-cell d h l number) (ap (writes_in (verdict_at d h) 8) g ∙ writes-itself (verdict_at d h) u);
     halt = λ z. absurd (halt z);
     halted = λ z. absurd (halt z);
     writes = λ _. may (phase_in exit past) e.access access;

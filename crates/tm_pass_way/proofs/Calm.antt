@@ -17,12 +17,13 @@ use Rattle.tm_world.specs.Lists.{IsFront}
 use Rattle.tm_world.specs.Place.{harts, case_count, start_of, end_of, exit_of, halt_of, is_private, is_flag}
 use Rattle.tm_world.specs.Place.{is_verdict, is_window}
 use Rattle.tm_world.specs.Run.{Writes}
-use Rattle.tm_world.specs.Writers.{may_write, may_write_window, stream_in}
+use Rattle.tm_world.specs.Writers.{may_write, may_write_window}
+use Rattle.tm_plan_cases.specs.Streams.{stream_in}
 use Rattle.tm_world.specs.Kinds.{stream_at, writes_flag}
 use Rattle.tm_world.specs.Marks.{Mark, Enter, comes_to, arrivals, whole_way}
 use Rattle.tm_world.specs.Course.{writes_in, reads_in, writes_shared, round_before}
 use Rattle.tm_world.proofs.Streams.{case-of}
-use Rattle.tm_world.proofs.Accesses.{writes-own}
+use Rattle.tm_world.proofs.Accesses.{writes-itself}
 use Rattle.tm_runs.specs.Machine.{Entry}
 use Rattle.tm_runs.specs.Runs.{Does, Each}
 use Rattle.tm_runs.specs.Course.{trail}
@@ -159,7 +160,7 @@ module _ (p : Program) (formed : Formed p) (fit : MasksFit p.cases p.masks) (h :
     verdict = λ c g l m f. no (not-reports c g e l m s.access) f;
     exact = λ c m v f g. no (not-reports c h e (let n = slice_get_within p.masks.cases c m f in
         omega (arith, fit.count)) number s.access) (ap (writes_in (verdict_at c h) 8) g
-        ∙ writes-own (verdict_at c h) v);
+        ∙ writes-itself (verdict_at c h) v);
     halt = λ z. absurd (s.halt z);
     halted = λ z. absurd (s.halt z);
     writes = λ _. writes-own (phase_in exit past) e.access s.access;

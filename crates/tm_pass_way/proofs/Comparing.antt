@@ -14,7 +14,7 @@ use Rattle.tm_world.specs.Place.{harts, case_count, passes, start_of, exit_of, h
 use Rattle.tm_world.specs.Marks.{Mark, arrivals, whole_way}
 use Rattle.tm_world.specs.Course.{round_before, writes_in}
 use Rattle.tm_world.specs.Kinds.{writes_flag}
-use Rattle.tm_world.proofs.Accesses.{writes-own}
+use Rattle.tm_world.proofs.Accesses.{writes-itself}
 use Rattle.tm_runs.specs.Machine.{State, Entry}
 use Rattle.tm_runs.specs.Runs.{Takes}
 use Rattle.tm_runs.specs.World.{world_of}
@@ -133,7 +133,7 @@ module _ (p : Program) (formed : Formed p) (fit : MasksFit p.cases p.masks) (h :
         by (inr x) = let e : c ≡ d = omega arith in
             subst (λ (k : ℕ). any (reports k h) (a.last ∷ (a.entries ++ s.log))
             ≡ true) e (ap (λ (b : Bool). b || any (reports c h) (a.entries ++ s.log))
-            (ap (writes_in (verdict_at c h) 8) a.access ∙ writes-own (verdict_at c h) 0))
+            (ap (writes_in (verdict_at c h) 8) a.access ∙ writes-itself (verdict_at c h) 0))
 
     there : Small (world_of p h) t → Ready p h place q (suc c) (o + n) (ms ++ new) t
     there small =

@@ -16,7 +16,8 @@ use Rattle.tm_plan_cases.specs.Shaped.{MasksFit}
 use Rattle.tm_world.specs.Lists.{IsFront}
 use Rattle.tm_world.specs.Place.{harts, case_count, passes, exit_of, halt_of, byte_of}
 use Rattle.tm_world.specs.Run.{Step, Always, now, first_state, pc_of, access_of, phase, in_phase, last_write}
-use Rattle.tm_world.specs.Writers.{case_of_phase, stream_in}
+use Rattle.tm_world.specs.Writers.{case_of_phase}
+use Rattle.tm_plan_cases.specs.Streams.{stream_in}
 use Rattle.tm_world.specs.Kinds.{IsOpening, HalfPath, stream_at}
 use Rattle.tm_world.specs.Marks.{Mark, Enter, comes_to, arrivals, whole_way}
 use Rattle.tm_world.specs.Course.{OnHalf, KeepsOrder, EntersFresh, KeepsVerdicts, HasAllVerdicts, KeepsWrites}
@@ -26,7 +27,7 @@ use Rattle.tm_world.specs.Course.{signals, this_phase, round_before}
 use Rattle.tm_world.specs.Verdict.{WritesExactly, IsVerdict}
 use Rattle.tm_world.specs.Writers.{run_phase}
 use Rattle.tm_world.specs.Work.{GoesOn}
-use Rattle.tm_world.proofs.Accesses.{writes-own}
+use Rattle.tm_world.proofs.Accesses.{writes-itself}
 use Rattle.tm_runs.specs.Machine.{State, Entry, get}
 use Rattle.tm_runs.specs.Runs.{Stopped}
 use Rattle.tm_runs.specs.Runs.{KeepsUntil}
@@ -167,7 +168,7 @@ module _ (p : Program) (formed : Formed p) (fit : MasksFit p.cases p.masks) (h :
         (λ x o past s path c v l e.
         let some = formed.program.cases.passes.0 in
         let r = (fact x o past s path).verdict c h l number
-        (ap (writes_in (verdict_at c h) 8) e ∙ writes-own (verdict_at c h) v) in
+        (ap (writes_in (verdict_at c h) 8) e ∙ writes-itself (verdict_at c h) v) in
         let m = r.1.ended (passes p - 1) (omega arith) in
         subst (λ (q : ℕ). run_phase p c (passes p - 1) < q) (sym (phase-entries exit past)) m)
 

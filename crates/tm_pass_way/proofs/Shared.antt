@@ -21,7 +21,7 @@ use Rattle.tm_world.specs.Writers.{may_write, may_write_window, may_write_runnin
 use Rattle.tm_world.specs.Kinds.{writes_flag}
 use Rattle.tm_world.specs.Course.{writes_in, reads_in, writes_shared, round_before}
 use Rattle.tm_world.proofs.Streams.{case-of}
-use Rattle.tm_world.proofs.Accesses.{one-dword, writes-own}
+use Rattle.tm_world.proofs.Accesses.{one-dword, writes-itself}
 use Rattle.tm_runs.specs.Machine.{Entry}
 use Rattle.tm_legal.proofs.Formed.{formed-sizes}
 use Rattle.tm_legal.specs.Tame.{Formed}
@@ -70,7 +70,7 @@ module _ (p : Program) (formed : Formed p) (fit : MasksFit p.cases p.masks) (h :
     verdict = λ d g l m f. no (not-cell d g l m) f;
     exact = λ d m u f g. let l : d < case_count p = let n = slice_get_within p.masks.cases d m f in omega
         (arith, fit.count) in
-        no (not-cell d h l number) (ap (writes_in (verdict_at d h) 8) g ∙ writes-own (verdict_at d h) u);
+        no (not-cell d h l number) (ap (writes_in (verdict_at d h) 8) g ∙ writes-itself (verdict_at d h) u);
     halt = λ z. absurd (s.halt z);
     halted = λ z. absurd (s.halt z);
     writes = λ _. subst (Writes (λ b. IsTrue (may_write p (phase_in exit past) h b)
@@ -116,7 +116,7 @@ module _ (p : Program) (formed : Formed p) (fit : MasksFit p.cases p.masks) (h :
     behind = λ c l g. s.from;
     verdict = λ d g l m f. no (ap (writes_in (verdict_at d g) 8) is) f;
     exact = λ d m u f g. no (ap (writes_in (verdict_at d h) 8) is)
-        (ap (writes_in (verdict_at d h) 8) g ∙ writes-own (verdict_at d h) u);
+        (ap (writes_in (verdict_at d h) 8) g ∙ writes-itself (verdict_at d h) u);
     halt = λ z. absurd (s.halt z);
     halted = λ z. absurd (s.halt z);
     writes = λ _. subst (Writes (λ b. IsTrue (may_write p (phase_in exit past) h b)

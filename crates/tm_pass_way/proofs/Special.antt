@@ -19,11 +19,12 @@ use Rattle.tm_plan_cases.specs.Shaped.{MasksFit}
 use Rattle.tm_world.specs.Place.{harts, case_count, passes, start_of, end_of, exit_of, halt_of, is_private, is_flag}
 use Rattle.tm_world.specs.Place.{is_verdict, is_window}
 use Rattle.tm_world.specs.Run.{Writes}
-use Rattle.tm_world.specs.Writers.{may_write, may_write_window, stream_in}
+use Rattle.tm_world.specs.Writers.{may_write, may_write_window}
+use Rattle.tm_plan_cases.specs.Streams.{stream_in}
 use Rattle.tm_world.specs.Kinds.{writes_flag}
 use Rattle.tm_world.specs.Course.{writes_in, reads_in, writes_shared, round_before}
 use Rattle.tm_world.proofs.Streams.{case-of}
-use Rattle.tm_world.proofs.Accesses.{writes-own}
+use Rattle.tm_world.proofs.Accesses.{writes-itself}
 use Rattle.tm_runs.specs.Machine.{Entry, Table}
 use Rattle.tm_plan_map.proofs.Within.{within-true}
 use Rattle.tm_legal.proofs.Formed.{formed-sizes}
@@ -117,7 +118,7 @@ module _ (p : Program) (formed : Formed p) (fit : MasksFit p.cases p.masks) (h :
     exact = λ d n u f g.
         let z : Write (verdict_at c h) 8 v ≡ Write (verdict_at d h) 8 u = sym is ∙ g in
         let s = same d h number (ap (λ (b : ℕ). nat_lt (verdict_at c h) (b + 8) && nat_lt b (verdict_at c h + 8))
-        (sym (address z)) ∙ writes-own (verdict_at c h) 0) in
+        (sym (address z)) ∙ writes-itself (verdict_at c h) 0) in
         let f2 : slice_get p.masks.cases c ≡ Some n = ap (slice_get p.masks.cases) (sym s.0) ∙ f in
         let w : m ≡ n = some-same (sym mask ∙ f2) in
         subst (λ (x : ℕ). IsVerdictIn p n h x past u) (sym s.0) (subst (λ (x : CaseMask). IsVerdictIn p x h c past u) w
@@ -176,7 +177,7 @@ module _ (p : Program) (formed : Formed p) (fit : MasksFit p.cases p.masks) (h :
           let s : c ≡ d = omega arith in
           subst (λ (k : ℕ). any (reports k h) (e ∷ past) ≡ true) s
           (ap (λ (b : Bool). b || any (reports c h) past) (ap (writes_in (verdict_at c h) 8) is
-          ∙ writes-own (verdict_at c h) 0))
+          ∙ writes-itself (verdict_at c h) 0))
 
       not-read : (a : ℕ) → reads_in a 8 e.access ≡ false
       not-read a = ap (reads_in a 8) is

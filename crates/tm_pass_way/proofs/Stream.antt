@@ -18,7 +18,7 @@ use Rattle.tm_world.specs.Kinds.{stream_at, writes_flag}
 use Rattle.tm_world.specs.Marks.{Enter, End, comes_to, arrivals}
 use Rattle.tm_world.specs.Course.{writes_in, round_before}
 use Rattle.tm_world.proofs.Streams.{case-of}
-use Rattle.tm_world.proofs.Accesses.{writes-own}
+use Rattle.tm_world.proofs.Accesses.{writes-itself}
 use Rattle.tm_runs.specs.Machine.{World, State, Entry, Strays, StreamAccess}
 use Rattle.tm_runs.specs.World.{world_of, bounds, bounds_at}
 use Rattle.tm_runs.proofs.Arrivals.{Quiet as Unmarked, quiet-off, quiet-in, ends, arrivals-none, arrivals-end}
@@ -148,7 +148,7 @@ module _ (p : Program) (formed : Formed p) (fit : MasksFit p.cases p.masks) (h :
     behind = λ d l g. absurd (no-enter d e l s g);
     verdict = λ d g l m f. no (not-reports d g e l m s) f;
     exact = λ d m v f g. no (not-reports d h e (let n = slice_get_within p.masks.cases d m f in
-        omega (arith, fit.count)) number s) (ap (writes_in (verdict_at d h) 8) g ∙ writes-own (verdict_at d h) v);
+        omega (arith, fit.count)) number s) (ap (writes_in (verdict_at d h) 8) g ∙ writes-itself (verdict_at d h) v);
     halt = λ z. absurd (no-halt e s z);
     halted = λ z. absurd (no-halt e s z);
     writes = λ z. let f : ◌≡◌ {A = Option ℕ} None (Some c) = sym z ∙ held e.pc s.from s.below in cc;

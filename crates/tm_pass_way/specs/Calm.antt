@@ -12,7 +12,7 @@ use Rattle.tm_runs.specs.World.{is_fixed_dword}
 use Rattle.tm_runs.specs.Runs.{Does, Each}
 use Rattle.tm_blocks_base.specs.Laws.{Uses}
 use Rattle.tm_plan_cases.specs.declared.cases.Stream.{Stream}
-use Rattle.tm_world.specs.Writers.{stream_in}
+use Rattle.tm_plan_cases.specs.Streams.{stream_in}
 use Rattle.tm_table.specs.declared.state.Access.TheVariants.{Write}
 use Rattle.tm_plan_cases.specs.declared.masks.CaseMask.{CaseMask}
 use Rattle.tm_pass_way.specs.Parts.{Memos, IsFound}

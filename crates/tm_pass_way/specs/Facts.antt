@@ -13,7 +13,8 @@ use Rattle.tm_base.specs.Lists.{any}
 use Rattle.tm_world.specs.Lists.{or_else, IsFront}
 use Rattle.tm_world.specs.Place.{harts, case_count, passes, exit_of, halt_of, byte_of}
 use Rattle.tm_world.specs.Run.{Writes, written}
-use Rattle.tm_world.specs.Writers.{may_write, case_of_phase, stream_in}
+use Rattle.tm_world.specs.Writers.{may_write, case_of_phase}
+use Rattle.tm_plan_cases.specs.Streams.{stream_in}
 use Rattle.tm_world.specs.Kinds.{stream_at}
 use Rattle.tm_world.specs.Marks.{Enter, comes_to, arrivals, whole_way}
 use Rattle.tm_world.specs.Course.{writes_in, reads_in, writes_shared, round_before}

@@ -16,7 +16,8 @@ use Rattle.tm_base.specs.Lists.{count_from}
 use Rattle.tm_world.specs.Lists.{first_of}
 use Rattle.tm_world.specs.Place.{harts, case_count, passes}
 use Rattle.tm_world.specs.Run.{Run, own, first_state, earliest}
-use Rattle.tm_world.specs.Writers.{stream_in, may_store}
+use Rattle.tm_world.specs.Writers.{may_store}
+use Rattle.tm_plan_cases.specs.Streams.{stream_in}
 use Rattle.tm_world.specs.Kinds.{Legal, IsOpening}
 use Rattle.tm_world.specs.Slots.{another_may_store}
 use Rattle.tm_world.specs.Checked.{IsCheckedByte}

@@ -12,7 +12,8 @@ use Rattle.tm_plan_cases.specs.Collected.{is_declared, collector}
 use Rattle.tm_world.specs.Lists.{or_else}
 use Rattle.tm_world.specs.Place.{harts, case_count, passes, exit_of, inside}
 use Rattle.tm_world.specs.Run.{Step, own, now, first_state, hart_of, access_of, phase, got, earliest, Reads}
-use Rattle.tm_world.specs.Writers.{stream_in, may_store, case_of_phase, writers, wrote, settle, settled}
+use Rattle.tm_world.specs.Writers.{may_store, case_of_phase, writers, wrote, settle, settled}
+use Rattle.tm_plan_cases.specs.Streams.{stream_in}
 use Rattle.tm_world.specs.Kinds.{Legal, phase_of, legal_owed, another, flag_writes, IsOpening}
 use Rattle.tm_world.specs.Course.{KeepsCollecting}
 use Rattle.tm_world.specs.Whole.{Course, first_byte}

@@ -16,7 +16,8 @@ use Rattle.tm_base.specs.Lists.{any}
 use Rattle.tm_world.specs.Lists.{or_else}
 use Rattle.tm_world.specs.Place.{harts, case_count, passes, end_of, exit_of, inside}
 use Rattle.tm_world.specs.Run.{Step, now, first_state, pc_of, access_of, phase, in_phase, written, last_write}
-use Rattle.tm_world.specs.Writers.{stream_in, case_of_phase}
+use Rattle.tm_world.specs.Writers.{case_of_phase}
+use Rattle.tm_plan_cases.specs.Streams.{stream_in}
 use Rattle.tm_world.specs.Kinds.{IsOpening, stream_at, flag_writes}
 use Rattle.tm_world.specs.Marks.{Mark, Exit, Enter, End, Halt, Stray, comes_to, arrivals, visited}
 use Rattle.tm_world.specs.Course.{signals, this_phase}

@@ -12,7 +12,8 @@ use Rattle.tm_plan_cases.specs.Collected.{is_declared}
 use Rattle.tm_plan_map.specs.Slots.{instr_of, load_width, store_width, is_jump, slot_addr, slot_target, stores_to}
 use Rattle.tm_plan_cases.specs.Shaped.{AreShaped, IsShapedSlot}
 use Rattle.tm_world.specs.Lists.{those}
-use Rattle.tm_world.specs.Writers.{stream_in, may_store}
+use Rattle.tm_world.specs.Writers.{may_store}
+use Rattle.tm_plan_cases.specs.Streams.{stream_in}
 use Rattle.tm_world.specs.Slots.{named, another_may_store, is_own_byte, load_bytes, store_bytes, slot_of}
 use Rattle.tm_world.specs.Slots.{slot_or_none, word_slot, words_slots, slots_in}
 use Rattle.tm_world.proofs.Streams.{shaped-stream}

@@ -13,7 +13,7 @@ use Rattle.tm_plan_cases.specs.declared.cases.Stream.{Stream}
 use Rattle.tm_plan_map.specs.Slots.{instr_of}
 use Rattle.tm_world.specs.Place.{harts, case_count, start_of, end_of, exit_of, inside}
 use Rattle.tm_world.specs.Run.{Step, now, first_state, pc_of, access_of, phase, in_phase, written, last_write}
-use Rattle.tm_world.specs.Writers.{stream_in}
+use Rattle.tm_plan_cases.specs.Streams.{stream_in}
 use Rattle.tm_world.specs.Kinds.{IsOpening}
 use Rattle.tm_world.specs.Whole.{first_byte}
 use Rattle.tm_world.specs.Slots.{slots_in}

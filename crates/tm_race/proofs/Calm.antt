@@ -8,7 +8,8 @@ use Rattle.tm_plan_cases.specs.declared.cases.Case.{Case}
 use Rattle.tm_plan_cases.specs.declared.cases.Stream.{Stream}
 use Rattle.tm_plan_cases.specs.Shaped.{AreShaped}
 use Rattle.tm_plan_map.specs.Map.{windows_base}
-use Rattle.tm_world.specs.Writers.{some_store_to, stream_in, may_store}
+use Rattle.tm_world.specs.Writers.{some_store_to, may_store}
+use Rattle.tm_plan_cases.specs.Streams.{stream_in}
 use Rattle.tm_world.specs.Slots.{slots_in, another_may_store}
 use Rattle.tm_world.specs.Trails.{RaceDependent}
 use Rattle.tm_world.proofs.Streams.{stream-case}

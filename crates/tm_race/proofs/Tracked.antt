@@ -11,7 +11,7 @@ use Rattle.tm_plan_cases.specs.declared.masks.CaseMask.{CaseMask}
 use Rattle.tm_plan_cases.specs.Collected.{is_declared}
 use Rattle.tm_plan_cases.specs.Shaped.{AreShaped, IsShapedMask, MasksFit}
 use Rattle.tm_plan_map.specs.Map.{windows_base, windows_size}
-use Rattle.tm_world.specs.Writers.{stream_in}
+use Rattle.tm_plan_cases.specs.Streams.{stream_in}
 use Rattle.tm_world.specs.Checked.{IsCheckedByte, AreChecked}
 use Rattle.tm_world.proofs.Streams.{case-of}
 use Rattle.tm_plane.specs.Plane.{in_plane}

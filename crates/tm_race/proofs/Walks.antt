@@ -9,7 +9,7 @@ use Rattle.tm_plan_cases.specs.declared.cases.Cases.{Cases}
 use Rattle.tm_plan_cases.specs.declared.cases.Stream.{Stream}
 use Rattle.tm_plan_cases.specs.Collected.{slots_of}
 use Rattle.tm_base.specs.Lists.{any}
-use Rattle.tm_world.specs.Writers.{stream_in}
+use Rattle.tm_plan_cases.specs.Streams.{stream_in}
 use Rattle.tm_world.specs.Slots.{Slot, slots_in}
 use Rattle.tm_world.specs.Trails.{RaceDependent}
 use Rattle.tm_race_walk.specs.Forward.{Stands, ReadsHeld, HeldAfter, Raised, Turns}

@@ -9,7 +9,8 @@ use Rattle.tm_plan_cases.specs.declared.masks.CaseMask.{CaseMask}
 use Rattle.tm_plan_cases.specs.Collected.{is_declared, slots_of}
 use Rattle.tm_plan_map.specs.Map.{windows_base, windows_size}
 use Rattle.tm_base.specs.Lists.{any, count_from}
-use Rattle.tm_world.specs.Writers.{may_store, stream_in}
+use Rattle.tm_world.specs.Writers.{may_store}
+use Rattle.tm_plan_cases.specs.Streams.{stream_in}
 use Rattle.tm_world.specs.Slots.{Slot, slots_in, another_may_store}
 
 -- ---- a walk over slots

@@ -5,7 +5,10 @@ use Rattle.tm_legal.specs.Tame.{Formed}
 use Rattle.tm_memory.specs.Meet.{AllMeet}
 use Rattle.tm_sound.specs.Parts.{SoundParts}
 use Rattle.tm_sound.specs.Laws.{SoundByHarts}
+use Rattle.tm_world.specs.Script.{change_of}
 use Rattle.tm_memory.proofs.Meets.{course-meets}
+use Rattle.tm_memory.proofs.Faults.{faulted-half}
+use Rattle.tm_memory.proofs.Numbers.{accepted-results}
 use Rattle.tm_meet.proofs.PlainLegal.{plain-legal}
 use Rattle.tm_meet.proofs.First.{course-kept}
 use Rattle.tm_pace.proofs.Pace.{pace-bounds}
@@ -23,6 +26,7 @@ course p s = course-kept p (formed p s) (λ h l. (s.each h l).course) (λ h l. (
 pub sound : (p : Program) → SoundByHarts p
 sound p s = record {
   program = s.program;
+  typed = s.typed;
   masks = s.masks;
   tables = s.tables;
   course = course p s;
@@ -31,4 +35,5 @@ sound p s = record {
       (λ h l. (s.each h l).exact);
   exact = λ h l. (s.each h l).exact;
   plain = plain-legal p (meets p s);
+  faulted = λ lines accepted. faulted-half p (meets p s) (change_of p lines) (accepted-results p lines accepted);
 }

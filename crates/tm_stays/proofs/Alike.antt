@@ -22,7 +22,7 @@ use Rattle.tm_plan_map.specs.Slots.{load_width, is_access}
 use Rattle.tm_world.specs.Lists.{or_else}
 use Rattle.tm_world.specs.Place.{harts, case_count, exit_of, start_of, inside, word_at}
 use Rattle.tm_world.specs.Run.{Step, own, now, first_state, access_of, read_value, phase}
-use Rattle.tm_world.specs.Writers.{stream_in}
+use Rattle.tm_plan_cases.specs.Streams.{stream_in}
 use Rattle.tm_world.specs.Kinds.{IsOpening}
 use Rattle.tm_world.specs.Verdict.{Register, end_value, left_with}
 use Rattle.tm_world.specs.Writers.{run_phase}

@@ -11,7 +11,8 @@ use Rattle.tm_plan_cases.specs.Collected.{is_declared, collector}
 use Rattle.tm_base.specs.Lists.{any}
 use Rattle.tm_world.specs.Place.{harts, case_count, passes, is_flag, is_verdict, is_private, is_window}
 use Rattle.tm_world.specs.Run.{Step, own, now, first_state, hart_of, access_of, Writes}
-use Rattle.tm_world.specs.Writers.{stream_in, is_store_to, some_store_to, may_store, case_of_phase, may_write}
+use Rattle.tm_world.specs.Writers.{is_store_to, some_store_to, may_store, case_of_phase, may_write}
+use Rattle.tm_plan_cases.specs.Streams.{stream_in}
 use Rattle.tm_world.specs.Writers.{may_write_running, may_write_window}
 use Rattle.tm_world.specs.Kinds.{Legal, Path, phase_of, stream_at}
 use Rattle.tm_world.specs.Course.{OnHalf, KeepsOrder, KeepsWrites, OutsideWrites}

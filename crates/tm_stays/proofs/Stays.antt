@@ -14,7 +14,7 @@ use Rattle.tm_plan_cases.specs.Collected.{sum_of, slots_of}
 use Rattle.tm_base.specs.Lists.{count_from}
 use Rattle.tm_world.specs.Place.{harts, case_count, passes, start_of, end_of, inside}
 use Rattle.tm_world.specs.Run.{Step, Always, own, now, first_state}
-use Rattle.tm_world.specs.Writers.{stream_in}
+use Rattle.tm_plan_cases.specs.Streams.{stream_in}
 use Rattle.tm_world.specs.Kinds.{IsOpening, stream_at}
 use Rattle.tm_world.specs.Marks.{Mark, Exit, Enter, End, Halt, Stray, comes_to, arrivals, visited, pass_way, whole_way}
 use Rattle.tm_world.specs.Course.{KeepsOrder}

@@ -6,7 +6,8 @@ use Rattle.tm_plan_cases.specs.declared.cases.Stream.{Stream}
 use Rattle.tm_plan_map.specs.Slots.{instr_of, load_width}
 use Rattle.tm_world.specs.Place.{harts, passes, exit_of}
 use Rattle.tm_world.specs.Run.{Run, now, phase}
-use Rattle.tm_world.specs.Writers.{stream_in, case_of_phase}
+use Rattle.tm_world.specs.Writers.{case_of_phase}
+use Rattle.tm_plan_cases.specs.Streams.{stream_in}
 use Rattle.tm_world.specs.Kinds.{Legal, stream_at}
 use Rattle.tm_world.specs.Course.{OnHalf, KeepsOrder, KeepsWrites}
 use Rattle.tm_world.specs.Whole.{WritesRight}

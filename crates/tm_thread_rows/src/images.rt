@@ -1,6 +1,5 @@
 // The images that are run.
 ghost use Rattle.std.specs.Prelude.{IfSome};
-ghost use Rattle.tm_plan_cases.specs.Shaped.{IsTyped};
 ghost use Rattle.tm_world.specs.Sound.{Sound};
 
 use std::alloc::Global;
@@ -37,8 +36,7 @@ pub const RACING: Texts = Texts {
 
 /// The image of two texts, if they are read.
 pub fn image_of(alloc: Global, texts: Texts) -> Option<Image>
-    ensures typed { IfSome result (λ image. IsTyped image.program) }
-    ensures sound { IfSome result (λ image. Sound image.program) }
+    ensures { IfSome result (λ image. Sound image.program) }
 {
     let topology = texts.topology.as_bytes();
     let template = texts.template.as_bytes();

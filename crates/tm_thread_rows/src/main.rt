@@ -2,7 +2,6 @@
 //! no contract can say: that threads drive the harts at all, and that the harts come to their ends.
 #![tactic(auto)]
 
-ghost use Rattle.tm_plan_cases.specs.Shaped.{IsTyped};
 ghost use Rattle.tm_world.specs.Sound.{Sound};
 
 mod commands;
@@ -52,8 +51,7 @@ fn print_drawn<R: Threads + Wait + Sync, O: Sink>(
     image: &Image,
     out: &mut O,
 ) -> Result<(), u8>
-    requires typed { IsTyped image.now.program }
-    requires sound { Sound image.now.program }
+    requires { Sound image.now.program }
 {
     let drive = driven(rt, alloc, &image.program);
     print(
@@ -71,8 +69,7 @@ fn print_racing<R: Threads + Wait + Sync, O: Sink>(
     image: &Image,
     out: &mut O,
 ) -> Result<(), u8>
-    requires typed { IsTyped image.now.program }
-    requires sound { Sound image.now.program }
+    requires { Sound image.now.program }
 {
     let one = alone(rt, alloc, &image.program);
     print(out, part(alloc, "turns of one hart alone\n", &ALONE, one))?;

@@ -1,6 +1,5 @@
 // Mills over an image: harts that threads drive, and turns one by one.
 ghost use Rattle.std.specs.Prelude.{IfOk};
-ghost use Rattle.tm_plan_cases.specs.Shaped.{IsTyped};
 ghost use Rattle.tm_world.specs.Sound.{Sound};
 ghost use Rattle.tm_harts.specs.Mills.{AreAllOf};
 
@@ -12,18 +11,17 @@ use std::thread::Threads;
 use tm_base::NoMemory;
 use tm_guest::{Guest, RoundEnd, Turn};
 use tm_harts::{Mill, Seat, run_threads};
+use tm_memory::laws::scripts;
 use tm_plan_cases::Program;
 use tm_plan_journal::Journal;
 use tm_plan_script::Faults;
-use tm_world_script::laws::scripts;
 
 /// The most events of a journal here.
 const EVENTS: u64 = 4_000_000;
 
 /// A mill over a program, and all its seats.
 fn mill_of(alloc: Global, program: &Program) -> Result<(Mill<'_>, Vec<Seat<'_>>), NoMemory>
-    requires typed { IsTyped program.now }
-    requires sound { Sound program.now }
+    requires { Sound program.now }
     ensures { IfOk result (λ r. AreAllOf r.0 r.1.items) }
 {
     // no hart of it gets stuck
@@ -96,8 +94,7 @@ pub fn driven<R: Threads + Wait + Sync>(
     alloc: Global,
     program: &Program,
 ) -> Result<[bool; 4], NoMemory>
-    requires typed { IsTyped program.now }
-    requires sound { Sound program.now }
+    requires { Sound program.now }
 {
     let (mill, mut seats) = mill_of(alloc, program)?;
     let gate = HoldingGate::new();
@@ -126,8 +123,7 @@ pub const ALONE: [&str; 4] = [
 /// A hart that takes turns alone comes to where it waits for another one, and then makes no event. What is left is
 /// finished in round order.
 pub fn alone<R: Wait>(rt: &R, alloc: Global, program: &Program) -> Result<[bool; 4], NoMemory>
-    requires typed { IsTyped program.now }
-    requires sound { Sound program.now }
+    requires { Sound program.now }
 {
     let (mill, mut seats) = mill_of(alloc, program)?;
     let steps = turns_at(rt, &mill, &mut seats, 0);
@@ -151,8 +147,7 @@ pub const IN_TURN: [&str; 4] = [
 
 /// Two harts that take a turn each make the first two events.
 pub fn in_turn<R: Wait>(rt: &R, alloc: Global, program: &Program) -> Result<[bool; 4], NoMemory>
-    requires typed { IsTyped program.now }
-    requires sound { Sound program.now }
+    requires { Sound program.now }
 {
     let (mill, mut seats) = mill_of(alloc, program)?;
     let first = turn_at(rt, &mill, &mut seats, 0);

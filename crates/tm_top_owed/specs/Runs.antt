@@ -7,8 +7,8 @@ use Rattle.tm_plan_cases.specs.declared.journal.Event.{Event}
 use Rattle.tm_plan_journal.specs.Journaled.{Journaled}
 use Rattle.tm_world.specs.Place.{harts, halt_of}
 use Rattle.tm_world.specs.Kinds.{Plain, Legal}
-use Rattle.tm_world_script.specs.Script.{FaultedRun}
-use Rattle.tm_guest.specs.Replay.{run_of}
+use Rattle.tm_world.specs.Script.{FaultedRun}
+use Rattle.tm_world.specs.Replay.{run_of}
 use Rattle.tm_guest.specs.Guested.{Guested, state, fresh}
 use Rattle.tm_guest.specs.Rounds.{Goes, AllHalted}
 use Rattle.tm_report_run.specs.Verdicts.{verdicts_of}

@@ -10,11 +10,10 @@ use Rattle.tm_faults.specs.declared.role.Role.TheVariants as roles
 use Rattle.tm_image_build.specs.Opened.{opened}
 use Rattle.tm_plan_cases.specs.declared.program.Program.{Program}
 use Rattle.tm_plan_cases.specs.declared.journal.Event.{Event}
-use Rattle.tm_plan_cases.specs.Shaped.{IsTyped}
 use Rattle.tm_plan_script.specs.declared.faults.FaultLine.{FaultLine}
 use Rattle.tm_world.specs.Sound.{Sound}
-use Rattle.tm_world_script.specs.Script.{NeverStuck}
-use Rattle.tm_world_script.specs.Laws.{SoundKeeps}
+use Rattle.tm_world.specs.Work.{NeverStuck}
+use Rattle.tm_memory.specs.Laws.{SoundKeeps}
 use Rattle.tm_guest.specs.declared.turn.RoundEnd.{RoundEnd}
 use Rattle.tm_guest.specs.declared.turn.RoundEnd.TheVariants as ends
 use Rattle.tm_guest.specs.Guested.{Guested, fresh}
@@ -106,10 +105,10 @@ opened_for r desk file program seed there h image = record {
 -- ---- a simulation in round order
 
 -- no hart of a sound program gets stuck under no script
-pub never_stuck : (p : Program) (lines : List FaultLine) → SoundKeeps p → IsTyped p → Sound p → lines ≡ []
+pub never_stuck : (p : Program) (lines : List FaultLine) → SoundKeeps p → Sound p → lines ≡ []
     → NeverStuck p lines
-never_stuck p lines keeps typed sound none =
-    subst (NeverStuck p) (sym none) (keeps typed sound [] (All-nil _)).unstuck
+never_stuck p lines keeps sound none =
+    subst (NeverStuck p) (sym none) (keeps sound [] (All-nil _)).unstuck
 
 -- turns that have ended from a fresh guest on
 pub over : (p : Program) (lines : List FaultLine) (limit : ℕ) (g t : Guested) (end : RoundEnd)

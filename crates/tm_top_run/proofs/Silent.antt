@@ -17,7 +17,7 @@ use Rattle.tm_world.specs.Place.{harts, round_count}
 use Rattle.tm_world.specs.Course.{writes_in}
 use Rattle.tm_world.specs.Kinds.{Legal}
 use Rattle.tm_world.specs.Sound.{Sound, NotReported}
-use Rattle.tm_guest.specs.Replay.{replay, steps_of, run_of}
+use Rattle.tm_world.specs.Replay.{replay, steps_of, run_of}
 use Rattle.tm_report_run.specs.Verdicts.{put_at, latest, verdict_in, verdicts_of}
 use Rattle.tm_top_run.specs.Laws.{NoReport}
 

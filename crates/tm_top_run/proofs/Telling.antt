@@ -8,8 +8,8 @@ use Rattle.tm_plan_script.specs.declared.faults.FaultLine.{FaultLine}
 use Rattle.tm_world.specs.Place.{harts}
 use Rattle.tm_world.specs.Kinds.{Plain}
 use Rattle.tm_world.specs.Sound.{Sound}
-use Rattle.tm_world_script.specs.Script.{FaultedRun}
-use Rattle.tm_guest.specs.Replay.{run_of}
+use Rattle.tm_world.specs.Script.{FaultedRun}
+use Rattle.tm_world.specs.Replay.{run_of}
 use Rattle.tm_guest.specs.Guested.{Guested, run}
 use Rattle.tm_guest.specs.Rounds.{AllHalted}
 use Rattle.tm_report_run.specs.Verdicts.{verdict_in, verdicts_of}

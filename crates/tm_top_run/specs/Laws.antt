@@ -5,7 +5,7 @@ use Rattle.tm_plan_cases.specs.declared.journal.Event.{Event}
 use Rattle.tm_plan_script.specs.declared.faults.FaultLine.{FaultLine}
 use Rattle.tm_world.specs.Kinds.{Legal}
 use Rattle.tm_world.specs.Sound.{Sound}
-use Rattle.tm_guest.specs.Replay.{run_of}
+use Rattle.tm_world.specs.Replay.{run_of}
 use Rattle.tm_report_run.specs.Verdicts.{verdicts_of}
 use Rattle.tm_top_owed.specs.Runs.{AllAgree}
 

@@ -1,6 +1,5 @@
 // The image of a run, read and opened.
 ghost use Rattle.std.specs.Prelude.{◌≡◌, ◌≤◌, IsTrue, IfErr, IfOk};
-ghost use Rattle.tm_plan_cases.specs.Shaped.{IsTyped};
 ghost use Rattle.tm_image_build.specs.Opened.{opened};
 ghost use Rattle.tm_words.specs.Words.{run_in};
 ghost use Rattle.tm_words.specs.Words.Command.{to_run};
@@ -26,7 +25,6 @@ const IMAGE_LIMIT: u64 = 16_777_216;
 #[tactic(auto, using(tm_top_line::proofs::Named::image_calm))]
 fn opened_of(alloc: Global, file: &Bytes) -> Result<Image, Stop>
     ensures ok { IfOk result (λ image. IsOpened file.now image.program image.seed) }
-    ensures typed { IfOk result (λ image. IsTyped image.program) }
     ensures err { IfErr result (λ stop. OpenStop stop (opened file.now)) }
 {
     match open_image(alloc, file.as_slice()) {
@@ -40,7 +38,6 @@ fn opened_of(alloc: Global, file: &Bytes) -> Result<Image, Stop>
 pub fn open_input<D: Desk>(alloc: Global, run: &RunWords<'_>, desk: &mut D) -> Result<Image, Stop>
     ensures ok { IfOk result (λ image.
         IsOpenedFor (run_in run.now) D.tells (D.held desk.old) image.program image.seed) }
-    ensures typed { IfOk result (λ image. IsTyped image.program) }
     ensures unchanged { IsTrue D.tells → D.held desk.new ≡ D.held desk.old }
     ensures later { D.faults desk.old ≤ D.faults desk.new }
     ensures cause { IfErr result (λ stop.

@@ -1,6 +1,5 @@
 // The command that runs an image in round order.
 ghost use Rattle.std.specs.Prelude.{◌≡◌, ◌≤◌, ◌++◌, ℕ, false, take, Some, IsTrue, IfErr, IfOk, OnErr};
-ghost use Rattle.tm_plan_cases.specs.Shaped.{IsTyped};
 ghost use Rattle.tm_world.specs.Sound.{Sound};
 ghost use Rattle.tm_words.specs.Words.{run_in};
 ghost use Rattle.tm_words.specs.Words.Command.{to_run};
@@ -16,16 +15,15 @@ use std::alloc::Global;
 use tm_base::NoMemory;
 use tm_desk::{Desk, Sink};
 use tm_guest::Guest;
+use tm_memory::laws::scripts;
 use tm_plan_cases::Program;
 use tm_plan_script::Faults;
 use tm_top_owed::{Done, Stop, print_text};
 use tm_words::RunWords;
-use tm_world_script::laws::scripts;
 
 // Simulates a program in round order, of at most so many events, and tells it.
 #[tactic(auto, using(crate::proofs::Running::over))]
 fn simulate(alloc: Global, program: &Program, events: u64) -> Result<Simulated, NoMemory>
-    requires typed { IsTyped program.now }
     requires sound { Sound program.now }
     requires some { 1 ≤ events }
     requires few { events ≤ 100000000 }

@@ -1,6 +1,5 @@
 // The command that runs an image with a thread for each hart.
 ghost use Rattle.std.specs.Prelude.{◌≡◌, ◌≤◌, true, IfErr, IfOk};
-ghost use Rattle.tm_plan_cases.specs.Shaped.{IsTyped};
 ghost use Rattle.tm_world.specs.Sound.{Sound};
 ghost use Rattle.tm_words.specs.Words.{run_in};
 ghost use Rattle.tm_words.specs.Words.Command.{to_run};
@@ -20,11 +19,11 @@ use tm_base::NoMemory;
 use tm_desk::{Desk, Gate, Sink};
 use tm_guest::Guest;
 use tm_harts::{Mill, run_threads};
+use tm_memory::laws::scripts;
 use tm_plan_cases::Program;
 use tm_plan_script::Faults;
 use tm_top_owed::{Done, Stop};
 use tm_words::RunWords;
-use tm_world_script::laws::scripts;
 
 // Simulates a program whose harts are driven by threads, of at most so many events, and tells it. What the threads
 // leave waiting is finished in round order.
@@ -36,7 +35,6 @@ fn driven<R: Threads + Wait + Sync, G: Gate>(
     events: u64,
     gate: &G,
 ) -> Result<Simulated, NoMemory>
-    requires typed { IsTyped program.now }
     requires sound { Sound program.now }
     requires some { 1 ≤ events }
     requires few { events ≤ 100000000 }

@@ -6,9 +6,10 @@ use Rattle.tm_plan_script.specs.declared.faults.FaultLine.{FaultLine}
 use Rattle.tm_world.specs.Kinds.{Plain}
 use Rattle.tm_world.specs.Place.{harts}
 use Rattle.tm_world.specs.Sound.{Sound}
-use Rattle.tm_plan_cases.specs.Shaped.{IsTyped}
-use Rattle.tm_world_script.specs.Script.{FaultedRun, NeverStuck}
-use Rattle.tm_world_script.specs.Laws.{AreSmall, SoundKeeps}
+use Rattle.tm_world.specs.Script.{FaultedRun}
+use Rattle.tm_world.specs.Work.{NeverStuck}
+use Rattle.tm_plan_script.specs.Laws.{AreSmall}
+use Rattle.tm_memory.specs.Laws.{SoundKeeps}
 use Rattle.tm_guest.specs.Guested.{Guested, fresh, run}
 use Rattle.tm_guest.specs.Rounds.{Goes, AllHalted, EndsAs, IsSame}
 use Rattle.tm_guest.specs.declared.turn.RoundEnd.TheVariants.{Full}
@@ -102,9 +103,9 @@ summed_cut n p g events text sound same ran end is said =
 no_lines : AreSmall []
 no_lines = λ k d h. absurd (omega (arith, h))
 
-pub never_stuck : (p : Program) (lines : List FaultLine) → SoundKeeps p → IsTyped p → Sound p → lines ≡ []
+pub never_stuck : (p : Program) (lines : List FaultLine) → SoundKeeps p → Sound p → lines ≡ []
     → NeverStuck p lines
-never_stuck p lines keeps typed sound none = subst (NeverStuck p) (sym none) ((keeps typed sound [] no_lines).unstuck)
+never_stuck p lines keeps sound none = subst (NeverStuck p) (sym none) ((keeps sound [] no_lines).unstuck)
 
 pub same_from : (p : Program) (lines : List FaultLine) (start g : Guested) → start ≡ fresh p lines default_events
     → lines ≡ []

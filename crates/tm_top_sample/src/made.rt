@@ -1,6 +1,5 @@
 // The image of a sample.
 ghost use Rattle.std.specs.Prelude.{IfOk};
-ghost use Rattle.tm_plan_cases.specs.Shaped.{IsTyped};
 ghost use Rattle.tm_sample.specs.Texts.{sample_topology, sample_template};
 ghost use Rattle.tm_top_owed.specs.Owed.{IsBuiltOf};
 
@@ -13,9 +12,8 @@ use tm_sample::sample_texts;
 
 /// The image of the sample of a number, which is its seed too.
 pub fn sample_image(alloc: Global, n: u64) -> Result<Image, NoMemory>
-    ensures ok { IfOk result (λ image.
+    ensures { IfOk result (λ image.
         IsBuiltOf (sample_topology n) (sample_template n) n image.program image.file) }
-    ensures typed { IfOk result (λ image. IsTyped image.program) }
 {
     always_accepted(n);
     let (topo, template) = sample_texts(alloc, n)?;

@@ -1,6 +1,6 @@
 // The simulation of a sample, and how it is told.
 ghost use Rattle.std.specs.Prelude.{◌≡◌, IfOk};
-ghost use Rattle.tm_plan_cases.specs.Shaped.{IsProgram, IsTyped};
+ghost use Rattle.tm_plan_cases.specs.Shaped.{IsProgram};
 ghost use Rattle.tm_world.specs.Sound.{Sound};
 ghost use Rattle.tm_report_run.specs.Verdicts.{verdicts_of};
 ghost use Rattle.tm_top_owed.specs.Runs.{halted_of};
@@ -11,11 +11,11 @@ use crate::summary::summary_text;
 use std::alloc::Global;
 use tm_base::{NoMemory, Text};
 use tm_guest::{Guest, RoundEnd};
+use tm_memory::laws::scripts;
 use tm_plan_cases::Program;
 use tm_plan_journal::Journal;
 use tm_plan_script::Faults;
 use tm_report_run::{full_text, verdicts};
-use tm_world_script::laws::scripts;
 
 // The most events of a sample's simulation.
 const EVENTS: u64 = 4_000_000;
@@ -60,8 +60,7 @@ fn summed_text(
 /// Simulates the program of sample `n` in round order, for at most 4,000,000 events. The status is 0 where all harts
 /// come to halt, and else 4.
 pub fn simulated(alloc: Global, n: u64, program: &Program) -> Result<Summed, NoMemory>
-    requires sound { Sound program.now }
-    requires typed { IsTyped program.now }
+    requires { Sound program.now }
     ensures { IfOk result (λ summed. IsSummary n program.now summed.journal.events summed.text summed.status) }
 {
     scripts(program);

@@ -38,5 +38,5 @@ one-dword a b v e f g =
     omega arith
 
 -- a write of a dword is one of its bytes
-pub writes-own : (a v : ℕ) → writes_in a 8 (Write a 8 v) ≡ true
-writes-own a v = grind (arith, nat_tests)
+pub writes-itself : (a v : ℕ) → writes_in a 8 (Write a 8 v) ≡ true
+writes-itself a v = grind (arith, nat_tests)

@@ -6,7 +6,7 @@ use Rattle.tm_plan_cases.specs.declared.cases.Cases.{Cases}
 use Rattle.tm_plan_cases.specs.declared.cases.Case.{Case}
 use Rattle.tm_plan_cases.specs.declared.cases.Stream.{Stream}
 use Rattle.tm_plan_cases.specs.Shaped.{IsShapedStream, IsShapedCase, AreShaped}
-use Rattle.tm_world.specs.Writers.{stream_in}
+use Rattle.tm_plan_cases.specs.Streams.{stream_in}
 
 pub stream-case : (cases : Cases) (c h : ℕ) (case : Case) → slice_get cases.cases c ≡ Some case
     → stream_in cases c h ≡ slice_get case.streams h

@@ -7,7 +7,8 @@ use Rattle.tm_plan_cases.specs.declared.masks.Masks.{Masks}
 use Rattle.tm_plan_cases.specs.declared.masks.CaseMask.{CaseMask}
 use Rattle.tm_plan_map.specs.Map.{windows_base, windows_size}
 use Rattle.tm_plan_cases.specs.Collected.{is_declared}
-use Rattle.tm_world.specs.Writers.{may_store, stream_in}
+use Rattle.tm_world.specs.Writers.{may_store}
+use Rattle.tm_plan_cases.specs.Streams.{stream_in}
 use Rattle.tm_world.specs.Slots.{slots_in, another_may_store}
 use Rattle.tm_world.specs.Trails.{RaceDependent}
 

@@ -14,7 +14,8 @@ use Rattle.tm_world.specs.Lists.{front_to, IsFront}
 use Rattle.tm_world.specs.Place.{harts, round_count, case_of_round, first_registers, passes, end_of, exit_of, halt_of}
 use Rattle.tm_world.specs.Place.{is_flag, is_private}
 use Rattle.tm_world.specs.Run.{Step, Run, own, Always, now, pc_of, access_of, phase, in_phase, Writes}
-use Rattle.tm_world.specs.Writers.{may_write, run_phase, case_of_phase, round_of_phase, stream_in}
+use Rattle.tm_world.specs.Writers.{may_write, run_phase, case_of_phase, round_of_phase}
+use Rattle.tm_plan_cases.specs.Streams.{stream_in}
 use Rattle.tm_world.specs.Kinds.{Half, first_of_hart, stream_at, writes_flag}
 use Rattle.tm_world.specs.Marks.{Enter, comes_to, visited, whole_way}
 

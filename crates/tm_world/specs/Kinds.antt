@@ -118,6 +118,14 @@ pub record Plain (p : Program) (r : Run) : Type 0 where
 abbrev pub stream_at : Program → ℕ → ℕ → Option ℕ
 stream_at p h pc = first_of (λ c. inside p h c pc) (count_from 0 (case_count p))
 
+-- hart h's state in a run, after these steps of all harts
+abbrev pub state_of : Run → ℕ → List Step → Hart
+state_of r h past = now (first_of_hart r h) (own h past)
+
+-- the case of the stream that it is in then
+abbrev pub stream_of : Program → Run → ℕ → List Step → Option ℕ
+stream_of p r h past = stream_at p h (state_of r h past).pc
+
 -- Outside streams hart h reads its private area back, 0 where it wrote nothing yet; text and tables as in the image;
 -- and anything elsewhere.
 abbrev pub half_owed : Program → ℕ → List Step → ℕ → Option ℕ

@@ -7,6 +7,9 @@ pub mod Marks
 pub mod Course
 pub mod Whole
 pub mod Verdict
+pub mod Faulted
+pub mod Script
+pub mod Replay
 pub mod Work
 pub mod Slots
 pub mod Trails

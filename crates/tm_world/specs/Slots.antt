@@ -10,7 +10,8 @@ use Rattle.tm_plan_cases.specs.Collected.{is_declared}
 use Rattle.tm_base.specs.Lists.{any, count_from}
 use Rattle.tm_plan_map.specs.Slots.{instr_of, load_width, store_width, is_branch, is_jump, slot_addr, slot_target}
 use Rattle.tm_world.specs.Lists.{those}
-use Rattle.tm_world.specs.Writers.{may_store, stream_in}
+use Rattle.tm_world.specs.Writers.{may_store}
+use Rattle.tm_plan_cases.specs.Streams.{stream_in}
 
 -- A slot: the resources that it reads and writes, and how it may go on.
 pub record Slot : Type 0 where

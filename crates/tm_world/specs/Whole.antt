@@ -10,7 +10,8 @@ use Rattle.tm_base.specs.Lists.{count_from}
 use Rattle.tm_world.specs.Place.{harts, case_count, case_of_round, first_dwords, start_of, end_of, exit_of, halt_of}
 use Rattle.tm_world.specs.Place.{inside, byte_of, word_at}
 use Rattle.tm_world.specs.Run.{Run, own, Always, now, access_of, hart_of, Writes}
-use Rattle.tm_world.specs.Writers.{may_write, settled, stream_in}
+use Rattle.tm_world.specs.Writers.{may_write, settled}
+use Rattle.tm_plan_cases.specs.Streams.{stream_in}
 use Rattle.tm_world.specs.Kinds.{Legal, phase_of, first_of_hart}
 use Rattle.tm_world.specs.Marks.{Enter, comes_to}
 use Rattle.tm_world.specs.Course.{HartCourse}

@@ -1,12 +1,12 @@
 -- Who may write a byte in a phase, and to what it settles (this project's own).
 use Rattle.std.specs.Prelude.{ℕ, zero, suc, ◌+◌, ◌*◌, ◌/◌, ◌%◌, Bool, false, ◌&&◌, ◌||◌, nat_lt, ◌==◌, List, [], ◌∷◌}
-use Rattle.std.specs.Prelude.{slice_get, Option, Some, None, if◌then◌else◌}
+use Rattle.std.specs.Prelude.{Option, Some, None, if◌then◌else◌}
 use Rattle.tm_plan_cases.specs.declared.program.Program.{Program}
 use Rattle.tm_plan_cases.specs.declared.cases.Cases.{Cases}
-use Rattle.tm_plan_cases.specs.declared.cases.Case.{Case}
 use Rattle.tm_plan_cases.specs.declared.cases.Stream.{Stream}
 use Rattle.tm_table.specs.declared.instr.Instr.{Instr}
 use Rattle.tm_plan_cases.specs.Collected.{is_declared, collector}
+use Rattle.tm_plan_cases.specs.Streams.{stream_in}
 use Rattle.tm_base.specs.Lists.{any, count_from}
 use Rattle.tm_plan_map.specs.Slots.{instr_of, stores_to}
 use Rattle.tm_world.specs.Lists.{those, or_else}
@@ -15,14 +15,6 @@ use Rattle.tm_world.specs.Place.{is_window, image_byte}
 use Rattle.tm_world.specs.Run.{Step, own, last_write, in_phase}
 
 -- ---- streams
-
--- hart h's stream of case c
-abbrev pub stream_in : Cases → ℕ → ℕ → Option Stream
-stream_in cases c h = of_case (slice_get cases.cases c)
-  where
-    of_case : Option Case → Option Stream
-    of_case None = None
-    of_case (Some case) = slice_get case.streams h
 
 -- the word is a store that covers byte b
 abbrev pub is_store_to : ℕ → ℕ → Bool

@@ -1,10 +1,9 @@
 use Rattle.std.proofs.Common.{sym, subst}
 use Rattle.tm_plan_cases.specs.declared.cases.Cases.{Cases}
-use Rattle.tm_plan_cases.specs.Shaped.{IsTyped}
 use Rattle.tm_world.specs.Checked.{AreChecked}
 use Rattle.tm_world.specs.Sound.{Sound}
 use Rattle.tm_race.specs.Exact.{masks_of}
-use Rattle.tm_image_program.proofs.Whole.{program-is, for-typed, for-sound}
+use Rattle.tm_image_program.proofs.Whole.{program-is, for-sound}
 use Rattle.tm_image_program.proofs.program.program_of.Goals as goal
 
 pub returns-clause-program : goal.returns-clause-program
@@ -20,6 +19,3 @@ returns-clause-sound c =
     let masks = subst (AreChecked c.in_ok-cases.cases) c.in_ok-masks.ensures.exact c.in_ok-masks.ensures.checked in
     let checked = subst (λ (x : Cases). AreChecked x (masks_of x)) drawn masks in
     subst Sound (sym (returns-clause-program c)) (for-sound c.args.a.now c.args.seed c.requires checked)
-
-pub returns-clause-typed : goal.returns-clause-typed
-returns-clause-typed c = subst IsTyped (sym (returns-clause-program c)) (for-typed c.args.a.now c.args.seed c.requires)

@@ -1,9 +1,9 @@
 use Rattle.std.proofs.Common.{[], sym, subst}
 use Rattle.std.proofs.lemmas.List.Elements.{All-nil}
-use Rattle.tm_world_script.specs.Script.{NeverStuck}
+use Rattle.tm_world.specs.Work.{NeverStuck}
 use Rattle.tm_thread_rows.proofs.mills.mill_of.Goals as goal
 
 pub start-requires-clause-unstuck : goal.start-requires-clause-unstuck
 start-requires-clause-unstuck c =
-    let kept = c.scripts.ensures.sound c.requires.typed c.requires.sound [] (All-nil _) in
+    let kept = c.scripts.ensures.sound c.requires [] (All-nil _) in
     subst (NeverStuck c.args.program.now) (sym c.nothing.ensures) kept.unstuck

@@ -6,7 +6,7 @@ use Rattle.tm_top_run.proofs.threads.driven.Goals as goal
 
 pub start-requires-clause-unstuck : goal.start-requires-clause-unstuck
 start-requires-clause-unstuck g c =
-    never_stuck c.args.program.now c.nothing.result c.scripts.ensures.sound c.requires.typed c.requires.sound
+    never_stuck c.args.program.now c.nothing.result c.scripts.ensures.sound c.requires.sound
     c.nothing.ensures
 
 pub close-guest-requires : goal.close-guest-requires

@@ -3,8 +3,8 @@ use Rattle.tm_sample.specs.Texts.{sample_topology, sample_template}
 use Rattle.tm_top_sample.proofs.Building.{never_refused, built_of_texts}
 use Rattle.tm_top_sample.proofs.made.sample_image.Goals as goal
 
-pub returns-in-Ok-clause-ok : goal.returns-in-Ok-clause-ok
-returns-in-Ok-clause-ok c =
+pub returns-in-Ok : goal.returns-in-Ok
+returns-in-Ok c =
     let topo = c.as_slice.ensures ∙ c.in_ok-topo.ensures.topology in
     let template = c.as_slice-2.ensures ∙ c.in_ok-topo.ensures.template in
     built_of_texts (sample_topology c.args.n) (sample_template c.args.n) c.args.n c.in-Ok.image.program

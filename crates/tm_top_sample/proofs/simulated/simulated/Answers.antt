@@ -4,7 +4,7 @@ use Rattle.tm_top_sample.proofs.simulated.simulated.Goals as goal
 pub start-requires-clause-unstuck : goal.start-requires-clause-unstuck
 start-requires-clause-unstuck c =
     never_stuck c.args.program.now c.nothing.result c.scripts.ensures.sound
-    c.requires.typed c.requires.sound c.nothing.ensures
+    c.requires c.nothing.ensures
 
 pub returns-in_ok-text-in-Done : goal.returns-in_ok-text-in-Done
 returns-in_ok-text-in-Done c =
@@ -13,7 +13,7 @@ returns-in_ok-text-in-Done c =
     let start = c.in_ok-guest.guest in
     let g = c.run_round.new.self in
     let its = c.into_journal-journal.ensures in
-    summed_whole c.args.n p g c.into_journal-journal.result.events c.in_ok-text-in-Done.text c.requires.sound
+    summed_whole c.args.n p g c.into_journal-journal.result.events c.in_ok-text-in-Done.text c.requires
     (same_from p lines start g c.in_ok-guest.ensures c.nothing.ensures c.in-Done.ensures.same)
     (record {
       goes = goes_from p lines start g c.in_ok-guest.ensures c.nothing.ensures c.in-Done.ensures.order;
@@ -30,7 +30,7 @@ returns-in_ok-text-in-Full c =
     let start = c.in_ok-guest.guest in
     let g = c.run_round.new.self in
     let its = c.into_journal-journal-in-Full.ensures in
-    summed_cut c.args.n p g c.into_journal-journal-in-Full.result.events c.in_ok-text-in-Full.text c.requires.sound
+    summed_cut c.args.n p g c.into_journal-journal-in-Full.result.events c.in_ok-text-in-Full.text c.requires
     (same_from p lines start g c.in_ok-guest.ensures c.nothing.ensures c.in-Full.ensures.same)
     (record {
       goes = goes_from p lines start g c.in_ok-guest.ensures c.nothing.ensures c.in-Full.ensures.order;

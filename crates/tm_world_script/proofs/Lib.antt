@@ -1,4 +1,0 @@
-mod Keeping
-mod Numbers
-mod Differing
-mod Rows

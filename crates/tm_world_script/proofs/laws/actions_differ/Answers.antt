@@ -1,5 +1,0 @@
-use Rattle.tm_world_script.proofs.Differing.{actions-differ}
-use Rattle.tm_world_script.proofs.laws.actions_differ.Goals as goal
-
-pub returns : goal.returns
-returns c = actions-differ c.args.program.now
