@@ -1,5 +1,5 @@
 -- One step more: of a journal, of a plain run and of the memory.
-use Rattle.std.proofs.Common.{◌≡◌, ℕ, ◌≤◌, ◌<◌, List, [], ◌∷◌, ◌++◌, ◌⊎◌, inl, inr, refl, sym, ap}
+use Rattle.std.proofs.Common.{◌≡◌, ℕ, ◌≤◌, ◌<◌, List, [], ◌∷◌, ◌++◌, Option, None, Some, ◌⊎◌, inl, inr, refl, sym, ap}
 use Rattle.std.proofs.Common.{◌∙◌, subst, length, arith}
 use Rattle.std.specs.Prelude.{unwrap_or, reverse}
 use Rattle.std.proofs.lemmas.Bool.{cases_eq}
@@ -8,10 +8,10 @@ use Rattle.tm_plan_cases.specs.declared.program.Program.{Program}
 use Rattle.tm_plan_cases.specs.declared.journal.Event.{Event}
 use Rattle.tm_plan_script.specs.declared.faults.FaultLine.{FaultLine}
 use Rattle.tm_ram.specs.Region.{Region}
+use Rattle.tm_world.specs.Lists.{or_else}
 use Rattle.tm_world.specs.Place.{harts, image_byte}
 use Rattle.tm_world.specs.Run.{Step, Run, own, hart_of, access_of, first_state, Reads, written, last_write}
 use Rattle.tm_world.specs.Kinds.{Follows, Path, Plain, plain_owed}
-use Rattle.tm_world.proofs.Options.{unwrap_or-or_else}
 use Rattle.tm_legal.proofs.Own.{own-here, own-there}
 use Rattle.tm_world.specs.Replay.{opening, stepped, state_after, replay, steps_of}
 use Rattle.tm_guest.specs.Memory.{IsWritten}
@@ -61,6 +61,10 @@ plain-more p h s past l e f reads plain = record {
 
 -- ---- memory
 
+unwrap-else : (x y : Option ℕ) (d : ℕ) → unwrap_or (or_else x y) d ≡ unwrap_or x (unwrap_or y d)
+unwrap-else (Some v) y d = refl
+unwrap-else None y d = refl
+
 pub memory-more : (p : Program) (s : Step) (past : List Step) (r t : Region) → IsWritten r (access_of s) t
     → IsMemory p past r → IsMemory p (s ∷ past) t
 memory-more p s past r t w m = record {
@@ -69,5 +73,5 @@ memory-more p s past r t w m = record {
       let from : r.base ≤ b = subst (λ (x : ℕ). x ≤ b) (sym m.region.base) lo in
       w.bytes b from
       ∙ (ap (unwrap_or (written (access_of s) b)) (m.bytes b lo hi)
-      ∙ sym (unwrap_or-or_else (written (access_of s) b) (last_write b past) (image_byte p b)));
+      ∙ sym (unwrap-else (written (access_of s) b) (last_write b past) (image_byte p b)));
 }
