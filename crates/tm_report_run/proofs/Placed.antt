@@ -19,7 +19,7 @@ abbrev rows : (ℕ → ℕ → ℕ) → (n m a : ℕ) → List ℕ
 rows f n m a = flat_map (λ c. map (f c) (count_from 0 n)) (count_from a m)
 
 row-long : (f : ℕ → ℕ) (n : ℕ) → length (map f (count_from 0 n)) ≡ n
-row-long f n = length-map (count_from 0 n) f ∙ length-count_from n 0
+row-long f n = length-map (count_from 0 n) f ∙ length-count_from 0 n
 
 rows-long : (f : ℕ → ℕ → ℕ) (n m a : ℕ) → length (rows f n m a) ≡ m * n
 rows-long f n zero a = omega arith
