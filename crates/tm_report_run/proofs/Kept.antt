@@ -95,7 +95,8 @@ more-kept other events place e c h l =
     let x = get_or events place e in
     let f = λ (x : Event). put_at (verdict_at c h) x.access in
     ap (λ (xs : List Event). verdict_from other xs c h) (take_more events place e l)
-    ∙ (ap (λ (o : Option ℕ). unwrap_or o other) (latest-more f before x) ∙ unwrap_or-or_else (f x) (latest f before) other)
+    ∙ (ap (λ (o : Option ℕ). unwrap_or o other) (latest-more f before x)
+    ∙ unwrap_or-or_else (f x) (latest f before) other)
 
 -- ---- before all writes
 

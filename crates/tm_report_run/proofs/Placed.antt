@@ -35,7 +35,8 @@ row-at f n (suc m) a zero h l k =
     let long = row-long (f a) n in
     ap (slice_index (rows f n (suc m) a)) place
     ∙ (get_or_append_left (map (f a) (count_from 0 n)) (rows f n m (suc a)) 0 h (omega arith)
-    ∙ (index-counted (f a) n 0 h k ∙ ap₂ f (let e : a ≡ a + 0 = omega arith in e) (let e : 0 + h ≡ h = omega arith in e)))
+    ∙ (index-counted (f a) n 0 h k ∙ ap₂ f (let e : a ≡ a + 0 = omega arith in e)
+    (let e : 0 + h ≡ h = omega arith in e)))
 row-at f n (suc m) a (suc c) h l k =
     let place : suc c * n + h ≡ n + (c * n + h) = omega arith in
     let row = map (f a) (count_from 0 n) in
