@@ -24,10 +24,11 @@ use Rattle.tm_world.specs.Verdict.{Same, IsVerdict, agree, differ, WritesExactly
 use Rattle.tm_world.specs.Checked.{IsCheckedByte, IsCheckedRegister}
 use Rattle.tm_world.specs.Reported.{Sometimes, AllAtHalt, Reports, IsReported, IsChecked, end_in, Differs}
 use Rattle.tm_world.specs.Sound.{Sound}
-use Rattle.tm_runs.proofs.Places.{within-parts}
+use Rattle.tm_plan_map.proofs.Within.{within-parts}
 use Rattle.tm_legal.specs.Tame.{Formed}
 use Rattle.tm_legal.proofs.Own.{own-here, own-there}
-use Rattle.tm_legal.proofs.Streams.{none-past, stream-of}
+use Rattle.tm_base.proofs.ListLemmas.{none-past}
+use Rattle.tm_world.proofs.Streams.{stream-of}
 use Rattle.tm_legal.proofs.Sound.{sound-plain}
 use Rattle.tm_stays.proofs.Dwords.{lies, dword_of, dword-place, of-owned}
 use Rattle.tm_meet.proofs.Dwords.{dword-collector}
