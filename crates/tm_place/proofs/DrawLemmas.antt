@@ -19,7 +19,8 @@ before seed c h i d = record { key = key seed; stream = CASE_STREAMS * c + h; wo
 pub seeked : (seed c h i d stream place : ℕ) (bytes : List ℕ) (g0 g1 g2 : ChaCha)
     → bytes ≡ to_le_bytes w64 seed ++ replicate 24 0 → stream ≡ CASE_STREAMS * c + h
     → place ≡ SLOT_WORDS * i + d
-    → g0 ≡ of_seed bytes → g1 ≡ record g0 { stream = stream } → g2 ≡ record g1 { word_pos = place % 2 ^ 68 } → i < STREAM_SLOTS
+    → g0 ≡ of_seed bytes → g1 ≡ record g0 { stream = stream } → g2 ≡ record g1 { word_pos = place % 2 ^ 68 }
+    → i < STREAM_SLOTS
     → d < SLOT_WORDS → g2 ≡ before seed c h i d
 unfolding key
 seeked seed c h i d stream place bytes g0 g1 g2 is st pl at0 at1 at2 small word =

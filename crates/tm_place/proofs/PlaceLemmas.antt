@@ -120,4 +120,5 @@ shared-of a x y z ruled p q r (suc zero) = standing-some y ∙ q
 shared-of a x y z ruled p q r (suc (suc zero)) = standing-some z ∙ r
 shared-of a x y z ruled p q r (suc (suc (suc n))) =
     no-window (numbered a.windows (suc (suc (suc n))))
-    (λ v is. let at = ruled-window a (suc (suc (suc n))) v ruled is in omega (arith, at.number, at.window.shaped.number))
+    (λ v is. let at = ruled-window a (suc (suc (suc n))) v ruled is in
+    omega (arith, at.number, at.window.shaped.number))

@@ -24,7 +24,8 @@ zeros-at (suc zero) = refl
 zeros-at (suc (suc zero)) = refl
 zeros-at (suc (suc (suc n))) = refl
 
-pub placement-three : (harts line part : ℕ) (a b c : Option Window) → 1 ≤ harts → harts ≤ most_harts image_version → IsTrue (is_line_size line)
+pub placement-three : (harts line part : ℕ) (a b c : Option Window) → 1 ≤ harts → harts ≤ most_harts image_version
+    → IsTrue (is_line_size line)
     → part ≡ part_size line harts
     → IsStanding harts line 0 a → IsStanding harts line 1 b → IsStanding harts line 2 c
     → IsPlacement harts line part (a ∷ b ∷ c ∷ []) (0 ∷ 0 ∷ 0 ∷ [])
@@ -33,6 +34,7 @@ placement-three harts line part a b c some few size share one two three = record
   size = size;
   share = share;
   windows = windows-three harts line a b c one two three;
-  hot_line = λ w v h. let some = (windows-three harts line a b c one two three w v h).window.shaped.some in rw (zeros-at w) some;
+  hot_line = λ w v h. let some = (windows-three harts line a b c one two three w v h).window.shaped.some in
+      rw (zeros-at w) some;
   no_line = λ w h. zeros-at w;
 }

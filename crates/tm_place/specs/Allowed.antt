@@ -33,7 +33,8 @@ window_loads harts line h place (Some v) = nat_lt (place / line) v.lines && line
 
 -- the window in whose 2048 bytes an address lies
 abbrev pub window_of : List (Option Window) → ℕ → Option Window
-window_of shape addr = if nat_lt addr windows_base then None else get_or shape ((addr - windows_base) / WINDOW_BYTES) None
+window_of shape addr =
+    if nat_lt addr windows_base then None else get_or shape ((addr - windows_base) / WINDOW_BYTES) None
 
 -- the distance of an address from the base of its window
 abbrev pub place_of : ℕ → ℕ

@@ -70,7 +70,8 @@ spans addr width e low bits near at from run =
 
 -- ---- one element changed
 
-module _ (plane : List ℕ) (addr width e bits : ℕ) (room : length plane ≡ PLANE_WORDS) (span : Spans addr width e bits) where
+module _ (plane : List ℕ) (addr width e bits : ℕ) (room : length plane ≡ PLANE_WORDS)
+    (span : Spans addr width e bits) where
   -- a byte that no access of the element has stays
   changed-other : (word b : ℕ) → ((b - windows_base) / 64 ≡ e → ⊥) → in_plane (set plane e word) b ≡ in_plane plane b
   unfolding in_plane
@@ -256,7 +257,8 @@ below-or-past k = grind arith
 past-none : (xs : List ℕ) (k : ℕ) → length xs ≡ PLANE_WORDS → PLANE_WORDS ≤ k → slice_index xs k ≡ 0
 past-none xs k n l = get_or_past xs k 0 (omega arith)
 
-none-in : (xs : List ℕ) (b : ℕ) → length xs ≡ PLANE_WORDS → PLANE_WORDS ≤ (b - windows_base) / 64 → in_plane xs b ≡ true → ⊥
+none-in : (xs : List ℕ) (b : ℕ) → length xs ≡ PLANE_WORDS → PLANE_WORDS ≤ (b - windows_base) / 64
+    → in_plane xs b ≡ true → ⊥
 none-in xs b n l t =
     bit-none ((b - windows_base) % 64) (subst (λ (v : ℕ). Bit v ((b - windows_base) % 64))
     (past-none xs ((b - windows_base) / 64) n l) ((in-plane xs b).0 t).1)
@@ -279,7 +281,8 @@ told out test b room low high bits = same-test _ _
     (λ t. let l = low t in elim (below-or-past ((b - windows_base) / 64))
     [ inl s ↦ (in-plane out b).1 (l, (bits l s).1 t) | inr g ↦ absurd (high t g) ])
 
-pub union-told : (out x y : List ℕ) → length out ≡ PLANE_WORDS → length x ≡ PLANE_WORDS → length y ≡ PLANE_WORDS
+pub union-told : (out x y : List ℕ) → length out ≡ PLANE_WORDS → length x ≡ PLANE_WORDS
+    → length y ≡ PLANE_WORDS
     → ((k : ℕ) → k < PLANE_WORDS → slice_index out k ≡ bit_or (slice_index x k) (slice_index y k))
     → (b : ℕ) → in_plane out b ≡ (in_plane x b || in_plane y b)
 union-told out x y n0 nx ny made b = told out (in_plane x b || in_plane y b) b n0
@@ -295,7 +298,8 @@ union-told out x y n0 nx ny made b = told out (in_plane x b || in_plane y b) b n
           (both.1 (elim (or_cases _ _ t) [ inl p ↦ inl ((in-at x b low).0 p) | inr p ↦ inr ((in-at y b low).0 p) ]))),
     ))
 
-pub without-told : (out x y : List ℕ) → length out ≡ PLANE_WORDS → length x ≡ PLANE_WORDS → length y ≡ PLANE_WORDS
+pub without-told : (out x y : List ℕ) → length out ≡ PLANE_WORDS → length x ≡ PLANE_WORDS
+    → length y ≡ PLANE_WORDS
     → ((k : ℕ) → k < PLANE_WORDS → (r : ℕ) → Bit (slice_index out k) r
     ↔ (Bit (slice_index x k) r × (Bit (slice_index y k) r → ⊥)))
     → (b : ℕ) → in_plane out b ≡ (in_plane x b && not (in_plane y b))
@@ -310,7 +314,8 @@ without-told out x y n0 nx ny made b = told out (in_plane x b && not (in_plane y
           both.1 ((in-at x b low).0 p.0, λ h. true≢false (sym ((in-at y b low).1 h) ∙ not-true (in_plane y b) p.1))),
     ))
 
-pub spoiled-told : (out w x y z : List ℕ) → length out ≡ PLANE_WORDS → length w ≡ PLANE_WORDS → length x ≡ PLANE_WORDS → length y ≡ PLANE_WORDS
+pub spoiled-told : (out w x y z : List ℕ) → length out ≡ PLANE_WORDS → length w ≡ PLANE_WORDS → length x ≡ PLANE_WORDS
+    → length y ≡ PLANE_WORDS
     → length z ≡ PLANE_WORDS
     → ((k : ℕ) → k < PLANE_WORDS → slice_index out k
     ≡ bit_or (slice_index w k) (bit_and (slice_index x k) (bit_or (slice_index y k) (slice_index z k))))

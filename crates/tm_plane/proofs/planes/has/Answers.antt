@@ -10,7 +10,8 @@ returns-then-addr-base c = below-none c.args.plane.now c.args.addr c.window_base
 
 pub returns-then-q-ge-WINDOWS_BYTES : goal.returns-then-q-ge-WINDOWS_BYTES
 unfolding window_at
-returns-then-q-ge-WINDOWS_BYTES c = above-none c.args.plane.now c.args.addr c.window_base-base.result (omega arith) c.told-plane
+returns-then-q-ge-WINDOWS_BYTES c =
+    above-none c.args.plane.now c.args.addr c.window_base-base.result (omega arith) c.told-plane
     c.if-q-ge-WINDOWS_BYTES.true
 
 pub returns : goal.returns
