@@ -14,7 +14,7 @@ from pathlib import Path
 
 sys.path.insert(0, str(Path(__file__).resolve().parent))
 
-from derive.book import answers
+from derive.book import NOT_A_CASE, answers
 from derive.commands import Call
 from derive.desks import Desk, Sink
 from derive.programs import PROGRAMS, word_lines
@@ -47,7 +47,7 @@ def compare(crate, most_shown):
     files, kinds = PROGRAMS[crate]
     stored = stored_answers(crate)
     derived = list(answers([CRATES / crate / "data" / name for name in files], kinds))
-    wrong = [(d, s) for d, s in zip(derived, stored) if d != s]
+    wrong = [(d, s) for d, s in zip(derived, stored) if d != s or d[1] == NOT_A_CASE]
     missing = abs(len(derived) - len(stored))
     agree = len(stored) - len(wrong) - max(0, len(stored) - len(derived))
     print(f"{crate}: {agree} of {len(stored)} agree" + (f", {missing} missing or more" if missing else ""))

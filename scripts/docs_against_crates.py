@@ -1,8 +1,8 @@
 #!/usr/bin/env python3
 """Compares documents with the crates. In docs/architecture.md each crate of crates.txt has one row, and its column
 "Next below" names the libraries of its line in crates.txt that aren't below another one of that line, those of the kit
-last. In all documents a name such as `tm_gen.specs.Gen.gen_of` stands in that file of the crate, and one such as
-`tm_top::still` in the crate's sources.
+last. In all documents the crates that are named are there, a name such as `tm_gen.specs.Gen.gen_of` stands in that file
+of the crate, and one such as `tm_top::still` in the crate's sources.
 
 Prints what differs, and ends with status 1 where something does. With --write the column is written anew."""
 
@@ -76,6 +76,9 @@ def names_that_are_gone(document):
     for name, crate, file, word in re.findall(r"\b((tm_\w+)\.specs\.(\w+)(?:\.(\w+))?)", text):
         path = crates / crate / "specs" / f"{file}.antt"
         if not path.exists() or not has_word([path], word or ""):
+            gone.append(name)
+    for name in re.findall(r"`(tm_[a-z_]+)`", text):
+        if not (crates / name).is_dir():
             gone.append(name)
     for name, crate, word in re.findall(r"((tm_\w+)::(?:\w+::)*(\w+))", text):
         if not has_word(sorted((crates / crate / "src").glob("*.rt")), word):

@@ -5,6 +5,10 @@ usage: speed.py THREADMILL FOLDER
 
 Needs riscv64-linux-gnu-as and -ld (Debian: binutils-riscv64-linux-gnu) and qemu-system-riscv64 (qemu-system-misc);
 what is missing is left out, and said.
+
+The program's own figures are compared with those that docs/gate.md keeps, in the table that begins
+`| Figure | Kept | Unit |`. Figures "a second" are better where they are greater, all others where they are less. Where
+one is worse than twice the kept one, or a kept one wasn't measured, the script says so and ends with status 1.
 """
 import argparse
 import os
@@ -18,6 +22,8 @@ MIXED = "cores = 2\nthreads = 2\nline = 64\nbias = 40\n"
 WINDOWS = "window 0 true 4\nwindow 1 false 4\nwindow 2 own 8\n"
 WIDE = "cores = 8\nthreads = 1\nline = 64\n"
 QEMU_SECONDS = 5
+KEPT = Path(__file__).resolve().parent.parent / "docs" / "gate.md"
+KEPT_HEAD = "| Figure | Kept | Unit |"
 
 
 def mixed(load):
@@ -38,6 +44,46 @@ def stores():
     return "template stores\npasses 8\n" + WINDOWS + cases
 
 
+class Figures:
+    """The figures that were measured, and how they compare with the kept ones."""
+
+    def __init__(self, kept):
+        self.kept = kept
+        self.left = set(kept)
+        self.worse = 0
+
+    def note(self, name, value, unit):
+        kept = self.kept.get((name, unit))
+        if kept is None:
+            print(f"  {name}: {value:.2f} {unit}, not kept")
+            return
+        self.left.discard((name, unit))
+        times = kept / value if unit.endswith("a second") else value / kept
+        self.worse += times > 2
+        print(f"  {name}: {value:.2f} {unit}, kept {kept:g}" + (": WORSE THAN TWICE" if times > 2 else ""))
+
+    def status(self):
+        for name, unit in sorted(self.left):
+            print(f"{name}, {unit}: kept, and not measured")
+        if self.worse:
+            print(f"{self.worse} figures are worse than twice")
+        return 1 if self.worse or self.left else 0
+
+
+def kept_figures(page):
+    """The table of docs/gate.md: a number by its name and unit."""
+    lines = page.read_text().split("\n")
+    if KEPT_HEAD not in lines:
+        sys.exit(f"{page} has no table {KEPT_HEAD}")
+    kept = {}
+    for line in lines[lines.index(KEPT_HEAD) + 2:]:
+        if not line.startswith("|"):
+            break
+        name, number, unit = [cell.strip() for cell in line.strip("|").split("|")]
+        kept[name, unit] = float(number)
+    return kept
+
+
 def measured(words, times=5):
     """The least seconds of some runs, and the last run's output and greatest memory in MiB."""
     best = None
@@ -51,12 +97,14 @@ def measured(words, times=5):
     return best, out, usage.ru_maxrss / 1024, os.waitstatus_to_exitcode(status)
 
 
-def built(program, folder, name, topology, template):
+def built(program, folder, name, topology, template, figures):
     paths = [folder / f"{name}.{end}" for end in ("toml", "tm", "elf")]
     paths[0].write_text(topology)
     paths[1].write_text(template)
     seconds, out, memory, _ = measured([program, "build", *paths, "--seed", "1"])
     print(f"build {name}: {1000 * seconds:.1f} ms, {memory:.0f} MiB at most: {out.strip()}")
+    figures.note(f"build {name}", 1000 * seconds, "ms")
+    figures.note(f"build {name}", memory, "MiB")
     return paths[2]
 
 
@@ -87,16 +135,20 @@ def assembled(program, folder, image):
     print(f"as: {1000 * first[0]:.1f} ms, ld: {1000 * second[0]:.1f} ms, on {len(lines)} lines of the same streams")
 
 
-def simulated(program, image, order, limit):
+def simulated(program, image, order, limit, figures):
     """A run, and its rate without what a run of one event takes: the image is opened, which builds it again."""
     words = [program, "run", image] + (["--order", "round"] if order == "round" else [])
     opening = measured(words + ["--events", "1"], 7)[0]
     seconds, out, memory, status = measured(words + ["--events", str(limit)], 7)
     last = out.strip().split("\n")[-1]
     events = limit if status == 4 else int(last.split()[-1])
+    rate = (events - 1) / max(seconds - opening, 1e-6) / 1e6
     print(f"run {order}: {events} events in {seconds:.3f} s, {opening:.3f} s of them before the first; "
-          f"{(events - 1) / (seconds - opening) / 1e6:.2f} million a second; {memory:.0f} MiB at most; "
-          f"status {status}: {last}")
+          f"{rate:.2f} million a second; {memory:.0f} MiB at most; status {status}: {last}")
+    name = f"run {image.stem} {order}"
+    figures.note(name, 1000 * opening, "ms before the first event")
+    figures.note(name, rate, "million events a second")
+    figures.note(name, memory, "MiB")
 
 
 def traced(folder, image, harts):
@@ -125,16 +177,18 @@ def main():
     asked = words.parse_args()
     asked.folder.mkdir(parents=True, exist_ok=True)
     print(f"{os.cpu_count()} processors, load {os.getloadavg()[0]:.1f}")
-    image = built(asked.program, asked.folder, "without_loads", MIXED, mixed(0))
+    figures = Figures(kept_figures(KEPT))
+    image = built(asked.program, asked.folder, "without_loads", MIXED, mixed(0), figures)
     assembled(asked.program, asked.folder, image)
-    image = built(asked.program, asked.folder, "mixed", MIXED, mixed(3))
-    built(asked.program, asked.folder, "stores", WIDE, stores())
+    image = built(asked.program, asked.folder, "mixed", MIXED, mixed(3), figures)
+    built(asked.program, asked.folder, "stores", WIDE, stores(), figures)
     for order in ("round", "threads"):
-        simulated(asked.program, image, order, 4000000)
-    image = built(asked.program, asked.folder, "long", MIXED, long())
+        simulated(asked.program, image, order, 4000000, figures)
+    image = built(asked.program, asked.folder, "long", MIXED, long(), figures)
     for order in ("round", "threads"):
-        simulated(asked.program, image, order, 4000000)
+        simulated(asked.program, image, order, 4000000, figures)
     traced(asked.folder, image, 4)
+    return figures.status()
 
 
 if __name__ == "__main__":

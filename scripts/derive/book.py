@@ -1,8 +1,10 @@
 """Files of cases: their lines, their texts by name, and how answers show bytes."""
 
-from .numbers import number, small
+from .numbers import NotACase, number, small
 
-ESCAPES = {"n": b"\n", "t": b"\t", "r": b"\r", "e": b""}
+NOT_A_CASE = "not a case"
+
+ESCAPES = {"n": b"\n", "t": b"\t", "r": b"\r", "e": b"", "\\": b"\\"}
 
 
 def shown(data):
@@ -18,8 +20,10 @@ def changed(data, changes):
     """A text with changes."""
     for change in changes.split(" "):
         place, is_change, value = change.partition("=")
-        if not is_change:
+        if change == "":
             continue
+        if not is_change:
+            raise NotACase(change)
         byte = bytes([small(value) % 256])
         if place == "cut":
             data = data[: small(value)]
@@ -39,7 +43,9 @@ class Book:
         self.held = {}
 
     def find(self, name):
-        return self.texts.get(name, b"")
+        if name not in self.texts:
+            raise NotACase(name)
+        return self.texts[name]
 
     def read(self, text):
         """The bytes that a text writes."""
@@ -53,7 +59,7 @@ class Book:
             elif c == "{":
                 end = text.find("}", at)
                 if end < 0:
-                    break
+                    raise NotACase(text[at:])
                 out += self.find(text[at + 1 : end])
                 at = end + 1
             else:
@@ -63,10 +69,15 @@ class Book:
 
     @staticmethod
     def escape(text, at):
-        c = text[at]
+        c = text[at : at + 1]
         if c == "x":
-            return bytes([int(text[at + 1 : at + 3], 16)]), at + 3
-        return ESCAPES.get(c, c.encode()), at + 1
+            digits = text[at + 1 : at + 3]
+            if len(digits) < 2 or any(d not in "0123456789abcdef" for d in digits):
+                raise NotACase(digits)
+            return bytes([int(digits, 16)]), at + 3
+        if c not in ESCAPES:
+            raise NotACase(c)
+        return ESCAPES[c], at + 1
 
     def set(self, kind, rest):
         """Whether a line sets something, and then it is done."""
@@ -96,9 +107,13 @@ def answers(files, kinds):
             if line == "" or line.startswith("#"):
                 continue
             kind, _, rest = line.partition(" ")
-            if not book.set(kind, rest):
-                answer = kinds[kind](book, rest) if kind in kinds else "no such kind"
-                yield line, answer
+            try:
+                if book.set(kind, rest):
+                    continue
+                answer = kinds[kind](book, rest) if kind in kinds else NOT_A_CASE
+            except NotACase:
+                answer = NOT_A_CASE
+            yield line, answer
 
 
 def words_of(rest, count=8):

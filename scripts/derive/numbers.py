@@ -29,14 +29,21 @@ def number_or_none(text, below=2**64):
     return value if value < below else None
 
 
-def number(word):
-    """The number of a word, 0 where it isn't one."""
-    return number_or_none(word.encode()) or 0
+class NotACase(Exception):
+    """What a line of a file of cases has in the place of a known name, a digit or a number."""
+
+
+def number(word, below=2**64):
+    """The number of a word of a case, 0 where the word isn't there."""
+    value = number_or_none(word.encode(), below) if word else 0
+    if value is None:
+        raise NotACase(word)
+    return value
 
 
 def small(word):
-    """The number of a word below 2^32, 0 where it isn't one."""
-    return number_or_none(word.encode(), 2**32) or 0
+    """The number below 2^32 of a word of a case."""
+    return number(word, 2**32)
 
 
 def digits(value, count):

@@ -6,7 +6,7 @@ from . import memory_map as places
 from .assembler import parse_line
 from .faults import Fault
 from .placement import Shape, may_touch, spot
-from .table import BRANCHES, LOADS, STORES, has_rd, sources, Instr
+from .table import BRANCHES, LOADS, PRODUCTS, STORES, Instr, has_rd, sources
 from .template import Emit
 
 # What a test is before its streams are drawn: for each case its name and the slots of each hart, a slot being an
@@ -37,7 +37,7 @@ def emit_fault(shape, harts, slot, count, asm):
         i = parse_line(asm)
     except Fault as fault:
         return Fault("Asm", of=fault)
-    if i.op in ("jalr", "ecall", "ebreak"):
+    if i.op in ("jalr", "ecall", "ebreak") or i.op in PRODUCTS:
         return Fault("NotAllowed", name=i.op)
     is_access = i.op in LOADS or i.op in STORES
     wrong = wrong_register(i, is_access)

@@ -1,4 +1,4 @@
-"""The instruction table of RV64I: words, fields, steps."""
+"""The instruction table of RV64I and of M: words, fields, steps."""
 
 from collections import namedtuple
 
@@ -18,6 +18,11 @@ ROWS |= {"slliw": ("W", 0x1B, 1, 0), "srliw": ("W", 0x1B, 5, 0), "sraiw": ("W", 
 ROWS |= {"addw": ("R", 0x3B, 0, 0), "sllw": ("R", 0x3B, 1, 0), "srlw": ("R", 0x3B, 5, 0)}
 ROWS |= {"subw": ("R", 0x3B, 0, 0x20), "sraw": ("R", 0x3B, 5, 0x20)}
 ROWS |= {"fence": ("F", 0x0F, 0), "ecall": ("E", 0x73), "ebreak": ("E", 0x73)}
+
+ROWS |= {n: ("R", 0x33, f, 1) for f, n in enumerate("mul mulh mulhsu mulhu div divu rem remu".split())}
+PRODUCTS_32 = {"mulw": 0, "divw": 4, "divuw": 5, "remw": 6, "remuw": 7}
+ROWS |= {n: ("R", 0x3B, f, 1) for n, f in PRODUCTS_32.items()}
+PRODUCTS = tuple(n for n, row in ROWS.items() if row[3:] == (1,))
 
 BRANCHES = ("beq", "bne", "blt", "bge", "bltu", "bgeu")
 LOADS = {"lb": 1, "lh": 2, "lw": 4, "ld": 8, "lbu": 1, "lhu": 2, "lwu": 4}
@@ -118,6 +123,28 @@ def shift_right(value, bits, amount):
     return sign(value, bits) >> amount
 
 
+def quotient(a, b):
+    """Rounded towards 0; -1 where b is 0."""
+    if b == 0:
+        return -1
+    return -(-a // b) if (a < 0) != (b < 0) else a // b
+
+
+def remainder(a, b):
+    """What is left, with the sign of a; a where b is 0."""
+    return a if b == 0 else a - b * quotient(a, b)
+
+
+def by_sign(function, bits, with_sign):
+    """A function of two values of so many bits, with or without a sign; its result is sign-extended from them."""
+
+    def value(a, b):
+        read = [sign(v, bits) if with_sign else v % 2**bits for v in (a, b)]
+        return sign(function(*read), bits)
+
+    return value
+
+
 VALUES = {
     "add": lambda a, b: a + b,
     "sub": lambda a, b: a - b,
@@ -135,6 +162,18 @@ VALUES = {
     "srlw": lambda a, b: word32((a & 0xFFFFFFFF) >> (b & 31)),
     "sraw": lambda a, b: shift_right(a, 32, b & 31),
 }
+VALUES |= {
+    "mul": lambda a, b: a * b,
+    "mulh": lambda a, b: sign(a, 64) * sign(b, 64) >> 64,
+    "mulhsu": lambda a, b: sign(a, 64) * b >> 64,
+    "mulhu": lambda a, b: a * b >> 64,
+    "mulw": lambda a, b: word32(a * b),
+}
+for suffix, size in (("", 64), ("w", 32)):
+    VALUES["div" + suffix] = by_sign(quotient, size, True)
+    VALUES["divu" + suffix] = by_sign(quotient, size, False)
+    VALUES["rem" + suffix] = by_sign(remainder, size, True)
+    VALUES["remu" + suffix] = by_sign(remainder, size, False)
 # The op over registers that does the same with the immediate in place of b.
 BY_NUMBER = {"addi": "add", "slti": "slt", "sltiu": "sltu", "xori": "xor", "ori": "or", "andi": "and"}
 BY_NUMBER |= {"slli": "sll", "srli": "srl", "srai": "sra"}

@@ -11,12 +11,13 @@ use Rattle.std.proofs.lemmas.List.{take_more}
 use Rattle.tm_table.specs.declared.instr.Op.{Op}
 use Rattle.tm_table.specs.declared.instr.Op.TheVariants.{Jal, Beq, Bne, Blt, Bge, Bltu, Bgeu}
 use Rattle.tm_table.specs.declared.instr.Instr.{Instr}
+use Rattle.tm_table.specs.Ops.{is_branch}
 use Rattle.tm_table.specs.Words.{low, Fits, From, word_of, words_of}
 use Rattle.tm_asm.specs.declared.code.Item.{Item}
 use Rattle.tm_asm.specs.declared.code.Item.TheVariants.{Plain, Branch, Jump}
 use Rattle.tm_asm.specs.declared.fault.CodeFault.{CodeFault}
 use Rattle.tm_asm.specs.declared.fault.CodeFault.TheVariants.{FarBranch, NoMemory}
-use Rattle.tm_asm.specs.Sheet.{Sheet, IsFar, IsFarAt, IsFirstFar, IsGood, AllGood, HasPlace, AllPlaced, is_branch}
+use Rattle.tm_asm.specs.Sheet.{Sheet, IsFar, IsFarAt, IsFirstFar, IsGood, AllGood, HasPlace, AllPlaced}
 use Rattle.tm_asm.specs.Sheet.{instrs, resolved, reaches, branch_reaches, jump_reaches, distance, place_of}
 
 good_more : (xs : List Item) (x : Item) → AllGood xs → IsGood x → AllGood (xs ++ x ∷ [])

@@ -2,8 +2,9 @@
 use Rattle.std.specs.Prelude.{◌≡◌, ℕ, ◌+◌, ◌-◌, ◌*◌, ◌<◌, ◌≤◌, ◌&&◌, nat_le, List, [], ◌∷◌, ◌++◌, Option}
 use Rattle.std.specs.Prelude.{Some, None, slice_get, if◌then◌else◌, ℤ, pos, negsuc, int_le, Bool, true, false}
 use Rattle.tm_table.specs.declared.instr.Op.{Op}
-use Rattle.tm_table.specs.declared.instr.Op.TheVariants.{Jal, Beq, Bne, Blt, Bge, Bltu, Bgeu}
+use Rattle.tm_table.specs.declared.instr.Op.TheVariants.{Jal}
 use Rattle.tm_table.specs.declared.instr.Instr.{Instr}
+use Rattle.tm_table.specs.Ops.{is_branch}
 use Rattle.tm_table.specs.Words.{Fits}
 use Rattle.tm_asm.specs.declared.code.Item.{Item}
 use Rattle.tm_asm.specs.declared.fault.CodeFault.{CodeFault}
@@ -49,16 +50,6 @@ instrs ps at [] = []
 instrs ps at (x ∷ xs) = resolved ps at x ∷ instrs ps (at + 1) xs
 
 -- ---- what may be put
-
--- one of the six branches (RV64I 2.1)
-abbrev pub is_branch : Op → Bool
-is_branch Beq = true
-is_branch Bne = true
-is_branch Blt = true
-is_branch Bge = true
-is_branch Bltu = true
-is_branch Bgeu = true
-is_branch _ = false
 
 -- what is asked of a word that is put
 abbrev pub IsGood : Item → Type 0

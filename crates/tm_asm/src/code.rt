@@ -1,9 +1,10 @@
 // Labelled code.
 ghost use Rattle.std.specs.Prelude.{◌≡◌, ℕ, ◌<◌, ◌≤◌, ◌↔◌, List, [], ◌∷◌, ◌++◌, length, true, false, Option, Some};
 ghost use Rattle.std.specs.Prelude.{None, IfOk, IfErr, IfSome, IsSome, OnOk, OnErr, slice_get, slice_set};
+ghost use Rattle.tm_table.specs.Ops.{is_branch};
 ghost use Rattle.tm_table.specs.Words.{Fits, words_of};
 ghost use Rattle.tm_asm.specs.Sheet.{Sheet, AllGood, AllPlaced, AllReach, IsFar, IsFarAt, HasPlace, IsWithin};
-ghost use Rattle.tm_asm.specs.Sheet.{is_branch, instrs, distance, reaches, resolved};
+ghost use Rattle.tm_asm.specs.Sheet.{instrs, distance, reaches, resolved};
 ghost use Rattle.tm_asm.specs.Sheet.{place_of as own_place_of};
 ghost use Rattle.tm_asm.specs.declared.code.Item.TheVariants.{Plain, Branch, Jump};
 

@@ -1,8 +1,10 @@
 -- The numbers of all texts, as they are read and printed.
 use Rattle.std.specs.Prelude.{ℕ, zero, suc, ◌+◌, ◌*◌, ◌/◌, ◌%◌, ◌^◌, ◌==◌, not, nat_eq, nat_lt, if◌then◌else◌, List}
-use Rattle.std.specs.Prelude.{[], ◌∷◌, length, drop, position, Option, Some, None, Result, Ok, Err, codes}
+use Rattle.std.specs.Prelude.{[], ◌∷◌, ◌++◌, length, drop, position, Option, Some, None, Result, Ok, Err, codes}
 use Rattle.std.specs.List.{starts_with}
 use Rattle.std.specs.Char.{is_digit, digit_value, digit_char}
+use Rattle.std.specs.Fmt.{decimal}
+use Rattle.tm_base.specs.declared.Pos.{Pos}
 use Rattle.tm_base.specs.declared.numbers.NumberFault.{NumberFault}
 use Rattle.tm_base.specs.declared.numbers.NumberFault.TheVariants.{Empty, BadDigit, TooLarge}
 
@@ -36,3 +38,7 @@ number_of text =
 unfoldable pub hex_text : ℕ → ℕ → List ℕ
 hex_text zero value = []
 hex_text (suc n) value = digit_char (value / 16 ^ n % 16) ∷ hex_text n value
+
+-- a place: line, colon, column
+unfoldable pub pos_text : Pos → List ℕ
+pos_text p = decimal p.line ++ codes ":" ++ decimal p.col

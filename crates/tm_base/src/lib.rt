@@ -15,7 +15,7 @@ pub use limits::{
 };
 pub use lists::{Bytes, List, NoMemory, Text, Words};
 pub use name::Name;
-pub use numbers::{NumberFault, push_decimal, push_hex, read_number};
+pub use numbers::{NumberFault, push_decimal, push_hex, push_pos, read_number};
 
 /// A place in a text, its line and its byte in the line counted from 1.
 #[derive(Clone, Copy, Debug, PartialEq, Eq)]

@@ -2,9 +2,9 @@ ghost use Rattle.std.specs.Prelude.{◌≡◌, ◌++◌, ◌≤◌, ◌<◌, ◌
 ghost use Rattle.std.specs.Prelude.{slice_index, true, position, not};
 ghost use Rattle.std.specs.Fmt.{decimal};
 ghost use Rattle.std.specs.Char.{is_digit, digit_char};
-ghost use Rattle.tm_base.specs.Numbers.{number_of, digits_reading, place_value, hex_text};
+ghost use Rattle.tm_base.specs.Numbers.{number_of, digits_reading, place_value, hex_text, pos_text};
 
-use crate::{Bytes, NoMemory};
+use crate::{Bytes, NoMemory, Pos};
 
 /// Why a text is no number.
 #[derive(Clone, Copy, Debug, PartialEq, Eq)]
@@ -110,6 +110,16 @@ pub fn push_hex(out: &mut Bytes, value: u64, digits: u32) -> Result<(), NoMemory
         text[i as usize] = hex_digit(digit);
     }
     out.append(&text[..digits as usize])
+}
+
+/// Appends a place: its line, a colon and its column.
+#[tactic(auto, unfolding(crate::specs::Numbers::pos_text))]
+pub fn push_pos(out: &mut Bytes, pos: Pos) -> Result<(), NoMemory>
+    ensures { OnOk result (out.new ≡ out.old ++ pos_text pos) }
+{
+    push_decimal(out, u64::from(pos.line))?;
+    out.push(b':')?;
+    push_decimal(out, u64::from(pos.col))
 }
 
 fn hex_digit(digit: u8) -> u8

@@ -1,12 +1,10 @@
 -- Texts of files of cases: by name, as words and as they are shown. Source: this project.
 use Rattle.std.specs.Prelude.{ℕ, ◌+◌, ◌^◌, ◌&&◌, ◌==◌, nat_lt, nat_le, if◌then◌else◌}
 use Rattle.std.specs.Prelude.{List, [], ◌∷◌, ◌++◌, codes}
-use Rattle.std.specs.Fmt.{decimal}
 use Rattle.std.specs.List.{flat_map}
 use Rattle.std.specs.Result.{result_unwrap_or}
 use Rattle.std.specs.Str.{bytes_eq}
 use Rattle.tm_base.specs.Numbers.{number_of, hex_text}
-use Rattle.tm_base.specs.declared.Pos.{Pos}
 use Rattle.tm_cases_book.specs.declared.book.Entry.{Entry}
 
 -- the text of the first entry of this name, empty where there is none
@@ -21,10 +19,6 @@ number_in word = result_unwrap_or (number_of word) 0
 -- the number of a word below 2^32, 0 where it isn't one
 abbrev pub small_in : List ℕ → ℕ
 small_in word = if nat_lt (number_in word) (2 ^ 32) then number_in word else 0
-
--- a place: line, colon, column
-unfoldable pub pos_text : Pos → List ℕ
-pos_text p = decimal p.line ++ codes ":" ++ decimal p.col
 
 -- a byte as a file of cases writes it: itself where it is visible or a blank, but for the backslash
 abbrev pub shown_byte : ℕ → List ℕ

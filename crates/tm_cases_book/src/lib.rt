@@ -13,6 +13,6 @@ pub use book::{Book, Entry};
 pub use change::changed;
 pub use lines::Kinds;
 pub use program::answer_files;
-pub use show::{put, put_pos, put_text};
+pub use show::{put, put_text};
 pub use state::State;
 pub use words::{calls, number, option, small, words_of};

@@ -1,10 +1,10 @@
 // How answers are written.
 ghost use Rattle.std.specs.Prelude.{◌≡◌, ◌++◌, IfOk, OnOk};
 ghost use Rattle.std.specs.String.{string_bytes};
-ghost use Rattle.tm_cases_book.specs.Texts.{pos_text, shown, shown_byte};
+ghost use Rattle.tm_cases_book.specs.Texts.{shown, shown_byte};
 
 use std::alloc::AllocError;
-use tm_base::{Bytes, NoMemory, Pos, push_decimal, push_hex};
+use tm_base::{Bytes, NoMemory, push_hex};
 
 /// Appends bytes in the form of a file of cases.
 #[tactic(auto, unfolding(crate::specs::Texts::shown))]
@@ -47,14 +47,4 @@ pub fn put(out: &mut Bytes, text: Result<String, AllocError>) -> Result<(), NoMe
         Ok(text) => out.append(text.as_bytes()),
         Err(_) => Err(NoMemory),
     }
-}
-
-/// Appends a place as `LINE:COL`.
-#[tactic(auto, unfolding(crate::specs::Texts::pos_text))]
-pub fn put_pos(out: &mut Bytes, pos: Pos) -> Result<(), NoMemory>
-    ensures { OnOk result (out.new ≡ out.old ++ pos_text pos) }
-{
-    push_decimal(out, u64::from(pos.line))?;
-    out.push(b':')?;
-    push_decimal(out, u64::from(pos.col))
 }

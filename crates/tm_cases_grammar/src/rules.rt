@@ -1,9 +1,9 @@
 // The rules of templates.
 use crate::texts::LONGEST;
-use tm_base::{Bytes, NoMemory, push_decimal};
-use tm_cases_book::{State, put, put_pos};
-use tm_faults::{AdmitFault, RuleAt};
+use tm_base::{Bytes, NoMemory, push_decimal, push_pos};
+use tm_cases_book::{State, put};
 use tm_plan_map::Admitted;
+use tm_refusals::{AdmitFault, RuleAt};
 use tm_rules::admit;
 use tm_tmpl_read::parse_template;
 use tm_topo::parse_topology;
@@ -24,7 +24,7 @@ pub fn rules(state: &State, rest: &str, out: &mut Bytes) -> Result<(), NoMemory>
         Ok(topo) => match admit(alloc, &t, &topo) {
             Ok(admitted) => put_lengths(&admitted, out),
             Err(AdmitFault::Rule(RuleAt { pos, fault })) => {
-                put_pos(out, pos)?;
+                push_pos(out, pos)?;
                 put(out, format!(in alloc; " {fault:?}"))
             }
             Err(AdmitFault::NoMemory) => out.append(b"NoMemory"),

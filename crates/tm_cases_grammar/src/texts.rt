@@ -1,7 +1,7 @@
 // Tokens, topologies and templates.
 use std::alloc::Global;
-use tm_base::{Bytes, NoMemory, push_decimal};
-use tm_cases_book::{State, put, put_pos, put_text};
+use tm_base::{Bytes, NoMemory, push_decimal, push_pos};
+use tm_cases_book::{State, put, put_text};
 use tm_lex::{LexFault, Token, TokenKind, tokens};
 use tm_tmpl::print_template;
 use tm_tmpl_read::parse_template;
@@ -34,7 +34,7 @@ fn put_token(token: Token, out: &mut Bytes) -> Result<(), NoMemory> {
         TokenKind::Raw => b"raw ",
         TokenKind::LineEnd => b"line end ",
     })?;
-    put_pos(out, token.at)?;
+    push_pos(out, token.at)?;
     out.push(b' ')?;
     push_decimal(out, token.from)?;
     out.push(b'-')?;
@@ -46,13 +46,13 @@ fn put_lex(fault: &LexFault, out: &mut Bytes) -> Result<(), NoMemory> {
     match fault {
         LexFault::BadByte { pos, byte } => {
             out.append(b"BadByte ")?;
-            put_pos(out, *pos)?;
+            push_pos(out, *pos)?;
             out.push(b' ')?;
             push_decimal(out, u64::from(*byte))
         }
         LexFault::LongWord { pos } => {
             out.append(b"LongWord ")?;
-            put_pos(out, *pos)
+            push_pos(out, *pos)
         }
         LexFault::NoMemory => out.append(b"NoMemory"),
     }
@@ -114,7 +114,7 @@ pub fn template(state: &State, rest: &str, out: &mut Bytes) -> Result<(), NoMemo
         Err(TmplFault::Early { what }) => put(out, format!(in alloc; "Early {what:?}")),
         Err(TmplFault::Expected { pos, what }) => {
             out.append(b"Expected ")?;
-            put_pos(out, pos)?;
+            push_pos(out, pos)?;
             put(out, format!(in alloc; " {what:?}"))
         }
         Err(TmplFault::NoMemory) => out.append(b"NoMemory"),
@@ -123,23 +123,23 @@ pub fn template(state: &State, rest: &str, out: &mut Bytes) -> Result<(), NoMemo
 
 fn put_places(t: &Template, out: &mut Bytes) -> Result<(), NoMemory> {
     out.append(b" at ")?;
-    put_pos(out, t.passes_at)?;
+    push_pos(out, t.passes_at)?;
     for window in t.windows.as_slice() {
         out.push(b' ')?;
-        put_pos(out, window.at)?;
+        push_pos(out, window.at)?;
     }
     for case in t.cases.as_slice() {
         out.push(b' ')?;
-        put_pos(out, case.at)?;
+        push_pos(out, case.at)?;
         for body in case.bodies.as_slice() {
             out.push(b' ')?;
-            put_pos(out, body.at)?;
+            push_pos(out, body.at)?;
             for slot in body.slots.as_slice() {
                 out.push(b' ')?;
-                put_pos(out, slot.at)?;
+                push_pos(out, slot.at)?;
             }
         }
     }
     out.append(b" end ")?;
-    put_pos(out, t.end)
+    push_pos(out, t.end)
 }

@@ -1,11 +1,15 @@
 // Addresses, placement, draws and choices.
 ghost use Rattle.std.specs.Prelude.{◌≡◌, ◌≤◌, ◌<◌, IfSome, Some, IsTrue};
-ghost use Rattle.tm_place.specs.Limits.{IsWindow};
+ghost use Rattle.tm_base.specs.Limits.{image_version, most_harts};
+ghost use Rattle.tm_place.specs.Limits.{IsWindowAt};
 ghost use Rattle.tm_place.specs.Numbers.{is_line_size};
 ghost use Rattle.tm_table.specs.Row.{IsWidth};
 ghost use Rattle.tm_plan_map.specs.declared.windows.Window.{Window as Held};
 
-use tm_base::{Bytes, NoMemory, push_decimal, push_hex};
+use tm_base::{
+    Bytes, CASE_ROOM, HART_ROOM, IMAGE_VERSION, MOST_PASSES, NoMemory, WINDOW_BYTES, WINDOWS,
+    most_harts, push_decimal, push_hex,
+};
 use tm_cases_book::{number, small, words_of};
 use tm_place::{Placement, choice, draw, may_load, may_store, part_size};
 use tm_plan_map::{
@@ -23,12 +27,14 @@ pub fn address(rest: &str, out: &mut Bytes) -> Result<(), NoMemory> {
 
 fn address_of(name: &str, first: u32, second: u32) -> Option<u64> {
     match name {
-        "window" if first < 3 => Some(window_base(first)),
-        "flag" if first < 16 => Some(flag_addr(first)),
-        "private" if first < 16 => Some(private_base(first)),
-        "verdict" if first < 64 && second < 16 => Some(verdict_addr(first, second)),
-        "save" if first < 16 && second < 8 => Some(save_addr(first, second)),
-        "table" if first >= 1 && first <= 16 && second < 64 => Some(table_addr(first, second)),
+        "window" if first < WINDOWS => Some(window_base(first)),
+        "flag" if first < HART_ROOM => Some(flag_addr(first)),
+        "private" if first < HART_ROOM => Some(private_base(first)),
+        "verdict" if first < CASE_ROOM && second < HART_ROOM => Some(verdict_addr(first, second)),
+        "save" if first < HART_ROOM && second < MOST_PASSES => Some(save_addr(first, second)),
+        "table" if first >= 1 && first <= HART_ROOM && second < CASE_ROOM => {
+            Some(table_addr(first, second))
+        }
         _ => None,
     }
 }
@@ -77,7 +83,7 @@ pub fn part(rest: &str, out: &mut Bytes) -> Result<(), NoMemory> {
     if harts < 1 {
         return out.append(b"no harts");
     }
-    if harts > 16 {
+    if harts > HART_ROOM {
         return out.append(b"too many harts");
     }
     push_decimal(out, u64::from(part_size(line, harts)))
@@ -95,8 +101,8 @@ fn kind_of(word: &str) -> Option<(Kind2, u32)> {
 
 /// The window of a word, where it may stand there and has a line for each hart.
 fn window(harts: u32, line: u32, number: u32, word: &str) -> Option<Window>
-    requires { number < 3 }
-    ensures { (v : Held) → result ≡ Some v → IsWindow harts line number v }
+    requires { number < WINDOWS }
+    ensures { (v : Held) → result ≡ Some v → IsWindowAt harts line number v }
 {
     let Some((kind, lines)) = kind_of(word) else {
         return None;
@@ -107,7 +113,7 @@ fn window(harts: u32, line: u32, number: u32, word: &str) -> Option<Window>
     if lines < harts {
         return None;
     }
-    if u64::from(lines) * u64::from(line) > 2048 {
+    if u64::from(lines) * u64::from(line) > WINDOW_BYTES as u64 {
         return None;
     }
     Some(Window {
@@ -119,7 +125,7 @@ fn window(harts: u32, line: u32, number: u32, word: &str) -> Option<Window>
 
 fn placement(harts: u32, line: u32, w0: &str, w1: &str, w2: &str) -> Placement
     requires some { 1 ≤ harts }
-    requires few { harts ≤ 8 }
+    requires few { harts ≤ most_harts image_version }
     requires line { IsTrue (is_line_size line) }
     ensures { result.harts ≡ harts }
 {
@@ -147,7 +153,7 @@ pub fn may(rest: &str, out: &mut Bytes) -> Result<(), NoMemory> {
     if harts < 1 {
         return out.append(b"no harts");
     }
-    if harts > 8 {
+    if harts > most_harts(IMAGE_VERSION) {
         return out.append(b"too many harts");
     }
     let p = placement(harts, line, w0, w1, w2);

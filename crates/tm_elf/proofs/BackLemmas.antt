@@ -7,22 +7,25 @@ use Rattle.std.specs.Prelude.{codes}
 use Rattle.std.proofs.lemmas.Bool.Decides.{nat_tests}
 use Rattle.std.proofs.lemmas.List.{take_at, drop_at, drop-drop}
 use Rattle.std.proofs.lemmas.Nat.{from_le_bytes-to_le_bytes_4, from_le_bytes-to_le_bytes_8}
+use Rattle.tm_base.specs.declared.limits.TheConstants.{TEXT_WORDS, TABLES_BYTES, TOPOLOGY_BYTES, TEMPLATE_BYTES}
+use Rattle.tm_base.specs.Limits.{image_version}
 use Rattle.tm_elf_write.specs.declared.parts.Parts.{Parts}
 use Rattle.tm_elf_write.specs.declared.parts.Plan.{Plan}
 use Rattle.tm_elf_write.specs.declared.places.Places.{Places}
 use Rattle.tm_elf_write.specs.Elf.{IsWritable, elf_file, text_bytes}
 use Rattle.tm_elf_write.specs.Fields.{field_bytes}
 use Rattle.tm_elf_write.specs.Places.{places}
-use Rattle.tm_elf_write.specs.Plan.{plan_bytes}
+use Rattle.tm_elf_write.specs.Plan.{plan_bytes, plan_mark}
 use Rattle.tm_elf_write.specs.Sections.{section_fields, sections, sections_bytes}
 use Rattle.tm_elf_write.specs.Segments.{segment_fields, segments, segments_bytes}
 use Rattle.tm_elf_write.specs.Stands.{ReadsAs, places_in}
 use Rattle.tm_elf_write.specs.Symbols.{string_bytes, symbol_bytes}
 use Rattle.tm_elf_write.proofs.Lengths.{length_plan, length_symbols, length_text}
 use Rattle.tm_elf_write.proofs.Standing.{reads_as}
-use Rattle.tm_elf_head.specs.declared.fault.ElfFault.{ElfFault}
-use Rattle.tm_elf_head.specs.declared.fault.ElfFault.TheVariants.{Short, BadMagic, NotRiscv, NotExec, BadHeader}
-use Rattle.tm_elf_head.specs.declared.fault.ElfFault.TheVariants.{BadSegment, NoPlan, BadSymbol, Differs, NoMemory}
+use Rattle.tm_elf_write.specs.declared.parts.TheConstants.{MOST_SYMBOLS}
+use Rattle.tm_refusals.specs.declared.elf.ElfFault.{ElfFault}
+use Rattle.tm_refusals.specs.declared.elf.ElfFault.TheVariants.{Short, BadMagic, NotRiscv, NotExec, BadHeader}
+use Rattle.tm_refusals.specs.declared.elf.ElfFault.TheVariants.{BadSegment, NoPlan, BadSymbol, Differs, NoMemory}
 use Rattle.tm_elf_head.specs.declared.spans.Span.{Span}
 use Rattle.tm_elf_head.specs.Differences.{differ}
 use Rattle.tm_elf_head.specs.HeaderFaults.{header_fault}
@@ -80,11 +83,11 @@ order_of p = in_order _ _ _ _ _
 record Small (p : Parts) : Type 0 where
   text : length (text_bytes p.text) ≡ 4 * length p.text
   some : 0 < length p.text
-  most : length p.text ≤ 2097152
-  tables : length p.tables ≤ 4194304
+  most : length p.text ≤ TEXT_WORDS
+  tables : length p.tables ≤ TABLES_BYTES
   plan : length (plan_bytes p.plan) ≤ 2000000
   symbols : length (symbol_bytes p.symbols) ≡ 24 * length p.symbols + 24
-  number : length p.symbols ≤ 65535
+  number : length p.symbols ≤ MOST_SYMBOLS
   strings : length (string_bytes p.symbols) ≤ 33 * length p.symbols + 1
 
 small : (p : Parts) → IsWritable p → Small p
@@ -206,7 +209,7 @@ found p bytes r o s =
 
 -- the plan
 record PlanReads (plan : Plan) (bytes : List ℕ) : Type 0 where
-  magic : take 8 bytes ≡ codes "TMPLAN01"
+  magic : take 8 bytes ≡ plan_mark image_version
   seed : take 8 (drop 8 bytes) ≡ to_le_bytes w64 plan.seed
   topo : take 4 (drop 16 bytes) ≡ to_le_bytes w32 (length plan.topo)
   template : take 4 (drop 20 bytes) ≡ to_le_bytes w32 (length plan.template)
@@ -220,14 +223,14 @@ record PlanBack (plan : Plan) (bytes : List ℕ) : Type 0 where
   holds : is_plan bytes ≡ true
   read : plan_of bytes ≡ plan
 
-plan_back : (plan : Plan) → length plan.topo ≤ 65536 → length plan.template ≤ 1048576 → plan.seed < 2 ^ 64
-    → PlanBack plan (plan_bytes plan)
+plan_back : (plan : Plan) → length plan.topo ≤ TOPOLOGY_BYTES → length plan.template ≤ TEMPLATE_BYTES
+    → plan.seed < 2 ^ 64 → PlanBack plan (plan_bytes plan)
 unfolding is_plan plan_of word_at long_at
 plan_back plan topo template seed =
     let b = plan_bytes plan in
     let r = plan_reads plan in
     let long = length_plan plan in
-    let m : differ (take 8 b) (codes "TMPLAN01") ≡ false = alike _ _ r.magic in
+    let m : differ (take 8 b) (plan_mark image_version) ≡ false = alike _ _ r.magic in
     let t : from_le_bytes w32 (take 4 (drop 16 b)) ≡ length plan.topo =
     ap (from_le_bytes w32) r.topo ∙ from_le_bytes-to_le_bytes_4 (length plan.topo) (omega (arith, topo)) in
     let l : from_le_bytes w32 (take 4 (drop 20 b)) ≡ length plan.template =
@@ -236,8 +239,8 @@ plan_back plan topo template seed =
     let s : from_le_bytes w64 (take 8 (drop 8 b)) ≡ plan.seed =
     ap (from_le_bytes w64) r.seed ∙ from_le_bytes-to_le_bytes_8 plan.seed seed in
     let head : nat_le 24 (length b) ≡ true = grind (arith, nat_tests) in
-    let few : nat_le (length plan.topo) 65536 ≡ true = grind (arith, nat_tests) in
-    let most : nat_le (length plan.template) 1048576 ≡ true = grind (arith, nat_tests) in
+    let few : nat_le (length plan.topo) TOPOLOGY_BYTES ≡ true = grind (arith, nat_tests) in
+    let most : nat_le (length plan.template) TEMPLATE_BYTES ≡ true = grind (arith, nat_tests) in
     let whole : (24 + length plan.topo + length plan.template == length b) ≡ true = grind (arith, nat_tests) in
     let front : take (length plan.topo) (drop 24 b) ≡ plan.topo =
     ap (take (length plan.topo)) r.texts ∙ take_at plan.topo plan.template (length plan.topo) refl in
@@ -259,10 +262,10 @@ text_holds p bytes f o s =
     ends _ at.sections _ _ _ f.text f.headers (omega arith) in
     let b : ends_by (headers_at bytes) (segment bytes 1) ≡ true =
     ends _ at.sections _ _ _ f.tables f.headers (omega arith) in
-    let most : nat_le (length (text_bytes p.text)) 8388608 ≡ true = grind (arith, nat_tests) in
+    let most : nat_le (length (text_bytes p.text)) (4 * TEXT_WORDS) ≡ true = grind (arith, nat_tests) in
     let some : nat_lt 0 (length (text_bytes p.text)) ≡ true = grind (arith, nat_tests) in
     let whole : length (text_bytes p.text) % 4 ≡ 0 = omega arith in
-    let few : nat_le (length p.tables) 4194304 ≡ true = grind (arith, nat_tests) in
+    let few : nat_le (length p.tables) TABLES_BYTES ≡ true = grind (arith, nat_tests) in
     rw (a, b, f.text, f.tables, most, some, whole, few) refl
 
 plan_holds : (p : Parts) (bytes : List ℕ) → ReadsAs p bytes → Found p bytes → OrderOf p → is_plan (plan_bytes p.plan)
@@ -284,7 +287,7 @@ symbols_hold p bytes f o s =
     let b : ends_by (headers_at bytes) (section bytes 6) ≡ true =
     ends _ at.sections _ _ _ f.strings f.headers (omega arith) in
     let some : nat_lt 0 (length (symbol_bytes p.symbols)) ≡ true = grind (arith, nat_tests) in
-    let few : nat_le (length (symbol_bytes p.symbols)) 1572864 ≡ true = grind (arith, nat_tests) in
+    let few : nat_le (length (symbol_bytes p.symbols)) (24 * (1 + MOST_SYMBOLS)) ≡ true = grind (arith, nat_tests) in
     let whole : length (symbol_bytes p.symbols) % 24 ≡ 0 = omega arith in
     rw (a, b, f.symbols, some, few, whole) refl
 

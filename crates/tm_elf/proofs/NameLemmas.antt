@@ -11,7 +11,8 @@ use Rattle.std.proofs.lemmas.Nat.{from_le_bytes-to_le_bytes_4, from_le_bytes-to_
 use Rattle.tm_elf_write.specs.declared.parts.Symbol.{Symbol}
 use Rattle.tm_elf_write.specs.Fields.{field_bytes, bytes_of}
 use Rattle.tm_elf_write.specs.Symbols.{IsName, entry, entries, string_bytes, symbol_bytes}
-use Rattle.tm_elf_head.specs.declared.fault.ElfFault.{ElfFault}
+use Rattle.tm_elf_write.specs.declared.parts.TheConstants.{MOST_SYMBOLS, SYMBOL_NAME_BYTES}
+use Rattle.tm_refusals.specs.declared.elf.ElfFault.{ElfFault}
 use Rattle.tm_elf_head.specs.Numbers.{word_at, long_at}
 use Rattle.tm_elf.specs.SymbolTable.{is_name, name_len, symbol_at, symbols_from, then_symbols}
 use Rattle.tm_elf_head.proofs.FitLemmas.{both}
@@ -36,23 +37,28 @@ name_is name is =
     let some = is.some in
     let short = is.short in
     let a : nat_lt 0 (length name) ≡ true = grind (arith, nat_tests) in
-    let b : nat_le (length name) 32 ≡ true = grind (arith, nat_tests) in
+    let b : nat_le (length name) SYMBOL_NAME_BYTES ≡ true = grind (arith, nat_tests) in
     rw (a, b) is.ascii
 
-front_is : (name rest : List ℕ) → length name ≤ 32 → take (length name) (take 33 (name ++ 0 ∷ rest)) ≡ name
-front_is name rest short = take-take (length name) 33 (name ++ 0 ∷ rest) (omega (arith, short)) ∙ take_at name (0
+-- so many bytes hold a name and the zero byte behind it
+abbrev room : ℕ
+room = SYMBOL_NAME_BYTES + 1
+
+front_is : (name rest : List ℕ) → length name ≤ SYMBOL_NAME_BYTES
+    → take (length name) (take room (name ++ 0 ∷ rest)) ≡ name
+front_is name rest short = take-take (length name) room (name ++ 0 ∷ rest) (omega (arith, short)) ∙ take_at name (0
     ∷ rest) (length name) refl
 
-name_back : (name rest : List ℕ) → IsName name → name_len (take 33 (name ++ 0 ∷ rest)) ≡ Some (length name)
+name_back : (name rest : List ℕ) → IsName name → name_len (take room (name ++ 0 ∷ rest)) ≡ Some (length name)
 unfolding name_len
 name_back name rest is =
     let short = is.short in
-    let n : prefix_len (λ b. not (b == 0)) (take 33 (name ++ 0 ∷ rest)) ≡ length name =
-    front_of_name name rest 33 (omega (arith, short)) is.ascii in
-    let l : length name < length (take 33 (name ++ 0 ∷ rest)) =
-    omega (arith, length-take 33 (name ++ 0 ∷ rest), length-append name (0 ∷ rest)) in
-    let within : nat_lt (length name) (length (take 33 (name ++ 0 ∷ rest))) ≡ true = grind (arith, nat_tests) in
-    let front : is_name (take (length name) (take 33 (name ++ 0 ∷ rest))) ≡ true =
+    let n : prefix_len (λ b. not (b == 0)) (take room (name ++ 0 ∷ rest)) ≡ length name =
+    front_of_name name rest room (omega (arith, short)) is.ascii in
+    let l : length name < length (take room (name ++ 0 ∷ rest)) =
+    omega (arith, length-take room (name ++ 0 ∷ rest), length-append name (0 ∷ rest)) in
+    let within : nat_lt (length name) (length (take room (name ++ 0 ∷ rest))) ≡ true = grind (arith, nat_tests) in
+    let front : is_name (take (length name) (take room (name ++ 0 ∷ rest))) ≡ true =
     ap is_name (front_is name rest short) ∙ name_is name is in
     rw (n, within, front) refl
 
@@ -115,8 +121,8 @@ entries_back (s ∷ ss) table strings index name names addrs fits e f =
     (omega (arith, fits, short)) next behind in
     then_back index _ _ s ss here rest
 
-pub symbols_back : (ss : List Symbol) → length ss ≤ 65535 → All (λ s. IsName s.name) ss → All (λ s. s.addr < 2 ^ 64) ss
-    → symbols_from (symbol_bytes ss) (string_bytes ss) (length ss) 1 ≡ Ok ss
+pub symbols_back : (ss : List Symbol) → length ss ≤ MOST_SYMBOLS → All (λ s. IsName s.name) ss
+    → All (λ s. s.addr < 2 ^ 64) ss → symbols_from (symbol_bytes ss) (string_bytes ss) (length ss) 1 ≡ Ok ss
 unfolding symbol_bytes string_bytes
 symbols_back ss few names addrs = entries_back ss _ _ 1 1 names addrs (omega (arith, few)) refl refl
 

@@ -7,7 +7,8 @@ use Rattle.std.proofs.lemmas.List.Elements.{All-cons}
 use Rattle.tm_elf_write.specs.declared.parts.Symbol.{Symbol}
 use Rattle.tm_elf_write.specs.Elf.{IsWritable}
 use Rattle.tm_elf_write.specs.Symbols.{IsName}
-use Rattle.tm_elf_head.specs.declared.fault.ElfFault.{ElfFault}
+use Rattle.tm_elf_write.specs.declared.parts.TheConstants.{SYMBOL_NAME_BYTES}
+use Rattle.tm_refusals.specs.declared.elf.ElfFault.{ElfFault}
 use Rattle.tm_elf_head.specs.Numbers.{word_at, long_at, part_at}
 use Rattle.tm_elf_head.specs.PartFaults.{bad_segment, has_plan, has_symbols}
 use Rattle.tm_elf.specs.Read.{parts_in, symbols_in, words_from}
@@ -43,7 +44,7 @@ symbol_named : (table strings : List ℕ) (index : ℕ) (s : Symbol) → symbol_
     → IsName s.name
 unfolding symbol_at
 symbol_named table strings index s h =
-    let named_bytes = part_at (word_at table (24 * index)) 33 strings in
+    let named_bytes = part_at (word_at table (24 * index)) (SYMBOL_NAME_BYTES + 1) strings in
     let m = mapped (λ (n : ℕ). let t : Symbol = record {
       name = take n named_bytes;
       addr = long_at table (24 * index + 8);

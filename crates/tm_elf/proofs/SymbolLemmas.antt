@@ -3,8 +3,8 @@ use Rattle.std.proofs.Common.{◌≡◌, ℕ, suc, ◌+◌, ◌-◌, ◌<◌, �
 use Rattle.std.proofs.Common.{ap, ◌∙◌, sym, arith}
 use Rattle.std.proofs.lemmas.List.{append-nil, append_assoc}
 use Rattle.tm_elf_write.specs.declared.parts.Symbol.{Symbol}
-use Rattle.tm_elf_head.specs.declared.fault.ElfFault.{ElfFault}
-use Rattle.tm_elf_head.specs.declared.fault.ElfFault.TheVariants.{BadSymbol}
+use Rattle.tm_refusals.specs.declared.elf.ElfFault.{ElfFault}
+use Rattle.tm_refusals.specs.declared.elf.ElfFault.TheVariants.{BadSymbol}
 use Rattle.tm_elf.specs.SymbolTable.{symbol_at, symbols_from, then_symbols}
 
 -- symbols already read, before those that are still to come

@@ -4,8 +4,8 @@ use Rattle.std.specs.Prelude.{Err, if◌then◌else◌, All}
 use Rattle.tm_elf_write.specs.declared.parts.Parts.{Parts}
 use Rattle.tm_elf_write.specs.declared.parts.Symbol.{Symbol}
 use Rattle.tm_elf_write.specs.Elf.{elf_file}
-use Rattle.tm_elf_head.specs.declared.fault.ElfFault.{ElfFault}
-use Rattle.tm_elf_head.specs.declared.fault.ElfFault.TheVariants.{BadSegment, NoPlan, BadSymbol, Differs}
+use Rattle.tm_refusals.specs.declared.elf.ElfFault.{ElfFault}
+use Rattle.tm_refusals.specs.declared.elf.ElfFault.TheVariants.{BadSegment, NoPlan, BadSymbol, Differs}
 use Rattle.tm_elf_head.specs.Differences.{first_difference}
 use Rattle.tm_elf_head.specs.HeaderFaults.{header_fault}
 use Rattle.tm_elf_head.specs.Numbers.{word_at}

@@ -3,14 +3,16 @@ use Rattle.std.specs.Prelude.{ℕ, zero, suc, List, [], ◌∷◌, ◌+◌, ◌*
 use Rattle.std.specs.Prelude.{Result, Ok, Err, not, nat_lt, nat_le, if◌then◌else◌, length, take}
 use Rattle.std.specs.List.{prefix_len, list_all}
 use Rattle.tm_elf_write.specs.declared.parts.Symbol.{Symbol}
-use Rattle.tm_elf_head.specs.declared.fault.ElfFault.{ElfFault}
-use Rattle.tm_elf_head.specs.declared.fault.ElfFault.TheVariants.{BadSymbol}
+use Rattle.tm_elf_write.specs.declared.parts.TheConstants.{SYMBOL_NAME_BYTES}
+use Rattle.tm_refusals.specs.declared.elf.ElfFault.{ElfFault}
+use Rattle.tm_refusals.specs.declared.elf.ElfFault.TheVariants.{BadSymbol}
 use Rattle.tm_elf_head.specs.Numbers.{word_at, long_at, part_at}
 
 -- whether bytes are 1 to 32 of ASCII, none of them zero (this project)
 unfoldable pub is_name : List ℕ → Bool
 is_name bytes =
-    nat_lt 0 (length bytes) && (nat_le (length bytes) 32 && list_all (λ b. nat_lt 0 b && nat_lt b 128) bytes)
+    nat_lt 0 (length bytes) && (nat_le (length bytes) SYMBOL_NAME_BYTES
+    && list_all (λ b. nat_lt 0 b && nat_lt b 128) bytes)
 
 -- the length of the name with which bytes begin, if they begin with one that a zero byte ends (ELF gABI, "String
 -- Table")
@@ -22,7 +24,7 @@ name_len bytes = let n = prefix_len (λ b. not (b == 0)) bytes in if nat_lt n (l
 -- at most 33 bytes
 unfoldable pub symbol_at : (table strings : List ℕ) (index : ℕ) → Option Symbol
 symbol_at table strings index =
-    let named = part_at (word_at table (24 * index)) 33 strings in
+    let named = part_at (word_at table (24 * index)) (SYMBOL_NAME_BYTES + 1) strings in
     option_map (λ n. record { name = take n named; addr = long_at table (24 * index + 8) }) (name_len named)
 
 -- a symbol before others, or the fault that comes first (this project)

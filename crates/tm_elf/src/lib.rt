@@ -6,5 +6,6 @@ mod read;
 mod symbols;
 
 pub use read::read_elf;
-pub use tm_elf_head::{ElfFault, first_difference};
+pub use tm_elf_head::first_difference;
 pub use tm_elf_write::{Parts, Plan, Symbol, write_elf};
+pub use tm_refusals::ElfFault;

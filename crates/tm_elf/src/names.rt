@@ -4,9 +4,7 @@ ghost use Rattle.std.specs.List.{list_all, prefix_len};
 ghost use Rattle.tm_elf.specs.SymbolTable.{is_name as is_symbol_name, name_len as len_of_name};
 
 use tm_elf_head::part_at;
-
-/// The most bytes of a name.
-pub const MAX_NAME: usize = 32;
+use tm_elf_write::SYMBOL_NAME_BYTES;
 
 /// The length of the name with which bytes begin, if a zero byte ends it.
 #[tactic(auto, unfolding(crate::specs::SymbolTable::name_len))]
@@ -40,7 +38,7 @@ fn is_name(bytes: &[u8]) -> bool
     if bytes.is_empty() {
         return false;
     }
-    if bytes.len() > MAX_NAME {
+    if bytes.len() > SYMBOL_NAME_BYTES {
         return false;
     }
     are_ascii(bytes)

@@ -12,10 +12,11 @@ use crate::symbols::read_symbols;
 use std::alloc::Global;
 use tm_base::{Bytes, List, NoMemory, Words};
 use tm_elf_head::{
-    ElfFault, bad_segment, first_difference, has_plan, has_symbols, header_fault, read_plan,
-    section, segment, word_at,
+    bad_segment, first_difference, has_plan, has_symbols, header_fault, read_plan, section,
+    segment, word_at,
 };
 use tm_elf_write::{Parts, Symbol, write_elf};
+use tm_refusals::ElfFault;
 
 // The words that bytes hold.
 #[tactic(auto, using(crate::proofs::WordLemmas::words_start, crate::proofs::WordLemmas::words_more, crate::proofs::WordLemmas::words_end))]

@@ -1,8 +1,10 @@
 -- What the tests say of the ranges that are read.
-use Rattle.std.proofs.Common.{◌≡◌, ℕ, ◌+◌, ◌-◌, ◌%◌, ◌<◌, ◌≤◌, ◌==◌, ◌&&◌, Bool, true, false, cond, nat_lt, nat_le}
+use Rattle.std.proofs.Common.{◌≡◌, ℕ, ◌+◌, ◌-◌, ◌%◌, ◌<◌, ◌≤◌, ◌==◌, ◌&&◌, Bool, true, false, cond, nat_lt, nat_le, ◌*◌}
 use Rattle.std.proofs.Common.{Option, Some, None, List, length, drop, refl, arith, length-drop}
 use Rattle.std.proofs.lemmas.List.{length-take}
 use Rattle.std.proofs.lemmas.Bool.Decides.{nat_tests}
+use Rattle.tm_elf_write.specs.declared.parts.TheConstants.{MOST_SYMBOLS}
+use Rattle.tm_base.specs.declared.limits.TheConstants.{TEXT_WORDS, TABLES_BYTES, TOPOLOGY_BYTES, TEMPLATE_BYTES}
 use Rattle.tm_elf_head.specs.declared.spans.Span.{Span}
 use Rattle.tm_elf_head.specs.Numbers.{word_at}
 use Rattle.tm_elf_head.specs.PartFaults.{is_text, is_tables, bad_segment, is_plan, plan_of, has_plan, has_symbols}
@@ -32,10 +34,10 @@ length_in span bytes h = omega (arith, length-take span.len (drop span.at bytes)
 
 pub record TextFits (bytes : List ℕ) : Type 0 where
   pub some : 0 < (segment bytes 0).len
-  pub most : (segment bytes 0).len ≤ 8388608
+  pub most : (segment bytes 0).len ≤ 4 * TEXT_WORDS
   pub words : (segment bytes 0).len % 4 ≡ 0
   pub long : length (bytes_in (segment bytes 0) bytes) ≡ (segment bytes 0).len
-  pub tables : (segment bytes 1).len ≤ 4194304
+  pub tables : (segment bytes 1).len ≤ TABLES_BYTES
 
 segments_hold : (a b : Bool) → cond {A = Option ℕ} a (cond b None (Some 1)) (Some 0) ≡ None → (a ≡ true) × (b ≡ true)
 segments_hold true true h = (refl, refl)
@@ -48,7 +50,7 @@ text_holds bytes t u =
     let a = both _ _ t in
     let b = both _ _ a.1 in
     let c = both _ _ b.1 in
-    let e = both (ends_by (headers_at bytes) (segment bytes 1)) (nat_le (segment bytes 1).len 4194304) u in
+    let e = both (ends_by (headers_at bytes) (segment bytes 1)) (nat_le (segment bytes 1).len TABLES_BYTES) u in
     let end : (segment bytes 0).at + (segment bytes 0).len ≤ length bytes - 512 =
     ends (headers_at bytes) (segment bytes 0) a.0 in
     record {
@@ -69,7 +71,7 @@ plan_fits bytes h = let a = both _ _ h in let b = both _ _ a.1 in b.1
 
 pub record SymbolsFit (bytes : List ℕ) : Type 0 where
   pub some : 0 < (section bytes 5).len
-  pub few : (section bytes 5).len ≤ 1572864
+  pub few : (section bytes 5).len ≤ 24 * (1 + MOST_SYMBOLS)
   pub entries : (section bytes 5).len % 24 ≡ 0
   pub long : length (bytes_in (section bytes 5) bytes) ≡ (section bytes 5).len
 
@@ -90,8 +92,8 @@ symbols_fit bytes h =
     }
 
 pub record PlanFits (bytes : List ℕ) : Type 0 where
-  pub topo : length (plan_of bytes).topo ≤ 65536
-  pub template : length (plan_of bytes).template ≤ 1048576
+  pub topo : length (plan_of bytes).topo ≤ TOPOLOGY_BYTES
+  pub template : length (plan_of bytes).template ≤ TEMPLATE_BYTES
 
 pub plan_lengths : (bytes : List ℕ) → is_plan bytes ≡ true → PlanFits bytes
 unfolding is_plan plan_of
@@ -100,8 +102,8 @@ plan_lengths bytes h =
     let b = both _ _ a.1 in
     let c = both _ _ b.1 in
     let d = both _ _ c.1 in
-    let topo : word_at bytes 16 ≤ 65536 = at_most _ _ c.0 in
-    let template : word_at bytes 20 ≤ 1048576 = at_most _ _ d.0 in
+    let topo : word_at bytes 16 ≤ TOPOLOGY_BYTES = at_most _ _ c.0 in
+    let template : word_at bytes 20 ≤ TEMPLATE_BYTES = at_most _ _ d.0 in
     let whole : 24 + word_at bytes 16 + word_at bytes 20 ≡ length bytes = is_equal _ _ d.1 in
     record {
       topo = omega (arith, length-take (word_at bytes 16) (drop 24 bytes));

@@ -2,8 +2,8 @@
 use Rattle.std.specs.Prelude.{ℕ, List, [], ◌∷◌, ◌-◌, ◌==◌, Option, Some, None, option_map, not, nat_lt, if◌then◌else◌}
 use Rattle.std.specs.Prelude.{length, take}
 use Rattle.tm_elf_write.specs.Fields.{zeros}
-use Rattle.tm_elf_head.specs.declared.fault.ElfFault.{ElfFault}
-use Rattle.tm_elf_head.specs.declared.fault.ElfFault.TheVariants.{Short, BadMagic, NotRiscv, NotExec, BadHeader}
+use Rattle.tm_refusals.specs.declared.elf.ElfFault.{ElfFault}
+use Rattle.tm_refusals.specs.declared.elf.ElfFault.TheVariants.{Short, BadMagic, NotRiscv, NotExec, BadHeader}
 use Rattle.tm_elf_head.specs.Differences.{differ}
 use Rattle.tm_elf_head.specs.Numbers.{half_at, word_at, long_at, part_at}
 

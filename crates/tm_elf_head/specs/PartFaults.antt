@@ -1,7 +1,11 @@
 -- What is at fault in the ranges of a file, and in its plan.
 use Rattle.std.specs.Prelude.{ℕ, List, Bool, Option, Some, None, ◌+◌, ◌*◌, ◌%◌, ◌==◌, ◌&&◌, not, nat_lt, nat_le}
-use Rattle.std.specs.Prelude.{if◌then◌else◌, length, take, drop, codes}
+use Rattle.std.specs.Prelude.{if◌then◌else◌, length, take, drop}
+use Rattle.tm_base.specs.Limits.{image_version}
+use Rattle.tm_base.specs.declared.limits.TheConstants.{TEXT_WORDS, TABLES_BYTES, TOPOLOGY_BYTES, TEMPLATE_BYTES}
+use Rattle.tm_elf_write.specs.Plan.{plan_mark}
 use Rattle.tm_elf_write.specs.declared.parts.Plan.{Plan}
+use Rattle.tm_elf_write.specs.declared.parts.TheConstants.{MOST_SYMBOLS}
 use Rattle.tm_elf_head.specs.Differences.{differ}
 use Rattle.tm_elf_head.specs.Numbers.{word_at, long_at}
 use Rattle.tm_elf_head.specs.Spans.{headers_at, segment, section, ends_by, bytes_in}
@@ -9,11 +13,12 @@ use Rattle.tm_elf_head.specs.Spans.{headers_at, segment, section, ends_by, bytes
 -- whether the first program header gives a text: before the section headers, and of 1 to 2,097,152 words (this project)
 unfoldable pub is_text : List ℕ → Bool
 is_text bytes = ends_by (headers_at bytes) (segment bytes 0)
-    && (nat_le (segment bytes 0).len 8388608 && (nat_lt 0 (segment bytes 0).len && ((segment bytes 0).len % 4 == 0)))
+    && (nat_le (segment bytes 0).len (4 * TEXT_WORDS)
+    && (nat_lt 0 (segment bytes 0).len && ((segment bytes 0).len % 4 == 0)))
 
 -- whether the second gives tables: before the section headers, and of at most 4,194,304 bytes (this project)
 unfoldable pub is_tables : List ℕ → Bool
-is_tables bytes = ends_by (headers_at bytes) (segment bytes 1) && nat_le (segment bytes 1).len 4194304
+is_tables bytes = ends_by (headers_at bytes) (segment bytes 1) && nat_le (segment bytes 1).len TABLES_BYTES
 
 -- the least program header at fault, of the two whose bytes are read (this project)
 unfoldable pub bad_segment : List ℕ → Option ℕ
@@ -23,8 +28,8 @@ bad_segment bytes = if is_text bytes then (if is_tables bytes then None else Som
 -- lengths up to the end (this project)
 unfoldable pub is_plan : List ℕ → Bool
 is_plan bytes =
-    nat_le 24 (length bytes) && (not (differ (take 8 bytes) (codes "TMPLAN01"))
-    && (nat_le (word_at bytes 16) 65536 && (nat_le (word_at bytes 20) 1048576
+    nat_le 24 (length bytes) && (not (differ (take 8 bytes) (plan_mark image_version))
+    && (nat_le (word_at bytes 16) TOPOLOGY_BYTES && (nat_le (word_at bytes 20) TEMPLATE_BYTES
     && (24 + word_at bytes 16 + word_at bytes 20 == length bytes))))
 
 -- the plan that bytes are (this project)
@@ -44,4 +49,5 @@ has_plan bytes = (word_at bytes (headers_at bytes + (64 * 4 + 4)) == 1)
 unfoldable pub has_symbols : List ℕ → Bool
 has_symbols bytes =
     ends_by (headers_at bytes) (section bytes 5) && (ends_by (headers_at bytes) (section bytes 6)
-    && (nat_lt 0 (section bytes 5).len && (nat_le (section bytes 5).len 1572864 && ((section bytes 5).len % 24 == 0))))
+    && (nat_lt 0 (section bytes 5).len && (nat_le (section bytes 5).len (24 * (1 + MOST_SYMBOLS))
+    && ((section bytes 5).len % 24 == 0))))

@@ -3,8 +3,8 @@ ghost use Rattle.std.specs.Prelude.{◌≡◌, ◌≤◌, length, IfNone};
 ghost use Rattle.tm_elf_head.specs.HeaderFaults.{bad_field as field_at_fault, header_fault as fault};
 
 use crate::difference::differ;
-use crate::fault::ElfFault;
 use crate::numbers::{half_at, long_at, part_at, word_at};
+use tm_refusals::ElfFault;
 
 // The least length of a file with its headers.
 const LEAST: usize = 744;

@@ -2,7 +2,6 @@
 #![tactic(auto)]
 
 mod difference;
-mod fault;
 mod header;
 mod numbers;
 mod plan;
@@ -11,7 +10,6 @@ mod spans;
 mod tables;
 
 pub use difference::first_difference;
-pub use fault::ElfFault;
 pub use header::header_fault;
 pub use numbers::{long_at, part_at, word_at};
 pub use plan::{has_plan, read_plan};

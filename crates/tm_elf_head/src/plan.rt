@@ -6,8 +6,8 @@ use crate::difference::differ;
 use crate::numbers::{long_at, part_at, word_at};
 use crate::spans::{headers_at, section};
 use std::alloc::Global;
-use tm_base::{Bytes, NoMemory};
-use tm_elf_write::Plan;
+use tm_base::{Bytes, IMAGE_VERSION, NoMemory, TEMPLATE_BYTES, TOPOLOGY_BYTES};
+use tm_elf_write::{Plan, plan_mark};
 
 // The magic, the seed and two lengths.
 const PLAN_HEAD: usize = 24;
@@ -37,15 +37,15 @@ fn is_plan(bytes: &[u8]) -> bool
     if bytes.len() < PLAN_HEAD {
         return false;
     }
-    if differ(part_at(bytes, 0, 8), b"TMPLAN01") {
+    if differ(part_at(bytes, 0, 8), plan_mark(IMAGE_VERSION)) {
         return false;
     }
     let topo = word_at(bytes, 16) as usize;
     let template = word_at(bytes, 20) as usize;
-    if topo > 65_536 {
+    if topo as u64 > TOPOLOGY_BYTES {
         return false;
     }
-    if template > 1_048_576 {
+    if template as u64 > TEMPLATE_BYTES {
         return false;
     }
     PLAN_HEAD + topo + template == bytes.len()

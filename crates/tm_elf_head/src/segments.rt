@@ -3,6 +3,7 @@ ghost use Rattle.std.specs.Prelude.{◌≡◌, ◌≤◌, length};
 ghost use Rattle.tm_elf_head.specs.PartFaults.{bad_segment as fault, is_text as text, is_tables as tables};
 
 use crate::spans::{headers_at, segment};
+use tm_base::{TABLES_BYTES, TEXT_WORDS};
 
 /// The least program header at fault.
 #[tactic(auto, unfolding(crate::specs::PartFaults::bad_segment))]
@@ -19,7 +20,7 @@ pub fn bad_segment(bytes: &[u8]) -> Option<u8>
     None
 }
 
-// Whether the first gives a text of 1 to 2,097,152 words.
+// Whether the first gives a text of a word at least, and no more than a text may have.
 #[tactic(auto, unfolding(crate::specs::PartFaults::is_text))]
 fn is_text(bytes: &[u8]) -> bool
     requires { 744 ≤ length bytes.now }
@@ -29,7 +30,7 @@ fn is_text(bytes: &[u8]) -> bool
     if !span.ends_by(headers_at(bytes) as u64) {
         return false;
     }
-    if span.len > 0x80_0000 {
+    if span.len > 4 * u64::from(TEXT_WORDS) {
         return false;
     }
     if span.len == 0 {
@@ -48,5 +49,5 @@ fn is_tables(bytes: &[u8]) -> bool
     if !span.ends_by(headers_at(bytes) as u64) {
         return false;
     }
-    span.len <= 0x40_0000
+    span.len <= u64::from(TABLES_BYTES)
 }

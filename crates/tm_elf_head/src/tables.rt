@@ -3,6 +3,7 @@ ghost use Rattle.std.specs.Prelude.{◌≡◌, ◌≤◌, length};
 ghost use Rattle.tm_elf_head.specs.PartFaults.{has_symbols as with_symbols};
 
 use crate::spans::{headers_at, section};
+use tm_elf_write::MOST_SYMBOLS;
 
 /// Whether sections 5 and 6 are the ranges of a symbol table and of its strings.
 #[tactic(auto, unfolding(crate::specs::PartFaults::has_symbols))]
@@ -21,7 +22,7 @@ pub fn has_symbols(bytes: &[u8]) -> bool
     if span.len == 0 {
         return false;
     }
-    if span.len > 0x18_0000 {
+    if span.len > 24 * (1 + u64::from(MOST_SYMBOLS)) {
         return false;
     }
     span.len % 24 == 0

@@ -1,6 +1,7 @@
 -- The file of an image: an ELF-64 file for RISC-V with three segments and eight sections. Numbers are little-endian,
 -- padding bytes are zero.
 use Rattle.std.specs.Prelude.{ℕ, List, ◌++◌, ◌+◌, ◌-◌, ◌*◌, ◌≤◌, ◌<◌, length, map, All}
+use Rattle.tm_base.specs.declared.limits.TheConstants.{TEXT_WORDS, TABLES_BYTES, TOPOLOGY_BYTES, TEMPLATE_BYTES}
 use Rattle.tm_elf_write.specs.declared.fields.Field.TheVariants.{Word}
 use Rattle.tm_elf_write.specs.declared.parts.Parts.{Parts}
 use Rattle.tm_elf_write.specs.Fields.{bytes_of, zeros}
@@ -10,6 +11,7 @@ use Rattle.tm_elf_write.specs.Segments.{segments, segments_bytes}
 use Rattle.tm_elf_write.specs.Sections.{sections, sections_bytes, section_names}
 use Rattle.tm_elf_write.specs.Plan.{plan_bytes}
 use Rattle.tm_elf_write.specs.Symbols.{symbol_bytes, string_bytes, IsName}
+use Rattle.tm_elf_write.specs.declared.parts.TheConstants.{MOST_SYMBOLS}
 
 -- the text's words, the lowest byte first (RISC-V Volume I 1.5)
 unfoldable pub text_bytes : List ℕ → List ℕ
@@ -42,9 +44,9 @@ elf_file p = file (text_bytes p.text) p.tables (plan_bytes p.plan) (symbol_bytes
 
 -- the parts that have a file, with lengths in words, bytes and symbols (this project)
 pub record IsWritable (p : Parts) : Type 0 where
-  pub text : (0 < length p.text) × (length p.text ≤ 2097152)
-  pub tables : length p.tables ≤ 4194304
-  pub topo : length p.plan.topo ≤ 65536
-  pub template : length p.plan.template ≤ 1048576
-  pub symbols : length p.symbols ≤ 65535
+  pub text : (0 < length p.text) × (length p.text ≤ TEXT_WORDS)
+  pub tables : length p.tables ≤ TABLES_BYTES
+  pub topo : length p.plan.topo ≤ TOPOLOGY_BYTES
+  pub template : length p.plan.template ≤ TEMPLATE_BYTES
+  pub symbols : length p.symbols ≤ MOST_SYMBOLS
   pub names : All (λ s. IsName s.name) p.symbols

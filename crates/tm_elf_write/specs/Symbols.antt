@@ -5,11 +5,12 @@ use Rattle.tm_elf_write.specs.declared.fields.Field.{Field}
 use Rattle.tm_elf_write.specs.declared.fields.Field.TheVariants.{Byte, Half, Word, Long}
 use Rattle.tm_elf_write.specs.declared.parts.Symbol.{Symbol}
 use Rattle.tm_elf_write.specs.Fields.{bytes_of, zeros}
+use Rattle.tm_elf_write.specs.declared.parts.TheConstants.{SYMBOL_NAME_BYTES}
 
 -- a name of 1 to 32 ASCII bytes, none of them zero (this project)
 pub record IsName (name : List ℕ) : Type 0 where
   pub some : 0 < length name
-  pub short : length name ≤ 32
+  pub short : length name ≤ SYMBOL_NAME_BYTES
   pub ascii : IsTrue (list_all (λ b. nat_lt 0 b && nat_lt b 128) name)
 
 -- a zero byte, and then each symbol's name with a zero byte (ELF gABI, "String Table")

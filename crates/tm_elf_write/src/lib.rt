@@ -11,5 +11,6 @@ mod segments;
 mod symbols;
 mod write;
 
-pub use parts::{Parts, Plan, Symbol};
+pub use parts::{MOST_SYMBOLS, Parts, Plan, SYMBOL_NAME_BYTES, Symbol};
+pub use plan::plan_mark;
 pub use write::write_elf;

@@ -1,6 +1,12 @@
 // What the file of an image holds.
 use tm_base::{Bytes, List, Text, Words};
 
+/// The most symbols of an image.
+pub const MOST_SYMBOLS: u32 = 65_535;
+
+/// The most bytes of a symbol's name.
+pub const SYMBOL_NAME_BYTES: usize = 32;
+
 /// What an image was made from.
 #[derive(Drop)]
 pub struct Plan {

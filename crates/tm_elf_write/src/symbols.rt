@@ -2,6 +2,7 @@
 ghost use Rattle.std.specs.Prelude.{◌≡◌, ◌++◌, ◌+◌, ◌*◌, ◌≤◌, OnOk, IfOk, All, length};
 ghost use Rattle.tm_elf_write.specs.Fields.{bytes_of};
 ghost use Rattle.tm_elf_write.specs.Symbols.{IsName, string_bytes, symbol_bytes, entry};
+ghost use Rattle.tm_elf_write.specs.declared.parts.TheConstants.{MOST_SYMBOLS};
 
 use crate::fields::{Field, put_fields, put_zeros};
 use crate::parts::Symbol;
@@ -45,7 +46,7 @@ fn put_entry(out: &mut Bytes, name: u32, addr: u64) -> Result<(), NoMemory>
 #[tactic(auto, unfolding(crate::specs::Symbols::symbol_bytes, crate::specs::Symbols::entries))]
 pub fn symbols_of(alloc: Global, symbols: &[Symbol]) -> Result<Bytes, NoMemory>
     requires names { All (λ s. IsName s.name) symbols.now }
-    requires few { length symbols.now ≤ 65535 }
+    requires few { length symbols.now ≤ MOST_SYMBOLS }
     ensures { IfOk result (λ b. b ≡ symbol_bytes symbols.now) }
 {
     let mut out = Bytes::new(alloc);

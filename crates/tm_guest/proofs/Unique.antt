@@ -9,7 +9,7 @@ use Rattle.tm_table.specs.Words.{low}
 use Rattle.tm_table.specs.Row.{Effect, Gives, Loads, Stores, Branches, Jumps, effect_at, after, row, row_word}
 use Rattle.tm_plan_map.specs.Slots.{instr_of}
 use Rattle.tm_plan_cases.specs.declared.program.Program.{Program}
-use Rattle.tm_plan_cases.specs.declared.journal.Event.{Event}
+use Rattle.tm_plan_cases.specs.declared.event.Event.{Event}
 use Rattle.tm_plan_script.specs.declared.faults.FaultLine.{FaultLine}
 use Rattle.tm_world.specs.Place.{word_at}
 use Rattle.tm_world.specs.Run.{Step, Reads, HasShape, read_value, hart_of, pc_of, access_of}

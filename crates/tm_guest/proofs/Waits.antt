@@ -6,7 +6,7 @@ use Rattle.std.proofs.lemmas.Bool.{cases_eq}
 use Rattle.tm_base.specs.Lists.{any, count_from}
 use Rattle.tm_table.specs.declared.state.Access.{Access}
 use Rattle.tm_plan_map.specs.Map.{flag_at}
-use Rattle.tm_plan_cases.specs.declared.journal.Event.{Event}
+use Rattle.tm_plan_cases.specs.declared.event.Event.{Event}
 use Rattle.tm_world.specs.Place.{harts, exit_of}
 use Rattle.tm_world.specs.Run.{own, phase}
 use Rattle.tm_world.specs.Course.{signals, this_phase}

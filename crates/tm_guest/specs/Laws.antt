@@ -1,7 +1,7 @@
 -- Laws of guests (this project's own).
 use Rattle.std.specs.Prelude.{◌≡◌, ℕ}
 use Rattle.tm_plan_cases.specs.declared.program.Program.{Program}
-use Rattle.tm_plan_cases.specs.declared.journal.Event.{Event}
+use Rattle.tm_plan_cases.specs.declared.event.Event.{Event}
 use Rattle.tm_guest.specs.Guested.{Guested}
 use Rattle.tm_guest.specs.Turns.{IsNextEvent}
 

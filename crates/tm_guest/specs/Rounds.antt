@@ -1,6 +1,6 @@
 -- Turns in round order (this project's own).
 use Rattle.std.specs.Prelude.{◌≡◌, ℕ, suc, ◌<◌, ◌≤◌, length}
-use Rattle.tm_plan_cases.specs.declared.journal.Event.{Event}
+use Rattle.tm_plan_cases.specs.declared.event.Event.{Event}
 use Rattle.tm_world.specs.Place.{harts}
 use Rattle.tm_guest.specs.declared.turn.RoundEnd.{RoundEnd}
 use Rattle.tm_guest.specs.declared.turn.RoundEnd.TheVariants.{Done, Full}

@@ -1,6 +1,6 @@
 -- What a turn of a hart answers (this project's own).
 use Rattle.std.specs.Prelude.{◌≡◌, ℕ, ◌<◌, length}
-use Rattle.tm_plan_cases.specs.declared.journal.Event.{Event}
+use Rattle.tm_plan_cases.specs.declared.event.Event.{Event}
 use Rattle.tm_world.specs.Script.{FaultedRun}
 use Rattle.tm_guest.specs.declared.turn.Turn.{Turn}
 use Rattle.tm_guest.specs.declared.turn.Turn.TheVariants.{Stepped, Halted, Full}

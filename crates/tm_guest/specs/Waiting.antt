@@ -1,6 +1,6 @@
 -- Which hart waits at the barrier (this project's own).
 use Rattle.std.specs.Prelude.{ℕ, suc, Bool, false, ◌||◌, ◌==◌, IsTrue, if◌then◌else◌}
-use Rattle.tm_plan_cases.specs.declared.journal.Event.{Event}
+use Rattle.tm_plan_cases.specs.declared.event.Event.{Event}
 use Rattle.tm_world.specs.Run.{own}
 use Rattle.tm_world.specs.Kinds.{writes_flag}
 use Rattle.tm_world.specs.Work.{is_idle_read}

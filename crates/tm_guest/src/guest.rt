@@ -1,7 +1,7 @@
 // The guest: one state, stepped hart by hart.
 ghost use Rattle.std.specs.Prelude.{◌≡◌, ◌↔◌, ◌+◌, ◌<◌, ◌≤◌, ◌^◌, [], length, IsTrue, IfOk};
 ghost use Rattle.tm_base.specs.Lists.{any};
-ghost use Rattle.tm_plan_cases.specs.declared.journal.Event.{Event};
+ghost use Rattle.tm_plan_cases.specs.declared.event.Event.{Event};
 ghost use Rattle.tm_table.specs.State.{hart_of};
 ghost use Rattle.tm_plan_cases.specs.Shaped.{IsProgram};
 ghost use Rattle.tm_world.specs.Place.{harts, exit_of};

@@ -1,6 +1,6 @@
 -- For callers: all seats of a mill, kept in a Vec.
 use Rattle.std.proofs.Common.{◌≡◌, ℕ, List, ◌++◌, length, take, drop, sym, ◌∙◌, subst}
-use Rattle.tm_plan_cases.specs.declared.journal.Event.{Event}
+use Rattle.tm_plan_cases.specs.declared.event.Event.{Event}
 use Rattle.tm_turn.specs.Seats.{SeatState}
 use Rattle.tm_turn.proofs.Places.{written_back}
 use Rattle.tm_harts.specs.declared.held.Setup.{Setup}

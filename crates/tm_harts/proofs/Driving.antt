@@ -1,6 +1,6 @@
 -- A seat that was driven turn by turn.
 use Rattle.std.proofs.Common.{◌≡◌, ℕ, [], Option, Some, None, inl, inr, sym, ◌∙◌, subst}
-use Rattle.tm_plan_cases.specs.declared.journal.Event.{Event}
+use Rattle.tm_plan_cases.specs.declared.event.Event.{Event}
 use Rattle.tm_guest.specs.declared.turn.Turn.{Turn}
 use Rattle.tm_guest.specs.declared.turn.Turn.TheVariants.{Stepped, Halted, Full}
 use Rattle.tm_guest.specs.Guested.{Guested}

@@ -1,7 +1,7 @@
 -- No idle read comes into a journal by a turn that isn't held back.
 use Rattle.std.proofs.Common.{◌≡◌, ℕ, List, [], Bool, true, false, refl, sym, subst}
 use Rattle.std.specs.Prelude.{IsTrue, IsFalse}
-use Rattle.tm_plan_cases.specs.declared.journal.Event.{Event}
+use Rattle.tm_plan_cases.specs.declared.event.Event.{Event}
 use Rattle.tm_world.specs.Run.{Always, hart_of, own}
 use Rattle.tm_world.specs.Work.{is_idle_read}
 use Rattle.tm_guest.specs.declared.turn.Turn.{Turn}

@@ -1,6 +1,6 @@
 -- Seats of a mill: those that are new, and those that were driven.
 use Rattle.std.proofs.Common.{◌≡◌, ℕ, List, length, ap, ◌∙◌, arith}
-use Rattle.tm_plan_cases.specs.declared.journal.Event.{Event}
+use Rattle.tm_plan_cases.specs.declared.event.Event.{Event}
 use Rattle.tm_world.specs.Place.{harts}
 use Rattle.tm_turn.specs.Seats.{LineId, SeatState, AreNew, AreAllOutside, HasNumber}
 use Rattle.tm_turn.proofs.Places.{got_within, in_bounds}

@@ -1,6 +1,6 @@
 -- Seats that were driven to an end (this project's own).
 use Rattle.std.specs.Prelude.{◌≡◌, ◌⊎◌, ℕ, List, length, slice_get, Some}
-use Rattle.tm_plan_cases.specs.declared.journal.Event.{Event}
+use Rattle.tm_plan_cases.specs.declared.event.Event.{Event}
 use Rattle.tm_guest.specs.Guested.{Guested, IsHalted}
 use Rattle.tm_guest.specs.Waiting.{Waits}
 use Rattle.tm_turn.specs.History.{made_by, BeginsWith}

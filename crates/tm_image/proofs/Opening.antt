@@ -18,11 +18,11 @@ use Rattle.tm_elf_head.specs.Differences.{first_difference}
 use Rattle.tm_elf_head.proofs.DifferenceLemmas.{no_difference}
 use Rattle.tm_elf.specs.Read.{elf_of}
 use Rattle.tm_rules_slot.proofs.Systems.{system_of}
-use Rattle.tm_faults.specs.declared.rule.RuleAt.{RuleAt}
+use Rattle.tm_refusals.specs.declared.rule.RuleAt.{RuleAt}
 use Rattle.tm_rules_first.specs.Rules.{broken_rule}
 use Rattle.tm_rules.specs.Admitting.{admitted_of}
 use Rattle.tm_rules.proofs.RuledLemmas.{admitted-ruled}
-use Rattle.tm_faults.specs.declared.inputs.InputFault.{InputFault}
+use Rattle.tm_refusals.specs.declared.inputs.InputFault.{InputFault}
 use Rattle.tm_image_inputs.specs.Inputs.{inputs, behind_topology, template_inputs, of_reading, unless_broken}
 use Rattle.tm_image_program.specs.Program.{program_for}
 use Rattle.tm_image_build.specs.Built.{parts_of, image_file, built, built_of}

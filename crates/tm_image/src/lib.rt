@@ -5,5 +5,5 @@ pub mod laws;
 mod open;
 
 pub use open::open_image;
-pub use tm_faults::{BuildFault, ImageFault, InputFault, Role};
 pub use tm_image_build::{Image, build};
+pub use tm_refusals::{BuildFault, ImageFault, InputFault, Role};

@@ -5,14 +5,14 @@ ghost use Rattle.tm_elf.specs.Read.{elf_of};
 ghost use Rattle.tm_image_build.specs.Built.{program_from};
 ghost use Rattle.tm_image_inputs.specs.Inputs.{inputs};
 ghost use Rattle.tm_image_build.specs.Opened.{compared, opened, rebuilt};
-ghost use Rattle.tm_faults.specs.Named.{IsNamedFault};
+ghost use Rattle.tm_refusals.specs.Named.{IsNamedFault};
 
 use std::alloc::Global;
 use tm_elf::read_elf;
-use tm_elf_head::{ElfFault, first_difference};
+use tm_elf_head::first_difference;
 use tm_elf_write::Parts;
-use tm_faults::{BuildFault, ImageFault};
 use tm_image_build::{Image, build};
+use tm_refusals::{BuildFault, ElfFault, ImageFault};
 
 /// The image of a file, if the file is what is built of its plan; else its first fault. A file is taken only where it
 /// is the image's file, byte for byte.

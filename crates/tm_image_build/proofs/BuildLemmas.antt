@@ -2,8 +2,8 @@
 use Rattle.std.proofs.Common.{◌≡◌, ℕ, List, Ok, refl}
 use Rattle.tm_plan_map.specs.declared.admitted.Admitted.{Admitted}
 use Rattle.tm_plan_cases.specs.declared.program.Program.{Program}
-use Rattle.tm_faults.specs.declared.inputs.BuildFault.{BuildFault}
-use Rattle.tm_faults.specs.declared.inputs.BuildFault.TheVariants as fault
+use Rattle.tm_refusals.specs.declared.inputs.BuildFault.{BuildFault}
+use Rattle.tm_refusals.specs.declared.inputs.BuildFault.TheVariants as fault
 use Rattle.tm_image_inputs.specs.Inputs.{inputs, IsFaultOf}
 use Rattle.tm_image_program.specs.Program.{program_for}
 use Rattle.tm_image_build.specs.Built.{image_file, built, program_from}

@@ -4,7 +4,7 @@ use Rattle.tm_elf_write.specs.declared.parts.Parts.{Parts}
 use Rattle.tm_elf_write.specs.Elf.{elf_file}
 use Rattle.tm_plan_map.specs.declared.admitted.Admitted.{Admitted}
 use Rattle.tm_plan_cases.specs.declared.program.Program.{Program}
-use Rattle.tm_faults.specs.declared.inputs.InputFault.{InputFault}
+use Rattle.tm_refusals.specs.declared.inputs.InputFault.{InputFault}
 use Rattle.tm_image_inputs.specs.Inputs.{inputs}
 use Rattle.tm_image_program.specs.Program.{program_for}
 use Rattle.tm_image_build.specs.Symbols.{symbols_of}

@@ -1,15 +1,15 @@
 -- What a file is opened as.
 use Rattle.std.specs.Prelude.{◌≡◌, ℕ, List, Option, Some, None, Result, Ok, Err}
 use Rattle.tm_elf_write.specs.declared.parts.Parts.{Parts}
-use Rattle.tm_elf_head.specs.declared.fault.ElfFault.{ElfFault}
+use Rattle.tm_refusals.specs.declared.elf.ElfFault.{ElfFault}
 use Rattle.tm_elf_head.specs.Differences.{first_difference}
 use Rattle.tm_elf.specs.Read.{elf_of}
 use Rattle.tm_plan_cases.specs.declared.program.Program.{Program}
 use Rattle.tm_image_inputs.specs.Inputs.{inputs}
 use Rattle.tm_image_build.specs.Built.{built, program_from}
-use Rattle.tm_faults.specs.declared.inputs.InputFault.{InputFault}
-use Rattle.tm_faults.specs.declared.image.ImageFault.{ImageFault}
-use Rattle.tm_faults.specs.declared.image.ImageFault.TheVariants.{Elf, Inputs, Differs}
+use Rattle.tm_refusals.specs.declared.inputs.InputFault.{InputFault}
+use Rattle.tm_refusals.specs.declared.image.ImageFault.{ImageFault}
+use Rattle.tm_refusals.specs.declared.image.ImageFault.TheVariants.{Elf, Inputs, Differs}
 
 -- a file, or the place at which another one differs from it
 abbrev pub unless_differs : List ℕ → Option ℕ → Result (List ℕ) ImageFault

@@ -10,10 +10,10 @@ use crate::symbols::symbols_of;
 use std::alloc::Global;
 use tm_base::{Bytes, NoMemory};
 use tm_elf_write::{Parts, Plan, write_elf};
-use tm_faults::BuildFault;
 use tm_image_inputs::read_inputs;
 use tm_image_program::program_of;
 use tm_plan_cases::Program;
+use tm_refusals::BuildFault;
 
 /// A program with the seed that it was built with, and its file. Each image is sound, and its file is what is built of
 /// its own plan, with this seed and program.

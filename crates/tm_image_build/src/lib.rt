@@ -5,5 +5,5 @@ mod image;
 mod symbols;
 
 pub use image::{Image, build};
-pub use tm_faults::{BuildFault, InputFault, Role};
 pub use tm_image_inputs::topology_fault;
+pub use tm_refusals::{BuildFault, InputFault, Role};

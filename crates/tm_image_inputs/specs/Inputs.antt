@@ -7,14 +7,14 @@ use Rattle.tm_tmpl_types.specs.declared.template.Template.{Template}
 use Rattle.tm_tmpl_types.specs.declared.template.TmplFault.{TmplFault}
 use Rattle.tm_tmpl_read.specs.Grammar.{template_of}
 use Rattle.tm_plan_map.specs.declared.admitted.Admitted.{Admitted}
-use Rattle.tm_faults.specs.declared.rule.RuleAt.{RuleAt}
+use Rattle.tm_refusals.specs.declared.rule.RuleAt.{RuleAt}
 use Rattle.tm_rules_first.specs.Rules.{broken_rule}
 use Rattle.tm_rules.specs.Admitting.{admitted_of}
-use Rattle.tm_faults.specs.declared.inputs.InputFault.{InputFault}
-use Rattle.tm_faults.specs.declared.inputs.InputFault.TheVariants.{Topo, Tmpl, Rule}
-use Rattle.tm_faults.specs.declared.inputs.BuildFault.{BuildFault}
-use Rattle.tm_faults.specs.declared.inputs.BuildFault.TheVariants as fault
-use Rattle.tm_faults.specs.Named.{IsNamed}
+use Rattle.tm_refusals.specs.declared.inputs.InputFault.{InputFault}
+use Rattle.tm_refusals.specs.declared.inputs.InputFault.TheVariants.{Topo, Tmpl, Rule}
+use Rattle.tm_refusals.specs.declared.inputs.BuildFault.{BuildFault}
+use Rattle.tm_refusals.specs.declared.inputs.BuildFault.TheVariants as fault
+use Rattle.tm_refusals.specs.Named.{IsNamed}
 
 -- ---- the topology
 

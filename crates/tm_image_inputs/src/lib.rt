@@ -4,4 +4,4 @@
 mod read;
 
 pub use read::{read_inputs, topology_fault};
-pub use tm_faults::{BuildFault, InputFault, Role};
+pub use tm_refusals::{BuildFault, InputFault, Role};

@@ -3,15 +3,15 @@ ghost use Rattle.std.specs.Prelude.{◌≡◌, ◌≤◌, Some, Ok, IfOk, IfErr,
 ghost use Rattle.tm_topo.specs.Limits.{IsInRange};
 ghost use Rattle.tm_rules_first.specs.Rules.{broken_rule};
 ghost use Rattle.tm_place.specs.Ruled.{IsRuled};
-ghost use Rattle.tm_faults.specs.declared.inputs.InputFault.{InputFault as AFault};
+ghost use Rattle.tm_refusals.specs.declared.inputs.InputFault.{InputFault as AFault};
 ghost use Rattle.tm_image_inputs.specs.Inputs as inputs_;
-ghost use Rattle.tm_faults.specs.Named.{IsNamed};
+ghost use Rattle.tm_refusals.specs.Named.{IsNamed};
 
 use std::alloc::Global;
 use tm_base::NoMemory;
-use tm_faults::{AdmitFault, BuildFault, InputFault};
 use tm_lex::LexFault;
 use tm_plan_map::Admitted;
+use tm_refusals::{AdmitFault, BuildFault, InputFault};
 use tm_rules::admit;
 use tm_tmpl_read::parse_template;
 use tm_tmpl_types::{Template, TmplFault};

@@ -13,6 +13,7 @@ use Rattle.std.proofs.lemmas.Slice.Eq.{bytes_eq-Decides}
 use Rattle.std.proofs.lemmas.Grind.{common_steps}
 use Rattle.std.proofs.lemmas.Option.{same_Some}
 use Rattle.std.proofs.Math.Bool.{not-not}
+use Rattle.tm_base.specs.declared.limits.TheConstants.{WORD_BYTES}
 use Rattle.tm_lex.specs.declared.token.TokenKind.{TokenKind}
 use Rattle.tm_lex.specs.declared.token.Token.{Token}
 use Rattle.tm_lex.specs.declared.token.LexFault.{LexFault}
@@ -65,7 +66,7 @@ abbrev pub Part : Type 0
 Part = TokenKind × Span
 
 abbrev is_short : Part → Bool
-is_short p = nat_le p.1.1 (p.1.0 + 64)
+is_short p = nat_le p.1.1 (p.1.0 + WORD_BYTES)
 
 -- parts stand one behind the other, from a place to another one
 abbrev pub Ascends : ℕ → ℕ → List Part → Type 0
@@ -122,7 +123,7 @@ not_before i n k (p ∷ ps) h below =
 all_short : (ps : List Part) → long_part ps ≡ None → list_all is_short ps ≡ true
 all_short [] h = refl
 all_short (p ∷ ps) h =
-    elim (cases_Bool (ltb (p.1.0 + 64) p.1.1)) [
+    elim (cases_Bool (ltb (p.1.0 + WORD_BYTES) p.1.1)) [
       | inl long ↦ let no : Some p.1.0 ≡ None = rw long at h in absurd (cc)
       | inr short ↦ let here : is_short p ≡ true = grind (arith, nat_tests) in rw here (all_short ps (rw short at h))
     ]
@@ -132,7 +133,7 @@ none_long [] h k = refl
 none_long (p ∷ ps) h k =
     elim (cases_Bool (is_short p)) [
       | inl short ↦
-          let here : ltb (p.1.0 + 64) p.1.1 ≡ false = grind (arith, nat_tests) in
+          let here : ltb (p.1.0 + WORD_BYTES) p.1.1 ≡ false = grind (arith, nat_tests) in
           elim (cases_Bool (eqb p.1.0 k)) [
             | inl same ↦ rw (same, here) (none_long ps (rw short at h) k)
             | inr other ↦ rw other (none_long ps (rw short at h) k)
@@ -144,7 +145,7 @@ long_is : (i n q : ℕ) (ps : List Part) → Ascends i n ps → long_part ps ≡
     × ((k : ℕ) → k < q → is_long_at ps k ≡ false)
 long_is i n q [] h found = let no : None ≡ Some q = found in absurd (cc)
 long_is i n q (p ∷ ps) h found =
-    elim (cases_Bool (ltb (p.1.0 + 64) p.1.1)) [
+    elim (cases_Bool (ltb (p.1.0 + WORD_BYTES) p.1.1)) [
       | inl long ↦
           let here : p.1.0 ≡ q = same_Some _ _ (rw long at found) in
           let same : eqb p.1.0 q ≡ true = grind (arith, nat_tests) in (
@@ -156,7 +157,7 @@ long_is i n q (p ∷ ps) h found =
           let more = long_is p.1.1 n q ps h.2 (rw short at found) in
           (further p ps q short more.0, λ k below. none_here p ps k short (more.1 k below))
     ] where
-      none_here : (p : Part) (ps : List Part) (k : ℕ) → ltb (p.1.0 + 64) p.1.1 ≡ false → is_long_at ps k ≡ false
+      none_here : (p : Part) (ps : List Part) (k : ℕ) → ltb (p.1.0 + WORD_BYTES) p.1.1 ≡ false → is_long_at ps k ≡ false
           → is_long_at (p ∷ ps) k ≡ false
       none_here p ps k short rest =
           elim (cases_Bool (eqb p.1.0 k)) [
@@ -164,7 +165,7 @@ long_is i n q (p ∷ ps) h found =
             | inr other ↦ rw other rest
           ]
 
-      further : (p : Part) (ps : List Part) (k : ℕ) → ltb (p.1.0 + 64) p.1.1 ≡ false → is_long_at ps k ≡ true
+      further : (p : Part) (ps : List Part) (k : ℕ) → ltb (p.1.0 + WORD_BYTES) p.1.1 ≡ false → is_long_at ps k ≡ true
           → is_long_at (p ∷ ps) k ≡ true
       further p ps k short rest =
           elim (cases_Bool (eqb p.1.0 k)) [

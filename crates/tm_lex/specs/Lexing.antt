@@ -4,6 +4,7 @@ use Rattle.std.specs.Prelude.{List, [], ◌∷◌, ◌++◌, length, take, drop,
 use Rattle.std.specs.Prelude.{option_map, Result, Ok, Err, codes, slice_index}
 use Rattle.std.specs.List.{before_first, prefix_len, suffix_len, slice_split}
 use Rattle.std.specs.Str.{bytes_eq}
+use Rattle.tm_base.specs.declared.limits.TheConstants.{WORD_BYTES}
 use Rattle.tm_lex.specs.declared.token.TokenKind.{TokenKind}
 use Rattle.tm_lex.specs.declared.token.TokenKind.TheVariants.{Word, Raw, LineEnd}
 use Rattle.tm_lex.specs.declared.token.Token.{Token}
@@ -71,13 +72,13 @@ token_at number from s = record {
   to = from + s.1.1;
 }
 
--- the first byte that may not stand outside comments, and the first part of more than 64 bytes
+-- the first byte that may not stand outside comments, and the first part that is too long
 abbrev pub bad_byte : List ℕ → Option ℕ
 bad_byte bs = position (λ b. not (is_word b || is_separator b)) bs
 
--- where the first part of more than 64 bytes begins
+-- where the first part of more bytes than a word may have begins
 abbrev pub long_part : List (TokenKind × Span) → Option ℕ
-long_part ss = option_map (λ s. s.1.0) (find (λ s. nat_lt (s.1.0 + 64) s.1.1) ss)
+long_part ss = option_map (λ s. s.1.0) (find (λ s. nat_lt (s.1.0 + WORD_BYTES) s.1.1) ss)
 
 -- the fault that comes first, and of two at one place the bad byte
 abbrev pub first_fault : ℕ → List ℕ → Option ℕ → Option ℕ → Option LexFault

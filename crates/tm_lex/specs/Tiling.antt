@@ -3,6 +3,7 @@
 use Rattle.std.specs.Prelude.{ℕ, ◌≡◌, ◌≢◌, ◌≤◌, ◌<◌, ◌+◌, ◌-◌, ◌==◌, ◌⊎◌, Bool, true, false, ◌&&◌, ◌||◌, not, nat_le}
 use Rattle.std.specs.Prelude.{nat_lt, List, [], ◌∷◌, ◌++◌, length, drop, map, codes, slice_index}
 use Rattle.std.specs.List.{list_all, list_any, slice_split}
+use Rattle.tm_base.specs.declared.limits.TheConstants.{WORD_BYTES}
 use Rattle.tm_lex.specs.declared.token.TokenKind.{TokenKind}
 use Rattle.tm_lex.specs.declared.token.TokenKind.TheVariants.{Word}
 use Rattle.tm_lex.specs.declared.token.Token.{Token}
@@ -63,13 +64,13 @@ AreKinds bs (s ∷ ss) ps =
 abbrev pub AreParts : List ℕ → List (TokenKind × Span) → Type 0
 AreParts bs ps = (ss : List Span) × WordsAt ss 0 bs × AreKinds bs ss ps
 
--- what can be wrong at a place: a byte that may not stand there, or a part of more than 64 bytes that begins there
+-- what can be wrong at a place: a byte that may not stand there, or a part that is too long and begins there
 abbrev pub is_bad_at : List ℕ → ℕ → Bool
 is_bad_at bs p = nat_lt p (length bs) && not (may_stand (slice_index bs p))
 
--- a part of more than 64 bytes begins at a place
+-- a part of more bytes than a word may have begins at a place
 abbrev pub is_long_at : List (TokenKind × Span) → ℕ → Bool
-is_long_at ps p = list_any (λ s. s.1.0 == p && nat_lt (s.1.0 + 64) s.1.1) ps
+is_long_at ps p = list_any (λ s. s.1.0 == p && nat_lt (s.1.0 + WORD_BYTES) s.1.1) ps
 
 -- nothing is wrong at the places before one
 abbrev pub IsFineBefore : List ℕ → List (TokenKind × Span) → ℕ → Type 0
@@ -77,7 +78,7 @@ IsFineBefore bs ps p = (k : ℕ) → k < p → (is_bad_at bs k ≡ false) × (is
 
 -- nothing is wrong in a line
 abbrev pub IsFine : List ℕ → List (TokenKind × Span) → Type 0
-IsFine bs ps = (list_all may_stand bs ≡ true) × (list_all (λ s. nat_le s.1.1 (s.1.0 + 64)) ps ≡ true)
+IsFine bs ps = (list_all may_stand bs ≡ true) × (list_all (λ s. nat_le s.1.1 (s.1.0 + WORD_BYTES)) ps ≡ true)
 
 -- the fault is at the first place of line n at which something is wrong; of two causes at one place it is the bad byte
 abbrev pub IsFirstOf : ℕ → List ℕ → List (TokenKind × Span) → LexFault → Type 0

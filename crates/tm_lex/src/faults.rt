@@ -9,9 +9,9 @@ ghost use Rattle.tm_lex.specs.Lexing as lexing;
 use crate::LexFault;
 use crate::bytes::may_stand;
 use crate::words::{is_emit, next_word, trimmed};
-use tm_base::Pos;
+use tm_base::{Pos, WORD_BYTES};
 
-// Where the first part of more than 64 bytes begins.
+// Where the first part of more bytes than a word may have begins.
 #[tactic(auto, unfolding(crate::specs::Lexing::spans))]
 pub fn long_part(bytes: &[u8]) -> Option<usize>
     requires { length bytes.now < 2 ^ 32 - 1 }
@@ -19,12 +19,12 @@ pub fn long_part(bytes: &[u8]) -> Option<usize>
     ensures within { IfSome result (λ p. p < length bytes.now) }
 {
     let (from, to) = next_word(bytes, 0)?;
-    if to > from + 64 {
+    if to > from + WORD_BYTES {
         return Some(from);
     }
     if is_emit(&bytes[from..to]) {
         return match trimmed(&bytes[to..], to) {
-            Some((first, last)) if last > first + 64 => Some(first),
+            Some((first, last)) if last > first + WORD_BYTES => Some(first),
             _ => None,
         };
     }
@@ -99,7 +99,7 @@ fn long_word(bytes: &[u8], at: usize) -> Option<usize>
 {
     let mut at = at;
     while let Some((from, to)) = next_word(bytes, at) {
-        if to > from + 64 {
+        if to > from + WORD_BYTES {
             return Some(from);
         }
         at = to;

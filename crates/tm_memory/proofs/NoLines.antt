@@ -7,7 +7,7 @@ use Rattle.tm_table.specs.State.{Hart}
 use Rattle.tm_table.specs.Row.{row_word}
 use Rattle.tm_plan_map.specs.Slots.{instr_of}
 use Rattle.tm_plan_cases.specs.declared.program.Program.{Program}
-use Rattle.tm_plan_cases.specs.declared.journal.Event.{Event}
+use Rattle.tm_plan_cases.specs.declared.event.Event.{Event}
 use Rattle.tm_plan_script.specs.declared.faults.FaultLine.{FaultLine}
 use Rattle.tm_world.specs.Place.{harts}
 use Rattle.tm_world.specs.Run.{Step, Run, own, hart_of, access_of, first_state, read_value, Reads}

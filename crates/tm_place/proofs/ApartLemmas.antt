@@ -1,11 +1,13 @@
 -- What keeps the harts apart.
-use Rattle.std.proofs.Common.{◌≡◌, ◌≢◌, ◌≤◌, ℕ, refl, sym, ◌∙◌}
+use Rattle.std.proofs.Common.{◌≡◌, ◌≢◌, ◌≤◌, ℕ, refl, sym, le_trans, ◌∙◌}
 use Rattle.tm_plan_map.specs.declared.windows.Kind2.{Kind2}
 use Rattle.tm_plan_map.specs.declared.windows.Kind2.TheVariants.{True, False, Own}
 use Rattle.tm_place.specs.declared.placement.Placement.{Placement}
 use Rattle.tm_place.specs.Sharing.{Sharing, StoresAt, LoadsAt}
 use Rattle.tm_place.specs.Placed.{sharing_of}
 use Rattle.tm_place.specs.Laws.{OneStores, StoresAreLoads, PartsFit}
+use Rattle.tm_base.specs.Limits.{image_version}
+use Rattle.tm_base.proofs.Rooms.{harts-fit}
 use Rattle.tm_place.proofs.PartLemmas.{part_size-fits, part-at}
 use Rattle.tm_place.proofs.SpotLemmas.{Sound}
 use Rattle.tm_place.proofs.AccessLemmas.{stores-there}
@@ -36,4 +38,5 @@ stores_are_loads s h b m = record {
 }
 
 pub parts_fit : (p : Placement) → PartsFit (sharing_of p)
-parts_fit p = rw p.limits.share (part_size-fits p.line p.harts p.limits.size p.limits.count.0 p.limits.count.1)
+parts_fit p = rw p.limits.share (part_size-fits p.line p.harts p.limits.size p.limits.count.0
+    (le_trans p.limits.count.1 (harts-fit image_version)))

@@ -4,6 +4,7 @@ use Rattle.std.proofs.Common.{set, replicate, refl, sym, ap, ◌∙◌, arith}
 use Rattle.std.specs.Int.{w64, to_le_bytes}
 use Rattle.std.proofs.Math.Nat.{mod-eq_of_lt, mod-lt, div-lt_iff_lt-mul, mul-lt-mul_of_pos_left}
 use Rattle.rand_chacha.specs.Block.{block_word}
+use Rattle.tm_place.specs.declared.drawing.TheConstants.{CASE_STREAMS, SLOT_WORDS, STREAM_SLOTS}
 use Rattle.tm_place.specs.Numbers.{choice}
 use Rattle.std.proofs.lemmas.List.{take_more_set, take_all}
 use Rattle.rand_chacha.specs.ChaCha.{ChaCha, of_seed, next_word}
@@ -13,15 +14,16 @@ use Rattle.tm_place.specs.Draws.{key, draw, slot_draws}
 
 -- a generator before word d of slot i of hart h in case c
 abbrev pub before : (seed c h i d : ℕ) → ChaCha
-before seed c h i d = record { key = key seed; stream = 64 * c + h; word_pos = 16 * i + d }
+before seed c h i d = record { key = key seed; stream = CASE_STREAMS * c + h; word_pos = SLOT_WORDS * i + d }
 
 pub seeked : (seed c h i d stream place : ℕ) (bytes : List ℕ) (g0 g1 g2 : ChaCha)
-    → bytes ≡ to_le_bytes w64 seed ++ replicate 24 0 → stream ≡ 64 * c + h → place ≡ 16 * i + d
-    → g0 ≡ of_seed bytes → g1 ≡ record g0 { stream = stream } → g2 ≡ record g1 { word_pos = place % 2 ^ 68 } → i < 1024
-    → d < 16 → g2 ≡ before seed c h i d
+    → bytes ≡ to_le_bytes w64 seed ++ replicate 24 0 → stream ≡ CASE_STREAMS * c + h
+    → place ≡ SLOT_WORDS * i + d
+    → g0 ≡ of_seed bytes → g1 ≡ record g0 { stream = stream } → g2 ≡ record g1 { word_pos = place % 2 ^ 68 } → i < STREAM_SLOTS
+    → d < SLOT_WORDS → g2 ≡ before seed c h i d
 unfolding key
 seeked seed c h i d stream place bytes g0 g1 g2 is st pl at0 at1 at2 small word =
-    let whole : place % 2 ^ 68 ≡ 16 * i + d = mod-eq_of_lt (omega arith) ∙ pl in
+    let whole : place % 2 ^ 68 ≡ SLOT_WORDS * i + d = mod-eq_of_lt (omega arith) ∙ pl in
     at2 ∙ rw (whole, at1, at0, is, st) refl
 
 -- the word that is drawn, and the generator after it
@@ -29,7 +31,7 @@ pub next-word : (seed c h i d : ℕ) → (next_word 4 (before seed c h i d)).0 �
 unfolding draw
 next-word seed c h i d = refl
 
-pub next-place : (seed c h i d : ℕ) → i < 1024 → d < 16 → (next_word 4 (before seed c h i d)).1
+pub next-place : (seed c h i d : ℕ) → i < STREAM_SLOTS → d < SLOT_WORDS → (next_word 4 (before seed c h i d)).1
     ≡ before seed c h i (d + 1)
 next-place seed c h i d small word =
     let whole : (16 * i + d + 1) % 2 ^ 68 ≡ 16 * i + (d + 1) =
@@ -45,7 +47,7 @@ drawn-more seed c h i d word words within is so = take_more_set words d word wit
   is,
 ) (sym (counted-more (draw seed c h i) d))
 
-pub drawn-all : (seed c h i d : ℕ) (words : List ℕ) → length words ≡ 16 → d ≡ 16
+pub drawn-all : (seed c h i d : ℕ) (words : List ℕ) → length words ≡ SLOT_WORDS → d ≡ SLOT_WORDS
     → take d words ≡ map (draw seed c h i) (count_from 0 d) → words ≡ slot_draws seed c h i
 unfolding slot_draws
 drawn-all seed c h i d words len end so =
@@ -54,7 +56,7 @@ drawn-all seed c h i d words len end so =
 
 -- one step of the generator, before word d
 pub stepped : (seed c h i d word : ℕ) (g new : ChaCha) → g ≡ before seed c h i d → (word, new) ≡ next_word 4 g
-    → i < 1024 → d < 16
+    → i < STREAM_SLOTS → d < SLOT_WORDS
     → (word ≡ draw seed c h i d) × (new ≡ before seed c h i (d + 1))
 stepped seed c h i d word g new at step small within =
     let e : (word, new) ≡ next_word 4 (before seed c h i d) = step ∙ ap (next_word 4) at in (

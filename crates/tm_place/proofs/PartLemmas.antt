@@ -7,6 +7,7 @@ use Rattle.std.proofs.Math.Pow.{pow_mono}
 use Rattle.std.proofs.Math.Nat.{div-le_self, mod-eq_of_lt, mul-le-mul_left, mul-div-le, div-eq_of_lt-le}
 use Rattle.std.proofs.Math.Nat.{le-div_iff_mul-le, div-lt_iff_lt-mul}
 use Rattle.std.proofs.lemmas.Nat.{pow_pos, le-div}
+use Rattle.tm_base.specs.declared.limits.TheConstants.{HART_ROOM, LONG_LINE, MIDDLE_LINE, SHORT_LINE}
 use Rattle.tm_place.specs.Numbers.{power_within, part_size, IsPart, is_line_size}
 
 -- a power above another has a greater exponent
@@ -34,7 +35,7 @@ power_within-is (suc k) n j low high within =
 
 -- one of the three line sizes
 abbrev pub IsSize : ℕ → Type 0
-IsSize n = (n ≡ 32) ⊎ ((n ≡ 64) ⊎ (n ≡ 128))
+IsSize n = (n ≡ SHORT_LINE) ⊎ ((n ≡ MIDDLE_LINE) ⊎ (n ≡ LONG_LINE))
 
 pub line_size-cases : (n : ℕ) → IsTrue (is_line_size n) → IsSize n
 line_size-cases n h = elim (cases_eq n 32) [
@@ -97,8 +98,8 @@ pub part_size-some : (line harts : ℕ) → 1 ≤ part_size line harts
 unfolding part_size
 part_size-some line harts = power_within-some 7 (line / harts)
 
--- the parts of at most 8 harts fit in a line
-pub part_size-fits : (line harts : ℕ) → IsTrue (is_line_size line) → 1 ≤ harts → harts ≤ 8
+-- the parts of all harts fit in a line
+pub part_size-fits : (line harts : ℕ) → IsTrue (is_line_size line) → 1 ≤ harts → harts ≤ HART_ROOM
     → harts * part_size line harts ≤ line
 unfolding part_size
 part_size-fits line harts size some few =

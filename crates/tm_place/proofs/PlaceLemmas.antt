@@ -6,12 +6,13 @@ use Rattle.std.specs.Prelude.{find}
 use Rattle.std.proofs.lemmas.Bool.{cases_Bool}
 use Rattle.tm_plan_map.specs.declared.windows.Window.{Window}
 use Rattle.tm_plan_map.specs.declared.admitted.Admitted.{Admitted}
-use Rattle.tm_place.specs.Limits.{IsWindow, IsPlacement}
+use Rattle.tm_place.specs.Limits.{IsWindow, IsWindowAt, IsPlacement}
+use Rattle.tm_place.specs.declared.drawing.TheConstants.{HOT_STREAM}
 use Rattle.tm_place.specs.Draws.{draw}
 use Rattle.tm_place.specs.Placed.{standing}
 use Rattle.tm_place.specs.Placing.{numbered, hot_line}
 use Rattle.tm_place.proofs.DrawLemmas.{choice-lt, draw-lt}
-use Rattle.tm_place.specs.Ruled.{IsRuled, IsRuledWindow}
+use Rattle.tm_place.specs.Ruled.{IsRuled}
 
 -- what a walk finds passes, and stands at some place
 pub found : {A : Type 0} (p : A → Bool) (xs : List A) (x : A) → find p xs ≡ Some x → (p x ≡ true)
@@ -31,47 +32,46 @@ pub found-holds : {A : Type 0} (P : A → Type 0) (p : A → Bool) (xs : List A)
 found-holds P p xs x all is = let at = found p xs x is in subst P at.1.2 (all at.1.0 x at.1.1)
 
 -- window n of a ruled test
-pub ruled-window : (a : Admitted) (n : ℕ) (v : Window) → IsRuled a → numbered a.windows n ≡ Some v → (v.number ≡ n)
-    × IsRuledWindow a.harts a.line v
-ruled-window a n v ruled is = (
-  eqb-true v.number n (found (λ w. w.number == n) a.windows v is).0,
-  found-holds (IsRuledWindow a.harts a.line) (λ w. w.number == n) a.windows v ruled.windows is,
-)
+pub ruled-window : (a : Admitted) (n : ℕ) (v : Window) → IsRuled a → numbered a.windows n ≡ Some v
+    → IsWindowAt a.harts a.line n v
+ruled-window a n v ruled is = record {
+  number = eqb-true v.number n (found (λ w. w.number == n) a.windows v is).0;
+  window = found-holds (IsWindow a.harts a.line) (λ w. w.number == n) a.windows v ruled.windows is;
+}
 
 lines-of : (o : Option Window) → ((v : Window) → o ≡ Some v → 1 ≤ v.lines) → IfSome o (λ v. 1 ≤ v.lines)
 lines-of None each = tt
 lines-of (Some v) each = each v refl
 
 pub has-lines : (a : Admitted) (n : ℕ) → IsRuled a → IfSome (numbered a.windows n) (λ v. 1 ≤ v.lines)
-has-lines a n ruled = lines-of (numbered a.windows n) (λ v is. (ruled-window a n v ruled is).1.some)
+has-lines a n ruled = lines-of (numbered a.windows n) (λ v is. (ruled-window a n v ruled is).window.shaped.some)
 
 -- window w of a placement: a window of the limits, with a hot line of its own
 pub record Placed (harts line w : ℕ) (o : Option Window) (hot : ℕ) : Type 0 where
-  pub window : (v : Window) → o ≡ Some v → IsWindow harts line w v
+  pub window : (v : Window) → o ≡ Some v → IsWindowAt harts line w v
   pub one : (v : Window) → o ≡ Some v → hot < v.lines
   pub none : o ≡ None → hot ≡ 0
 
 hot-one : (seed c w : ℕ) (o : Option Window) (v : Window) → 1 ≤ v.lines → o ≡ Some v → hot_line seed c w o < v.lines
 hot-one seed c w None v some is = cc
 hot-one seed c w (Some u) v some is = let same : u ≡ v = cc in
-    rw same (choice-lt (draw seed c 62 w 0) v.lines (draw-lt seed c 62 w 0) some)
+    rw same (choice-lt (draw seed c HOT_STREAM w 0) v.lines (draw-lt seed c HOT_STREAM w 0) some)
 
 hot-none : (seed c w : ℕ) (o : Option Window) → o ≡ None → hot_line seed c w o ≡ 0
 hot-none seed c w None is = refl
 hot-none seed c w (Some u) is = cc
 
-placed : (a : Admitted) (seed c w : ℕ) → w < 3 → IsRuled a
+placed : (a : Admitted) (seed c w : ℕ) → IsRuled a
     → Placed a.harts a.line w (numbered a.windows w) (hot_line seed c w (numbered a.windows w))
-placed a seed c w below ruled = record {
-  window = λ v is. let at = ruled-window a w v ruled is in
-      record { number = at.0; below = below; some = at.1.some; few = at.1.few; each = at.1.each };
-  one = λ v is. hot-one seed c w (numbered a.windows w) v (ruled-window a w v ruled is).1.some is;
+placed a seed c w ruled = record {
+  window = λ v is. ruled-window a w v ruled is;
+  one = λ v is. hot-one seed c w (numbered a.windows w) v (ruled-window a w v ruled is).window.shaped.some is;
   none = λ is. hot-none seed c w (numbered a.windows w) is;
 }
 
 window-three : (harts line : ℕ) (a b c : Option Window) (x y z : ℕ) → Placed harts line 0 a x → Placed harts line 1 b y
     → Placed harts line 2 c z
-    → (w : ℕ) (v : Window) → slice_get (a ∷ b ∷ c ∷ []) w ≡ Some (Some v) → IsWindow harts line w v
+    → (w : ℕ) (v : Window) → slice_get (a ∷ b ∷ c ∷ []) w ≡ Some (Some v) → IsWindowAt harts line w v
     × (slice_index (x ∷ y ∷ z ∷ []) w < v.lines)
 window-three harts line a b c x y z p q r zero v is = let at : a ≡ Some v = cc in (p.window v at, p.one v at)
 window-three harts line a b c x y z p q r (suc zero) v is = let at : b ≡ Some v = cc in (q.window v at, q.one v at)
@@ -92,9 +92,9 @@ pub placement-of : (a : Admitted) (seed c : ℕ) (x y z : Option Window) (i j k 
     → j ≡ hot_line seed c 1 y → k ≡ hot_line seed c 2 z
     → IsPlacement a.harts a.line a.part (x ∷ y ∷ z ∷ []) (i ∷ j ∷ k ∷ [])
 placement-of a seed c x y z i j k ruled ex ey ez ei ej ek =
-    let p : Placed a.harts a.line 0 x i = rw (ei, ex) (placed a seed c 0 (omega arith) ruled) in
-    let q : Placed a.harts a.line 1 y j = rw (ej, ey) (placed a seed c 1 (omega arith) ruled) in
-    let r : Placed a.harts a.line 2 z k = rw (ek, ez) (placed a seed c 2 (omega arith) ruled) in
+    let p : Placed a.harts a.line 0 x i = rw (ei, ex) (placed a seed c 0 ruled) in
+    let q : Placed a.harts a.line 1 y j = rw (ej, ey) (placed a seed c 1 ruled) in
+    let r : Placed a.harts a.line 2 z k = rw (ek, ez) (placed a seed c 2 ruled) in
     record {
       count = ruled.harts;
       size = ruled.line;
@@ -120,4 +120,4 @@ shared-of a x y z ruled p q r (suc zero) = standing-some y ∙ q
 shared-of a x y z ruled p q r (suc (suc zero)) = standing-some z ∙ r
 shared-of a x y z ruled p q r (suc (suc (suc n))) =
     no-window (numbered a.windows (suc (suc (suc n))))
-    (λ v is. let at = ruled-window a (suc (suc (suc n))) v ruled is in omega (arith, at.0, at.1.number))
+    (λ v is. let at = ruled-window a (suc (suc (suc n))) v ruled is in omega (arith, at.number, at.window.shaped.number))

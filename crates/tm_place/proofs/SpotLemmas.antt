@@ -7,7 +7,7 @@ use Rattle.tm_plan_map.specs.declared.windows.Window.{Window}
 use Rattle.tm_plan_map.specs.Map.{window_at, windows_base}
 use Rattle.tm_place.specs.declared.placement.Placement.{Placement}
 use Rattle.tm_place.specs.Numbers.{is_line_size, part_size}
-use Rattle.tm_place.specs.Limits.{IsWindow}
+use Rattle.tm_place.specs.Limits.{IsWindowAt}
 use Rattle.tm_place.specs.Sharing.{Sharing, StandsAt}
 use Rattle.tm_place.specs.Placed.{standing, sharing_by, sharing_of}
 use Rattle.tm_place.proofs.PartLemmas.{IsSize, line_size-cases, part_size-some, size-some}
@@ -17,7 +17,7 @@ use Rattle.tm_table.specs.Row.{IsWidth}
 pub record Sound (s : Sharing) : Type 0 where
   pub size : IsSize s.line
   pub some : 1 ≤ s.part
-  pub windows : (w : ℕ) (v : Window) → s.window w ≡ Some v → IsWindow s.harts s.line w v
+  pub windows : (w : ℕ) (v : Window) → s.window w ≡ Some v → IsWindowAt s.harts s.line w v
 
 -- what stands at a place is the window there
 pub standing-some : (o : Option (Option Window)) (v : Window) → standing o ≡ Some v → o ≡ Some (Some v)
@@ -35,7 +35,7 @@ standing-read (o ∷ shape) (suc n) = standing-read shape n
 -- the sharing of a shape within the limits
 pub sound-by : (harts line part : ℕ) (shape : List (Option Window)) → IsTrue (is_line_size line)
     → part ≡ part_size line harts
-    → ((w : ℕ) (v : Window) → slice_get shape w ≡ Some (Some v) → IsWindow harts line w v)
+    → ((w : ℕ) (v : Window) → slice_get shape w ≡ Some (Some v) → IsWindowAt harts line w v)
     → Sound (sharing_by harts line part shape)
 sound-by harts line part shape size share windows = record {
   size = line_size-cases line size;
@@ -83,7 +83,7 @@ pub stands-spotted : (s : Sharing) (b : ℕ) (v : Window) (j r : ℕ) → Sound 
 unfolding window_at windows_base
 stands-spotted s b v j r sound h =
     let w = sound.windows v.number v h.declared in
-    let n = numbers_of s.line v.number v.lines j r b sound.size w.few h.byte h.place h.line in
+    let n = numbers_of s.line v.number v.lines j r b sound.size w.window.shaped.few h.byte h.place h.line in
     record { above = n.0; number = n.1; line = n.2; byte = n.3 }
 
 -- a byte stands in one place
@@ -181,7 +181,7 @@ pub nowhere-above : (s : Sharing) (b : ℕ) → Sound s → 3 ≤ (b - 0x80E8000
     → ¬ StandsAt s b v j r
 nowhere-above s b sound high v j r stands =
     let at_it = stands-spotted s b v j r sound stands in
-    let low = (sound.windows v.number v stands.declared).below in omega arith
+    let low = (sound.windows v.number v stands.declared).window.shaped.number in omega arith
 
 -- a line that isn't declared
 pub nowhere-past : (s : Sharing) (b : ℕ) (u : Window) → Sound s → s.window ((b - 0x80E80000) / 2048) ≡ Some u

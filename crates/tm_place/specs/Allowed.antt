@@ -4,6 +4,7 @@ use Rattle.std.specs.Prelude.{Some, None, if◌then◌else◌}
 use Rattle.tm_plan_map.specs.declared.windows.Window.{Window}
 use Rattle.tm_plan_map.specs.declared.windows.Kind2.{Kind2}
 use Rattle.tm_plan_map.specs.declared.windows.Kind2.TheVariants.{True, False, Own}
+use Rattle.tm_base.specs.declared.limits.TheConstants.{WINDOW_BYTES}
 use Rattle.tm_plan_map.specs.Map.{windows_base}
 
 -- whether hart h may store to bytes first to last of line j of a window of a kind
@@ -32,11 +33,11 @@ window_loads harts line h place (Some v) = nat_lt (place / line) v.lines && line
 
 -- the window in whose 2048 bytes an address lies
 abbrev pub window_of : List (Option Window) → ℕ → Option Window
-window_of shape addr = if nat_lt addr windows_base then None else get_or shape ((addr - windows_base) / 2048) None
+window_of shape addr = if nat_lt addr windows_base then None else get_or shape ((addr - windows_base) / WINDOW_BYTES) None
 
 -- the distance of an address from the base of its window
 abbrev pub place_of : ℕ → ℕ
-place_of addr = (addr - windows_base) % 2048
+place_of addr = (addr - windows_base) % WINDOW_BYTES
 
 -- Whether hart h may store width bytes at addr, where window w stands at place w of a shape.
 unfoldable pub may_store_at : (harts line part : ℕ) → List (Option Window) → (h addr width : ℕ) → Bool

@@ -1,6 +1,7 @@
 -- How a case shares its windows. This project's own.
 use Rattle.std.specs.Prelude.{ℕ, ◌==◌, List, [], ◌∷◌, find, Option, Some, None}
 use Rattle.tm_plan_map.specs.declared.windows.Window.{Window}
+use Rattle.tm_place.specs.declared.drawing.TheConstants.{HOT_STREAM}
 use Rattle.tm_place.specs.Numbers.{choice}
 use Rattle.tm_place.specs.Draws.{draw}
 
@@ -15,7 +16,7 @@ shape_of windows = numbered windows 0 ∷ numbered windows 1 ∷ numbered window
 -- the hot line of window w in case c, 0 where it isn't declared
 abbrev pub hot_line : (seed c w : ℕ) → Option Window → ℕ
 hot_line seed c w None = 0
-hot_line seed c w (Some v) = choice (draw seed c 62 w 0) v.lines
+hot_line seed c w (Some v) = choice (draw seed c HOT_STREAM w 0) v.lines
 
 -- the hot lines of the windows 0, 1 and 2
 unfoldable pub hot_lines : (seed c : ℕ) → List Window → List ℕ

@@ -3,15 +3,18 @@
 use Rattle.std.specs.Prelude.{ℕ, ◌+◌, ◌-◌, ◌*◌, ◌%◌, ◌==◌, ◌<◌, ◌≤◌, ◌≡◌, ◌≢◌, IsTrue, IsFalse, List, length, find}
 use Rattle.std.specs.Prelude.{slice_get, Some, All, AllPairs}
 use Rattle.tm_base.specs.Limits.{image_version, most_harts, most_cases}
+use Rattle.tm_base.specs.declared.limits.TheConstants.{MOST_WEIGHTS, MOST_SLOTS, MOST_BIAS, LEAST_PASSES}
+use Rattle.tm_base.specs.declared.limits.TheConstants.{MOST_PASSES}
 use Rattle.tm_table.specs.declared.instr.Instr.{Instr}
 use Rattle.tm_table.specs.Words.{low, Fits}
-use Rattle.tm_plan_map.specs.Slots.{is_access, is_barred, is_jump, load_width, store_width, slot_addr, slot_target}
+use Rattle.tm_plan_map.specs.Slots.{IsBase, is_access, is_barred, is_jump, load_width, store_width, slot_addr}
+use Rattle.tm_plan_map.specs.Slots.{slot_target}
 use Rattle.tm_plan_map.specs.declared.windows.Window.{Window}
-use Rattle.tm_plan_map.specs.declared.windows.Kind2.TheVariants.{Own}
 use Rattle.tm_plan_map.specs.declared.admitted.Slot.{Slot}
 use Rattle.tm_plan_map.specs.declared.admitted.Slot.TheVariants.{Emit, Mix}
 use Rattle.tm_plan_map.specs.declared.admitted.AdmittedCase.{AdmittedCase}
 use Rattle.tm_plan_map.specs.declared.admitted.Admitted.{Admitted}
+use Rattle.tm_place.specs.Limits.{IsWindow}
 use Rattle.tm_place.specs.Numbers.{is_line_size, part_size}
 use Rattle.tm_place.specs.Sharing.{Sharing, StandsAt, MayStore, MayLoad}
 
@@ -33,7 +36,7 @@ pub record IsRuledEmit (s : Sharing) (h len n : ℕ) (i : Instr) : Type 0 where
   pub result : i.rd ≤ 27
   pub second : i.rs2 ≤ 27
   pub first : IsFalse (is_access i.op) → i.rs1 ≤ 27
-  pub base : IsTrue (is_access i.op) → (28 ≤ i.rs1) × (i.rs1 ≤ 30)
+  pub base : IsTrue (is_access i.op) → IsBase i.rs1
   pub place : IsTrue (is_access i.op) → IsBased s i
   pub loads : load_width i.op ≢ 0 → MayLoad s h (slot_addr i) (load_width i.op)
   pub stores : store_width i.op ≢ 0 → MayStore s h (slot_addr i) (store_width i.op)
@@ -43,7 +46,7 @@ pub record IsRuledEmit (s : Sharing) (h len n : ℕ) (i : Instr) : Type 0 where
 -- (this project).
 pub record IsRuledMix (windows : List Window) (alu load store branch : ℕ) : Type 0 where
   pub some : 1 ≤ alu + load + store + branch
-  pub few : alu + load + store + branch ≤ 1000000
+  pub few : alu + load + store + branch ≤ MOST_WEIGHTS
   pub places : load + store ≢ 0 → 1 ≤ length windows
 
 -- slot n of len that hart h runs (this project)
@@ -54,20 +57,13 @@ IsRuledSlot s windows h len n (Mix alu load store branch) = IsRuledMix windows a
 -- The slots of hart h: 1 to 256 (this project).
 pub record AreRuledSlots (s : Sharing) (windows : List Window) (h : ℕ) (slots : List Slot) : Type 0 where
   pub some : 1 ≤ length slots
-  pub few : length slots ≤ 256
+  pub few : length slots ≤ MOST_SLOTS
   pub each : (n : ℕ) (slot : Slot) → slice_get slots n ≡ Some slot → IsRuledSlot s windows h (length slots) n slot
 
 -- One slot list for each hart (this project).
 pub record IsRuledCase (s : Sharing) (windows : List Window) (case : AdmittedCase) : Type 0 where
   pub harts : length case.bodies ≡ s.harts
   pub each : (h : ℕ) (slots : List Slot) → slice_get case.bodies h ≡ Some slots → AreRuledSlots s windows h slots
-
--- A window of at least one line and at most 2048 bytes; an own window has a line for each hart (this project).
-pub record IsRuledWindow (harts line : ℕ) (w : Window) : Type 0 where
-  pub number : w.number < 3
-  pub some : 1 ≤ w.lines
-  pub few : w.lines * line ≤ 2048
-  pub each : w.kind ≡ Own → harts ≤ w.lines
 
 -- how a test shares its windows (this project)
 abbrev pub sharing_in : Admitted → Sharing
@@ -83,10 +79,9 @@ pub record IsRuled (a : Admitted) : Type 0 where
   pub harts : (1 ≤ a.harts) × (a.harts ≤ most_harts image_version)
   pub line : IsTrue (is_line_size a.line)
   pub part : a.part ≡ part_size a.line a.harts
-  pub bias : a.bias ≤ 100
-  pub passes : (2 ≤ a.passes) × (a.passes ≤ 8)
-  pub windows : All (IsRuledWindow a.harts a.line) a.windows
+  pub bias : a.bias ≤ MOST_BIAS
+  pub passes : (LEAST_PASSES ≤ a.passes) × (a.passes ≤ MOST_PASSES)
+  pub windows : All (IsWindow a.harts a.line) a.windows
   pub apart : AllPairs (λ v w. v.number ≢ w.number) a.windows
   pub count : (1 ≤ length a.cases) × (length a.cases ≤ most_cases image_version)
-  pub names : AllPairs (λ c d. c.name ≢ d.name) a.cases
   pub each : All (IsRuledCase (sharing_in a) a.windows) a.cases

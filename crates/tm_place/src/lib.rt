@@ -12,7 +12,9 @@ mod spot;
 
 pub use accesses::{may_load, may_store};
 pub use choosing::choice;
-pub use drawing::{Draws, draw};
+pub use drawing::{
+    CASE_STREAMS, Draws, FIRST_STREAM, HOT_STREAM, SLOT_WORDS, STREAM_SLOTS, draw,
+};
 pub use parting::part_size;
 pub use placement::Placement;
 pub use placing::place;

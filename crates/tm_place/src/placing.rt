@@ -5,8 +5,9 @@ ghost use Rattle.tm_place.specs.Placing as placing;
 ghost use Rattle.tm_place.specs.Ruled.{IsRuled, sharing_in};
 
 use crate::choosing::choice;
-use crate::drawing::draw;
+use crate::drawing::{HOT_STREAM, draw};
 use crate::placement::Placement;
+use tm_base::{CASE_ROOM, WINDOWS};
 use tm_plan_map::{Admitted, Window};
 
 /// How case `c` of a ruled test shares its windows, with the hot lines that the seed draws.
@@ -49,13 +50,13 @@ fn numbered(windows: &[Window], n: u32) -> Option<Window>
 
 // The hot line of window w in case c.
 fn hot_line(seed: u64, c: u32, w: u32, window: Option<Window>) -> u32
-    requires case { c < 64 }
-    requires window { w < 3 }
+    requires case { c < CASE_ROOM }
+    requires window { w < WINDOWS }
     requires some { IfSome window (λ v. 1 ≤ v.lines) }
     ensures { result ≡ placing.hot_line seed c w window }
 {
     match window {
         None => 0,
-        Some(v) => choice(draw(seed, c, 62, w, 0), v.lines),
+        Some(v) => choice(draw(seed, c, HOT_STREAM, w, 0), v.lines),
     }
 }

@@ -4,6 +4,7 @@ ghost use Rattle.tm_place.specs.Sharing.{StandsAt};
 ghost use Rattle.tm_place.specs.Placed.{sharing_of};
 
 use crate::placement::Placement;
+use tm_base::{WINDOW_BYTES, WINDOWS};
 use tm_plan_map::{Window, window_base};
 
 // A byte of a window: which window, which of its lines, and which byte of that.
@@ -23,14 +24,14 @@ pub fn spot_of(p: &Placement, addr: u64) -> Option<Spot>
     if addr < first {
         return None;
     }
-    let number = (addr - first) / 2048;
-    if 3 <= number {
+    let number = (addr - first) / WINDOW_BYTES as u64;
+    if WINDOWS as u64 <= number {
         return None;
     }
     match p.shape[number as usize] {
         None => None,
         Some(window) => {
-            let place = (addr - first) % 2048;
+            let place = (addr - first) % WINDOW_BYTES as u64;
             let size = u64::from(p.line);
             let line = place / size;
             if line < u64::from(window.lines) {

@@ -5,6 +5,7 @@ use Rattle.tm_plan_cases.specs.declared.cases.Cases.{Cases}
 use Rattle.tm_plan_cases.specs.declared.cases.Case.{Case}
 use Rattle.tm_plan_cases.specs.declared.cases.Stream.{Stream}
 use Rattle.tm_plan_map.specs.declared.windows.Window.{Window}
+use Rattle.tm_plan_map.specs.declared.addresses.TheConstants.{WINDOWS_DWORDS}
 use Rattle.tm_plan_map.specs.Map.{windows_base, window_at, within}
 use Rattle.tm_base.specs.Lists.{count_from, any}
 
@@ -22,7 +23,7 @@ collector cases b = (b - windows_base) / cases.line % cases.harts
 
 -- the addresses of all dwords of the windows, in order
 unfoldable pub window_dwords : List ℕ
-window_dwords = map (λ q. windows_base + 8 * q) (count_from 0 768)
+window_dwords = map (λ q. windows_base + 8 * q) (count_from 0 WINDOWS_DWORDS)
 
 -- the declared dwords that hart h collects, in address order
 unfoldable pub owned : Cases → ℕ → List ℕ

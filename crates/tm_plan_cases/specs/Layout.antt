@@ -5,13 +5,14 @@ use Rattle.tm_plan_cases.specs.declared.cases.Case.{Case}
 use Rattle.tm_plan_cases.specs.declared.cases.Stream.{Stream}
 use Rattle.tm_plan_cases.specs.declared.masks.Masks.{Masks}
 use Rattle.tm_plan_cases.specs.declared.masks.CaseMask.{CaseMask}
+use Rattle.tm_plan_map.specs.declared.addresses.TheConstants.{HART_TABLE_BYTES, WINDOWS_TABLE_BYTES}
 use Rattle.tm_plan_map.specs.Map.{tables_base, table_at}
 use Rattle.tm_plan_cases.specs.Shaped.{AreShaped, MasksFit}
 use Rattle.tm_plan_cases.specs.Tables.{case_table, table_bytes}
 
 -- the bytes of one case's table: 256 of each hart, 6144 first bytes of the windows, and 6144 mask bytes
 abbrev pub table_size : ℕ → ℕ
-table_size harts = 256 * harts + 12288
+table_size harts = HART_TABLE_BYTES * harts + WINDOWS_TABLE_BYTES
 
 -- each stream has first values of 32 registers, as its type gives
 abbrev pub HaveRegisters : Cases → Type 0

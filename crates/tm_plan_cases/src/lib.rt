@@ -3,14 +3,14 @@
 
 mod bytes;
 mod cases;
-mod journal;
+mod event;
 pub mod laws;
 mod masks;
 mod program;
 
 pub use bytes::tables;
 pub use cases::{Case, Cases, Stream};
-pub use journal::Event;
+pub use event::Event;
 pub use masks::{CaseMask, Masks};
 pub use program::{Marks, Program};
 pub use tm_plan_map::{

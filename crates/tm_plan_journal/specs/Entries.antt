@@ -2,7 +2,7 @@
 use Rattle.std.specs.Prelude.{ℕ}
 use Rattle.tm_table.specs.declared.state.Access.{Access}
 use Rattle.tm_table.specs.declared.state.Access.TheVariants as access
-use Rattle.tm_plan_cases.specs.declared.journal.Event.{Event}
+use Rattle.tm_plan_cases.specs.declared.event.Event.{Event}
 use Rattle.tm_plan_journal.specs.declared.journal.Entry.{Entry}
 use Rattle.tm_plan_journal.specs.declared.journal.Kind as kinds
 use Rattle.tm_plan_journal.specs.declared.journal.Kind.TheVariants.{Quiet, Read, Write}

@@ -1,10 +1,12 @@
 -- What the instruction in a slot of a stream touches. In a stream x28, x29 and x30 hold the bases of windows 0, 1 and 2
 -- (this project's own), so that the address of each load and store is known from its word.
-use Rattle.std.specs.Prelude.{ℕ, ◌+◌, ◌-◌, ◌/◌, ◌%◌, ◌^◌, Bool, true, false, nat_lt, Option}
+use Rattle.std.specs.Prelude.{ℕ, ◌+◌, ◌-◌, ◌/◌, ◌%◌, ◌^◌, ◌≤◌, Bool, true, false, nat_lt, Option}
 use Rattle.tm_table.specs.declared.instr.Op.{Op}
-use Rattle.tm_table.specs.declared.instr.Op.TheVariants.{Jal, Jalr, Beq, Bne, Blt, Bge, Bltu, Bgeu, Lb, Lh, Lw, Ld}
-use Rattle.tm_table.specs.declared.instr.Op.TheVariants.{Lbu, Lhu, Lwu, Sb, Sh, Sw, Sd, Ecall, Ebreak}
+use Rattle.tm_table.specs.declared.instr.Op.TheVariants.{Jal, Jalr, Lb, Lh, Lw, Ld, Lbu, Lhu, Lwu, Sb, Sh, Sw, Sd}
+use Rattle.tm_table.specs.declared.instr.Op.TheVariants.{Ecall, Ebreak, Mul, Mulh, Mulhsu, Mulhu, Div, Divu, Rem}
+use Rattle.tm_table.specs.declared.instr.Op.TheVariants.{Remu, Mulw, Divw, Divuw, Remw, Remuw}
 use Rattle.tm_table.specs.declared.instr.Instr.{Instr}
+pub use Rattle.tm_table.specs.Ops.{is_branch}
 use Rattle.tm_table.specs.Words.{low, split, decoded}
 use Rattle.tm_plan_map.specs.Map.{window_at, within}
 
@@ -35,16 +37,6 @@ store_width _ = 0
 abbrev pub is_access : Op → Bool
 is_access op = nat_lt 0 (load_width op + store_width op)
 
--- a branch, which goes on or to its target as its registers say
-abbrev pub is_branch : Op → Bool
-is_branch Beq = true
-is_branch Bne = true
-is_branch Blt = true
-is_branch Bge = true
-is_branch Bltu = true
-is_branch Bgeu = true
-is_branch _ = false
-
 -- an op that has no place in a stream
 abbrev pub is_barred : Op → Bool
 is_barred Jalr = true
@@ -52,10 +44,31 @@ is_barred Ecall = true
 is_barred Ebreak = true
 is_barred _ = false
 
+-- a product, a quotient or a remainder (RV64M)
+abbrev pub is_product : Op → Bool
+is_product Mul = true
+is_product Mulh = true
+is_product Mulhsu = true
+is_product Mulhu = true
+is_product Div = true
+is_product Divu = true
+is_product Rem = true
+is_product Remu = true
+is_product Mulw = true
+is_product Divw = true
+is_product Divuw = true
+is_product Remw = true
+is_product Remuw = true
+is_product _ = false
+
 -- a branch or JAL
 abbrev pub is_jump : Op → Bool
 is_jump Jal = true
 is_jump op = is_branch op
+
+-- the number of a register that holds a window's base
+abbrev pub IsBase : ℕ → Type 0
+IsBase r = (28 ≤ r) × (r ≤ 30)
 
 -- the address of a load or store in a stream, by the base register's number
 unfoldable pub slot_addr : Instr → ℕ

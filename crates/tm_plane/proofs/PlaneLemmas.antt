@@ -13,6 +13,7 @@ use Rattle.tm_base.specs.Lists.{any, count_from}
 use Rattle.tm_plan_cases.proofs.Within.{within-parts, within-true}
 use Rattle.tm_plane.proofs.WordLemmas.{bit-none, bit-and, bit-or}
 use Rattle.tm_plane.specs.Plane.{Bit, in_plane, IsNear, Spans, Overwritten}
+use Rattle.tm_plane.specs.declared.planes.TheConstants.{PLANE_WORDS}
 
 -- what it is for a byte to be in a plane
 abbrev pub In : List ℕ → ℕ → Type 0
@@ -69,7 +70,7 @@ spans addr width e low bits near at from run =
 
 -- ---- one element changed
 
-module _ (plane : List ℕ) (addr width e bits : ℕ) (room : length plane ≡ 96) (span : Spans addr width e bits) where
+module _ (plane : List ℕ) (addr width e bits : ℕ) (room : length plane ≡ PLANE_WORDS) (span : Spans addr width e bits) where
   -- a byte that no access of the element has stays
   changed-other : (word b : ℕ) → ((b - windows_base) / 64 ≡ e → ⊥) → in_plane (set plane e word) b ≡ in_plane plane b
   unfolding in_plane
@@ -249,13 +250,13 @@ more P out e v room f p k l = elim (cases_eq k e) [
   | inr n ↦ subst (P k) (sym (get_or-set_other out e k v 0 n)) (f k (omega arith))
 ]
 
-below-or-past : (k : ℕ) → (k < 96) ⊎ (96 ≤ k)
+below-or-past : (k : ℕ) → (k < PLANE_WORDS) ⊎ (PLANE_WORDS ≤ k)
 below-or-past k = grind arith
 
-past-none : (xs : List ℕ) (k : ℕ) → length xs ≡ 96 → 96 ≤ k → slice_index xs k ≡ 0
+past-none : (xs : List ℕ) (k : ℕ) → length xs ≡ PLANE_WORDS → PLANE_WORDS ≤ k → slice_index xs k ≡ 0
 past-none xs k n l = get_or_past xs k 0 (omega arith)
 
-none-in : (xs : List ℕ) (b : ℕ) → length xs ≡ 96 → 96 ≤ (b - windows_base) / 64 → in_plane xs b ≡ true → ⊥
+none-in : (xs : List ℕ) (b : ℕ) → length xs ≡ PLANE_WORDS → PLANE_WORDS ≤ (b - windows_base) / 64 → in_plane xs b ≡ true → ⊥
 none-in xs b n l t =
     bit-none ((b - windows_base) % 64) (subst (λ (v : ℕ). Bit v ((b - windows_base) % 64))
     (past-none xs ((b - windows_base) / 64) n l) ((in-plane xs b).0 t).1)
@@ -266,10 +267,10 @@ in-at : (xs : List ℕ) (b : ℕ) → windows_base ≤ b → (in_plane xs b ≡ 
 in-at xs b low = ((λ t. ((in-plane xs b).0 t).1), (λ h. (in-plane xs b).1 (low, h)))
 
 -- A plane is told byte by byte, where its elements are told bit by bit, a byte below the windows is in no plane, and
--- one past them in none of 96 elements.
-told : (out : List ℕ) (test : Bool) (b : ℕ) → length out ≡ 96 → (test ≡ true → windows_base ≤ b)
-    → (test ≡ true → 96 ≤ (b - windows_base) / 64 → ⊥)
-    → (windows_base ≤ b → (b - windows_base) / 64 < 96
+-- one past them in none of PLANE_WORDS elements.
+told : (out : List ℕ) (test : Bool) (b : ℕ) → length out ≡ PLANE_WORDS → (test ≡ true → windows_base ≤ b)
+    → (test ≡ true → PLANE_WORDS ≤ (b - windows_base) / 64 → ⊥)
+    → (windows_base ≤ b → (b - windows_base) / 64 < PLANE_WORDS
     → Bit (slice_index out ((b - windows_base) / 64)) ((b - windows_base) % 64) ↔ (test ≡ true))
     → in_plane out b ≡ test
 told out test b room low high bits = same-test _ _
@@ -278,8 +279,8 @@ told out test b room low high bits = same-test _ _
     (λ t. let l = low t in elim (below-or-past ((b - windows_base) / 64))
     [ inl s ↦ (in-plane out b).1 (l, (bits l s).1 t) | inr g ↦ absurd (high t g) ])
 
-pub union-told : (out x y : List ℕ) → length out ≡ 96 → length x ≡ 96 → length y ≡ 96
-    → ((k : ℕ) → k < 96 → slice_index out k ≡ bit_or (slice_index x k) (slice_index y k))
+pub union-told : (out x y : List ℕ) → length out ≡ PLANE_WORDS → length x ≡ PLANE_WORDS → length y ≡ PLANE_WORDS
+    → ((k : ℕ) → k < PLANE_WORDS → slice_index out k ≡ bit_or (slice_index x k) (slice_index y k))
     → (b : ℕ) → in_plane out b ≡ (in_plane x b || in_plane y b)
 union-told out x y n0 nx ny made b = told out (in_plane x b || in_plane y b) b n0
     (λ t. elim (or_cases _ _ t) [ inl p ↦ ((in-plane x b).0 p).0 | inr p ↦ ((in-plane y b).0 p).0 ])
@@ -294,8 +295,8 @@ union-told out x y n0 nx ny made b = told out (in_plane x b || in_plane y b) b n
           (both.1 (elim (or_cases _ _ t) [ inl p ↦ inl ((in-at x b low).0 p) | inr p ↦ inr ((in-at y b low).0 p) ]))),
     ))
 
-pub without-told : (out x y : List ℕ) → length out ≡ 96 → length x ≡ 96 → length y ≡ 96
-    → ((k : ℕ) → k < 96 → (r : ℕ) → Bit (slice_index out k) r
+pub without-told : (out x y : List ℕ) → length out ≡ PLANE_WORDS → length x ≡ PLANE_WORDS → length y ≡ PLANE_WORDS
+    → ((k : ℕ) → k < PLANE_WORDS → (r : ℕ) → Bit (slice_index out k) r
     ↔ (Bit (slice_index x k) r × (Bit (slice_index y k) r → ⊥)))
     → (b : ℕ) → in_plane out b ≡ (in_plane x b && not (in_plane y b))
 without-told out x y n0 nx ny made b = told out (in_plane x b && not (in_plane y b)) b n0
@@ -309,9 +310,9 @@ without-told out x y n0 nx ny made b = told out (in_plane x b && not (in_plane y
           both.1 ((in-at x b low).0 p.0, λ h. true≢false (sym ((in-at y b low).1 h) ∙ not-true (in_plane y b) p.1))),
     ))
 
-pub spoiled-told : (out w x y z : List ℕ) → length out ≡ 96 → length w ≡ 96 → length x ≡ 96 → length y ≡ 96
-    → length z ≡ 96
-    → ((k : ℕ) → k < 96 → slice_index out k
+pub spoiled-told : (out w x y z : List ℕ) → length out ≡ PLANE_WORDS → length w ≡ PLANE_WORDS → length x ≡ PLANE_WORDS → length y ≡ PLANE_WORDS
+    → length z ≡ PLANE_WORDS
+    → ((k : ℕ) → k < PLANE_WORDS → slice_index out k
     ≡ bit_or (slice_index w k) (bit_and (slice_index x k) (bit_or (slice_index y k) (slice_index z k))))
     → (b : ℕ) → in_plane out b ≡ (in_plane w b || (in_plane x b && (in_plane y b || in_plane z b)))
 spoiled-told out w x y z n0 nw nx ny nz made b =
@@ -360,7 +361,7 @@ pub below-none : (plane : List ℕ) (b base : ℕ) → base ≡ windows_base →
 below-none plane b base same l = sym (false_from_ne_true (in_plane plane b) (λ t. let p = ((in-plane plane b).0 t).0 in
     omega arith))
 
-pub above-none : (plane : List ℕ) (b base : ℕ) → base ≡ windows_base → length plane ≡ 96 → 6144 ≤ b - base
+pub above-none : (plane : List ℕ) (b base : ℕ) → base ≡ windows_base → length plane ≡ PLANE_WORDS → 6144 ≤ b - base
     → false ≡ in_plane plane b
 above-none plane b base same room l =
     let far : 6144 ≤ b - windows_base = subst (λ (a : ℕ). 6144 ≤ b - a) same l in

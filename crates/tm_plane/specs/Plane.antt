@@ -3,6 +3,7 @@ use Rattle.std.specs.Prelude.{ℕ, ◌+◌, ◌-◌, ◌/◌, ◌%◌, ◌<◌, 
 use Rattle.std.specs.Prelude.{slice_index}
 use Rattle.std.specs.Int.{bit_at}
 use Rattle.tm_plan_map.specs.Map.{windows_base, windows_size, within}
+use Rattle.tm_plane.specs.declared.planes.TheConstants.{PLANE_WORDS}
 
 -- bit r of a word is set
 abbrev pub Bit : ℕ → ℕ → Type 0
@@ -27,7 +28,7 @@ pub record IsNear (addr width : ℕ) : Type 0 where
 
 -- The bytes of an access are all in element e of a plane, where they are these bits.
 pub record Spans (addr width e bits : ℕ) : Type 0 where
-  pub place : e < 96
+  pub place : e < PLANE_WORDS
   pub few : (j : ℕ) → Bit bits j → j < 64
   pub bit : (b : ℕ) → windows_base ≤ b → (b - windows_base) / 64 ≡ e
       → Bit bits ((b - windows_base) % 64) ↔ IsTrue (within addr width b)

@@ -6,5 +6,5 @@ mod planes;
 mod words;
 
 pub use declared::is_declared;
-pub use planes::{Plane, has, has_any, overwrite, put, spoiled, union, without};
+pub use planes::{PLANE_WORDS, Plane, has, has_any, overwrite, put, spoiled, union, without};
 pub use words::{meets, overwritten, with_bit};

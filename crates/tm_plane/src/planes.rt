@@ -1,14 +1,17 @@
-// Planes: 96 words, one bit for each byte of the windows.
+// Planes: words with one bit for each byte of the windows.
 ghost use Rattle.std.specs.Prelude.{◌≡◌, ℕ, ◌↔◌, ◌||◌, ◌&&◌, not, IsTrue};
 ghost use Rattle.tm_plan_map.specs.Map.{within};
 ghost use Rattle.tm_base.specs.Lists.{any, count_from};
 ghost use Rattle.tm_plane.specs.Plane.{in_plane, IsNear, Spans, Overwritten};
 
 use crate::words::{meets, overwritten, run, word_without};
-use tm_plan_map::window_base;
+use tm_plan_map::{WINDOWS_BYTES, window_base};
+
+/// The words of a plane, each of 64 bits.
+pub const PLANE_WORDS: usize = 96;
 
 /// One bit for each byte of the windows.
-pub type Plane = [u64; 96];
+pub type Plane = [u64; PLANE_WORDS];
 
 /// Whether the byte at `addr` is in the plane. A byte outside the windows is in none.
 #[tactic(auto, unfolding(tm_plan_map::specs::Map::window_at, tm_plan_map::specs::Map::windows_size))]
@@ -20,7 +23,7 @@ pub fn has(plane: &Plane, addr: u64) -> bool
         return false;
     }
     let q = addr - base;
-    if q >= 6144 {
+    if q >= WINDOWS_BYTES {
         return false;
     }
     plane[(q / 64) as usize] >> (q % 64) & 1 == 1
@@ -70,8 +73,8 @@ pub fn overwrite(plane: &mut Plane, own: &Plane, addr: u64, width: u8, marks: bo
 pub fn union(x: &Plane, y: &Plane) -> Plane
     ensures { (b : ℕ) → in_plane result b ≡ (in_plane x.now b || in_plane y.now b) }
 {
-    let mut out = [0u64; 96];
-    for e in 0..96usize {
+    let mut out = [0u64; PLANE_WORDS];
+    for e in 0..PLANE_WORDS {
         out[e] = x[e] | y[e];
     }
     out
@@ -81,8 +84,8 @@ pub fn union(x: &Plane, y: &Plane) -> Plane
 pub fn without(x: &Plane, y: &Plane) -> Plane
     ensures { (b : ℕ) → in_plane result b ≡ (in_plane x.now b && not (in_plane y.now b)) }
 {
-    let mut out = [0u64; 96];
-    for e in 0..96usize {
+    let mut out = [0u64; PLANE_WORDS];
+    for e in 0..PLANE_WORDS {
         out[e] = word_without(x[e], y[e]);
     }
     out
@@ -93,8 +96,8 @@ pub fn spoiled(before: &Plane, mine: &Plane, others: &Plane, held: &Plane) -> Pl
     ensures { (b : ℕ) → in_plane result b
         ≡ (in_plane before.now b || (in_plane mine.now b && (in_plane others.now b || in_plane held.now b))) }
 {
-    let mut out = [0u64; 96];
-    for e in 0..96usize {
+    let mut out = [0u64; PLANE_WORDS];
+    for e in 0..PLANE_WORDS {
         out[e] = before[e] | mine[e] & (others[e] | held[e]);
     }
     out

@@ -13,6 +13,7 @@ use Rattle.tm_plan_cases.specs.Streams.{stream_in}
 use Rattle.tm_world.specs.Slots.{slots_in, another_may_store}
 use Rattle.tm_world.specs.Trails.{RaceDependent}
 use Rattle.tm_legal.proofs.Streams.{stream-case}
+use Rattle.tm_plane.specs.declared.planes.TheConstants.{PLANE_WORDS}
 use Rattle.tm_plane.specs.Plane.{Bit, in_plane}
 use Rattle.tm_race_walk.specs.declared.walking.Taint.{Taint}
 use Rattle.tm_race_walk.specs.Shapes.{another_in}
@@ -21,9 +22,9 @@ use Rattle.tm_race_walk.proofs.Moving.{none-zero, in-far}
 use Rattle.tm_race_walk.proofs.Telling.{another-told}
 use Rattle.tm_race.specs.Masks.{IsRegisterWord, IsCalm, IsSpoil}
 
-pub none-spoiled : (cases : Cases) (c : ℕ) → IsSpoil cases c 0 (replicate 96 0)
+pub none-spoiled : (cases : Cases) (c : ℕ) → IsSpoil cases c 0 (replicate PLANE_WORDS 0)
 none-spoiled cases c =
-    record { exact = λ b low. ((λ e h l. absurd (omega arith)), (λ f. false_from_ne_true _ (none-zero 96 b))) }
+    record { exact = λ b low. ((λ e h l. absurd (omega arith)), (λ f. false_from_ne_true _ (none-zero PLANE_WORDS b))) }
 
 -- a byte outside of a plane with more bytes
 put-out : (o m t s : Bool) → (o || (m && (t || s))) ≡ false → (o ≡ false) × (m ≡ true → (t ≡ false) × (s ≡ false))

@@ -16,6 +16,7 @@ use Rattle.tm_plan_cases.specs.declared.masks.CaseMask.{CaseMask}
 use Rattle.tm_plan_cases.specs.Collected.{is_declared}
 use Rattle.tm_plan_cases.specs.Shaped.{AreShaped}
 use Rattle.tm_plan_cases.proofs.Within.{within-parts, within-true}
+use Rattle.tm_plan_map.specs.declared.addresses.TheConstants.{WINDOWS_BYTES}
 use Rattle.tm_plan_map.specs.Map.{windows_base, windows_size}
 use Rattle.tm_base.specs.Lists.{any, count_from}
 use Rattle.tm_world.specs.Writers.{may_store}
@@ -138,7 +139,7 @@ filled : {A : Type 0} (P : ℕ → A → Type 0) (f : ℕ → A) (n : ℕ) (xs :
     → ((k : ℕ) (x : A) → k < n → P k x → x ≡ f k) → xs ≡ map f (range_with_len 0 n)
 filled P f n xs d e same = fill_by_all f xs n d e.count (λ k l. same k (get_or xs k d) l (e.each k d l))
 
-size-is : 6144 ≡ windows_size
+size-is : WINDOWS_BYTES ≡ windows_size
 unfolding windows_size
 size-is = refl
 

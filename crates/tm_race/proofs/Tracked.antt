@@ -10,6 +10,7 @@ use Rattle.tm_plan_cases.specs.declared.masks.Masks.{Masks}
 use Rattle.tm_plan_cases.specs.declared.masks.CaseMask.{CaseMask}
 use Rattle.tm_plan_cases.specs.Collected.{is_declared}
 use Rattle.tm_plan_cases.specs.Shaped.{AreShaped, IsShapedMask, MasksFit}
+use Rattle.tm_plan_map.specs.declared.addresses.TheConstants.{WINDOWS_BYTES}
 use Rattle.tm_plan_map.specs.Map.{windows_base, windows_size}
 use Rattle.tm_plan_cases.specs.Streams.{stream_in}
 use Rattle.tm_world.specs.Checked.{IsCheckedByte, AreChecked}
@@ -50,7 +51,7 @@ mark-checked cases c spoil q v s e = by (is_declared cases (windows_base + q)) (
     }
 
 pub marks-checked : (cases : Cases) (c : ℕ) (spoil marks : List ℕ) → IsSpoil cases c cases.harts spoil
-    → EachIs (λ q v. v ≡ mark_of cases spoil q) 6144 marks → EachIs (IsByteMark cases c) 6144 marks
+    → EachIs (λ q v. v ≡ mark_of cases spoil q) WINDOWS_BYTES marks → EachIs (IsByteMark cases c) WINDOWS_BYTES marks
 marks-checked cases c spoil marks s e =
     record { count = e.count; each = λ k d l. mark-checked cases c spoil k (get_or marks k d) s (e.each k d l) }
 

@@ -6,6 +6,7 @@ use Rattle.tm_plan_cases.specs.declared.cases.Case.{Case}
 use Rattle.tm_plan_cases.specs.declared.cases.Stream.{Stream}
 use Rattle.tm_plan_cases.specs.declared.masks.CaseMask.{CaseMask}
 use Rattle.tm_plan_cases.specs.Collected.{is_declared}
+use Rattle.tm_plan_map.specs.declared.addresses.TheConstants.{WINDOWS_BYTES}
 use Rattle.tm_plan_map.specs.Map.{windows_base}
 use Rattle.tm_world.specs.Writers.{may_store, some_store_to}
 use Rattle.tm_plan_cases.specs.Streams.{stream_in}
@@ -40,7 +41,7 @@ pub record IsByteMark (cases : Cases) (c q mark : ℕ) : Type 0 where
 -- It is exactly what is checked in case c.
 pub record IsMask (cases : Cases) (c : ℕ) (m : CaseMask) : Type 0 where
   pub regs : EachIs (IsRegisterWord cases c) cases.harts m.regs
-  pub bytes : EachIs (IsByteMark cases c) 6144 m.bytes
+  pub bytes : EachIs (IsByteMark cases c) WINDOWS_BYTES m.bytes
 
 -- Hart h doesn't keep b from being checked in case c: if it may write b, no other hart may, and b isn't
 -- race-dependent at the end of its stream.

@@ -11,6 +11,7 @@ use crate::planes::store_planes;
 use std::alloc::Global;
 use tm_base::{List, NoMemory, Words};
 use tm_plan_cases::{CaseMask, Cases, Masks};
+use tm_plane::PLANE_WORDS;
 
 // The mask of case c.
 fn case_mask(alloc: Global, cases: &Cases, c: usize) -> Result<CaseMask, NoMemory>
@@ -20,7 +21,7 @@ fn case_mask(alloc: Global, cases: &Cases, c: usize) -> Result<CaseMask, NoMemor
 {
     let planes = store_planes(alloc, case_of(cases, c))?;
     let mut regs = Words::new(alloc);
-    let mut spoil = [0u64; 96];
+    let mut spoil = [0u64; PLANE_WORDS];
     for h in 0..cases.harts {
         let word = over_hart(&mut spoil, cases, planes.as_slice(), c, h);
         regs.push(word)?;

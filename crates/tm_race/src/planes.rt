@@ -6,15 +6,15 @@ ghost use Rattle.tm_race_walk.specs.Shapes.{IsOfShaped, another_in};
 ghost use Rattle.tm_race.specs.Masks.{AreStores};
 
 use std::alloc::Global;
-use tm_base::{List, NoMemory};
+use tm_base::{HART_ROOM, List, NoMemory};
 use tm_plan_cases::Case;
-use tm_plane::{Plane, union};
+use tm_plane::{PLANE_WORDS, Plane, union};
 use tm_race_walk::store_plane;
 
 /// The bytes to which each hart of a case has a store slot: one plane for each hart.
 pub fn store_planes(alloc: Global, case: &Case) -> Result<List<Plane>, NoMemory>
     requires case { IsOfShaped case.now }
-    requires few { length case.now.streams ≤ 8 }
+    requires few { length case.now.streams ≤ HART_ROOM }
     ensures { IfOk result (λ planes. AreStores case.now planes) }
 {
     let count = case.streams.as_slice().len() as u32;
@@ -51,11 +51,11 @@ fn with_other(out: &Plane, case: &Case, planes: &[Plane], h: u32, g: u32) -> Pla
 /// The bytes with another may-writer than hart `h`.
 pub fn others_of(case: &Case, planes: &[Plane], h: u32) -> Plane
     requires planes { AreStores case.now planes.now }
-    requires few { length case.now.streams ≤ 8 }
+    requires few { length case.now.streams ≤ HART_ROOM }
     ensures { (b : ℕ) → in_plane result b ≡ another_in case.now h b }
 {
     let count = case.streams.as_slice().len() as u32;
-    let mut out = [0u64; 96];
+    let mut out = [0u64; PLANE_WORDS];
     for g in 0..count {
         out = with_other(&out, case, planes, h, g);
     }

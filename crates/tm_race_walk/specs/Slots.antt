@@ -2,14 +2,12 @@
 use Rattle.std.specs.Prelude.{◌≡◌, ◌≢◌, ℕ, ◌<◌, ◌≤◌, List, [], ◌∷◌, ◌++◌, Some, IsTrue}
 use Rattle.tm_table.specs.declared.instr.Instr.{Instr}
 use Rattle.tm_base.specs.Lists.{any}
-use Rattle.tm_plan_map.specs.Slots.{instr_of, load_width, store_width, is_branch, is_jump, slot_addr, slot_target}
+use Rattle.tm_base.specs.declared.limits.TheConstants.{MOST_SLOTS}
+use Rattle.tm_plan_map.specs.Slots.{IsBase, instr_of, load_width, store_width, is_branch, is_jump, slot_addr}
+use Rattle.tm_plan_map.specs.Slots.{slot_target}
 use Rattle.tm_world.specs.Lists.{those}
 use Rattle.tm_world.specs.Slots.{Slot, named, load_bytes, store_bytes, target_of}
 use Rattle.tm_plane.specs.Plane.{in_plane, IsNear}
-
--- the number of a register that holds a window's base
-abbrev pub IsBase : ℕ → Type 0
-IsBase r = (28 ≤ r) × (r ≤ 30)
 
 -- a load goes by a window's base, to bytes of the windows
 pub record IsLoad (i : Instr) : Type 0 where
@@ -27,7 +25,7 @@ pub record IsStoreWord (w : ℕ) : Type 0 where
 
 -- a jump at slot n goes to a slot that can be named
 abbrev pub IsNamed : ℕ → Instr → Type 0
-IsNamed n i = IsTrue (is_jump i.op) → slot_target n i ≤ 256
+IsNamed n i = IsTrue (is_jump i.op) → slot_target n i ≤ MOST_SLOTS
 
 -- what the instruction in slot n keeps
 pub record IsTracked (n : ℕ) (i : Instr) : Type 0 where

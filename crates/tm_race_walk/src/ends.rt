@@ -7,11 +7,13 @@ ghost use Rattle.tm_race_walk.specs.Taints.{StandsAt};
 
 use crate::stores::stream_of;
 use crate::walking::Taint;
+use tm_base::MOST_SLOTS;
 use tm_plan_cases::{Case, Stream};
+use tm_plane::Plane;
 
 // How many slots a stream has.
 fn slots_of(stream: &Stream) -> u32
-    requires { length stream.now.words ≤ 256 }
+    requires { length stream.now.words ≤ MOST_SLOTS }
     ensures { result ≡ length stream.now.words }
 {
     stream.words.as_slice().len() as u32
@@ -19,7 +21,7 @@ fn slots_of(stream: &Stream) -> u32
 
 /// What depends at the end of hart `h`'s stream. `h` is below the number of streams, and the case is one of shaped
 /// cases. `others` are the bytes with another may-writer, and `own` those whose only may-writer is `h`.
-pub fn end_of(case: &Case, h: u32, others: &[u64; 96], own: &[u64; 96]) -> Taint
+pub fn end_of(case: &Case, h: u32, others: &Plane, own: &Plane) -> Taint
     requires case { IsOfShaped case.now }
     requires hart { h < length case.now.streams }
     requires others { (b : ℕ) → in_plane others.now b ≡ another_in case.now h b }

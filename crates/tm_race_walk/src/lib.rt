@@ -2,7 +2,6 @@
 #![tactic(auto)]
 
 mod ends;
-mod ops;
 mod slots;
 mod stores;
 mod walking;

@@ -3,13 +3,13 @@ ghost use Rattle.std.specs.Prelude.{◌≡◌, ◌≢◌, ◌<◌, ◌↔◌, �
 ghost use Rattle.tm_plan_map.specs.Map.{within};
 ghost use Rattle.tm_plan_map.specs.Slots as slots;
 ghost use Rattle.tm_base.specs.Lists.{any};
-ghost use Rattle.tm_world.specs.Slots.{named, load_bytes};
+ghost use Rattle.tm_world.specs.Slots.{named, load_bytes, target_of as target_at};
 ghost use Rattle.tm_plane.specs.Plane.{Bit, in_plane, Overwritten};
 ghost use Rattle.tm_race_walk.specs.Forward.{Raised};
-ghost use Rattle.tm_race_walk.specs.Slots.{IsLoad, IsStore};
+ghost use Rattle.tm_race_walk.specs.Slots.{IsLoad, IsStore, IsNamed};
 
-use crate::ops::{load_width, slot_addr, store_width};
-use tm_plane::{has_any, overwrite, with_bit};
+use tm_plan_map::{is_jump, load_width, slot_addr, store_width};
+use tm_plane::{Plane, has_any, overwrite, with_bit};
 use tm_table::Instr;
 
 // A set of registers with one more, if it isn't x0.
@@ -40,8 +40,21 @@ pub fn target_register(i: Instr) -> u64
     with_register(0, i.rd)
 }
 
+/// The target slot of a branch or JAL at slot `n`.
+#[tactic(auto, unfolding(tm_plan_map::specs::Slots::slot_target))]
+pub fn target_of(n: u32, i: Instr) -> Option<u32>
+    requires { IsNamed n i }
+    ensures { result ≡ target_at n i }
+{
+    if is_jump(i.op) {
+        Some(n + (i.imm.cast_unsigned() / 4) as u32)
+    } else {
+        None
+    }
+}
+
 /// Whether an instruction loads a byte of a plane.
-pub fn loads_any(plane: &[u64; 96], i: Instr) -> bool
+pub fn loads_any(plane: &Plane, i: Instr) -> bool
     requires { IsLoad i }
     ensures { result ≡ any (in_plane plane.now) (load_bytes i) }
 {
@@ -53,7 +66,7 @@ pub fn loads_any(plane: &[u64; 96], i: Instr) -> bool
 }
 
 /// What a plane becomes where an instruction stores to those of its bytes that are in `own`.
-pub fn stored(plane: &mut [u64; 96], own: &[u64; 96], i: Instr, marks: bool, covered: bool)
+pub fn stored(plane: &mut Plane, own: &Plane, i: Instr, marks: bool, covered: bool)
     requires { IsStore i }
     ensures { (b : ℕ) → IsTrue (in_plane plane.new b)
         ↔ Overwritten (IsTrue (in_plane own.now b) × IsTrue (within (slots.slot_addr i) (slots.store_width i.op) b))

@@ -7,14 +7,14 @@ ghost use Rattle.tm_plane.specs.Plane.{in_plane};
 ghost use Rattle.tm_race_walk.specs.Slots.{IsStore, IsStoreWord};
 ghost use Rattle.tm_race_walk.specs.Shapes.{IsOfShaped};
 
-use crate::ops::{slot_addr, store_width};
 use tm_plan_cases::{Case, Stream};
-use tm_plane::{has, put};
+use tm_plan_map::{slot_addr, store_width};
+use tm_plane::{PLANE_WORDS, Plane, has, put};
 use tm_table::{Instr, decode};
 
 // Puts the bytes that a store covers into the plane.
 #[tactic(auto, unfolding(tm_plan_map::specs::Slots::stores_to))]
-fn put_instr(plane: &mut [u64; 96], i: Instr)
+fn put_instr(plane: &mut Plane, i: Instr)
     requires { IsStore i }
     ensures { (b : ℕ) → in_plane plane.new b ≡ (in_plane plane.old b || stores_to b i) }
 {
@@ -26,7 +26,7 @@ fn put_instr(plane: &mut [u64; 96], i: Instr)
 
 // Puts the bytes that a word stores to into the plane.
 #[tactic(auto, unfolding(tm_plan_map::specs::Slots::instr_of))]
-fn put_word(plane: &mut [u64; 96], word: u32)
+fn put_word(plane: &mut Plane, word: u32)
     requires { IsStoreWord word }
     ensures { (b : ℕ) → in_plane plane.new b ≡ (in_plane plane.old b || is_store_to b word) }
 {
@@ -36,11 +36,11 @@ fn put_word(plane: &mut [u64; 96], word: u32)
 }
 
 // The bytes that the words of a stream store to.
-fn words_plane(words: &[u32]) -> [u64; 96]
+fn words_plane(words: &[u32]) -> Plane
     requires { All IsStoreWord words.now }
     ensures { (b : ℕ) (s : TheStream) → s.words ≡ words.now → in_plane result b ≡ some_store_to b (Some s) }
 {
-    let mut plane = [0u64; 96];
+    let mut plane = [0u64; PLANE_WORDS];
     for word in words {
         put_word(&mut plane, *word);
     }
@@ -57,7 +57,7 @@ pub fn stream_of(case: &Case, h: u32) -> &Stream
 
 /// The bytes to which hart `h` has a store slot, executed or not: one bit for each byte of the windows. `h` is below
 /// the number of streams, and the case is one of shaped cases.
-pub fn store_plane(case: &Case, h: u32) -> [u64; 96]
+pub fn store_plane(case: &Case, h: u32) -> Plane
     requires case { IsOfShaped case.now }
     requires hart { h < length case.now.streams }
     ensures { (b : ℕ) → in_plane result b ≡ some_store_to b (slice_get case.now.streams h) }

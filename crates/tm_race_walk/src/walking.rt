@@ -8,11 +8,12 @@ ghost use Rattle.tm_race_walk.specs.Slots.{IsTracked, reads_of, plane_slot};
 ghost use Rattle.tm_race_walk.specs.Shapes.{IsOfShaped, another_in, own_in};
 ghost use Rattle.tm_race_walk.specs.Taints.{Holds, Moved, StandsAt};
 
-use crate::ops::{is_branch, target_of};
-use crate::slots::{either, loads_any, marks_of, raised, sources, stored, target_register, turns};
+use crate::slots::{either, loads_any, marks_of, raised, sources, stored};
+use crate::slots::{target_of, target_register, turns};
 use crate::stores::stream_of;
 use tm_plan_cases::{Case, Stream};
-use tm_plane::{meets, overwritten};
+use tm_plan_map::is_branch;
+use tm_plane::{PLANE_WORDS, Plane, meets, overwritten};
 use tm_table::{Instr, decode};
 
 /// What depends on a race before a slot: register r where bit r of `regs` is set, and byte q of the windows, counted
@@ -21,7 +22,7 @@ use tm_table::{Instr, decode};
 #[derive(Clone, Copy)]
 pub struct Taint {
     pub regs: u64,
-    pub bytes: [u64; 96],
+    pub bytes: Plane,
     pub steered: u32,
     pub covered: u32,
 }
@@ -29,12 +30,12 @@ pub struct Taint {
 impl Taint {
     /// What depends before the first slot: nothing.
     pub fn fresh() -> Taint
-        ensures zero { result ≡ record { regs = 0; bytes = replicate 96 0; steered = 0; covered = 0 } }
+        ensures zero { result ≡ record { regs = 0; bytes = replicate PLANE_WORDS 0; steered = 0; covered = 0 } }
         ensures stands { (case : TheCase) (h : ℕ) → StandsAt case h 0 result }
     {
         Taint {
             regs: 0,
-            bytes: [0; 96],
+            bytes: [0; PLANE_WORDS],
             steered: 0,
             covered: 0,
         }
@@ -43,7 +44,7 @@ impl Taint {
     /// Goes over slot `i` of hart `h`. `h` is below the number of streams, `i` below the stream's length, and the
     /// case is one of shaped cases. `others` are the bytes with another may-writer, and `own` those whose only
     /// may-writer is `h`.
-    pub fn forward(&mut self, case: &Case, h: u32, i: u32, others: &[u64; 96], own: &[u64; 96])
+    pub fn forward(&mut self, case: &Case, h: u32, i: u32, others: &Plane, own: &Plane)
         requires case { IsOfShaped case.now }
         requires hart { h < length case.now.streams }
         requires slot { (s : TheStream) → slice_get case.now.streams h ≡ Some s → i < length s.words }
@@ -68,7 +69,7 @@ impl Taint {
     }
 
     // Goes over slot n, whose instruction is i.
-    fn step(&mut self, n: u32, i: Instr, others: &[u64; 96], own: &[u64; 96])
+    fn step(&mut self, n: u32, i: Instr, others: &Plane, own: &Plane)
         requires { IsTracked n i }
         ensures { Moved (plane_slot others.now own.now n i) n self.old self.new }
     {

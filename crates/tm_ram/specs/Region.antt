@@ -2,6 +2,7 @@
 -- region is this project's own.
 use Rattle.std.specs.Prelude.{◌≡◌, ℕ, zero, suc, ◌+◌, ◌*◌, ◌/◌, ◌%◌, ◌^◌, ◌<◌, ◌≤◌, List, length, slice_index}
 use Rattle.std.specs.Prelude.{slice_set}
+use Rattle.tm_base.specs.declared.limits.TheConstants.{GUEST_BYTES}
 use Rattle.tm_table.specs.Row.{IsWidth}
 
 -- the bytes from an address on
@@ -14,7 +15,7 @@ pub record IsRegion (r : Region) : Type 0 where
   pub base : r.base % 8 ≡ 0
   pub whole : length r.bytes % 8 ≡ 0
   pub some : 8 ≤ length r.bytes
-  pub few : length r.bytes ≤ 16777216
+  pub few : length r.bytes ≤ GUEST_BYTES
   pub end : r.base + length r.bytes < 2 ^ 64
 
 -- so many bytes at an address lie in the region, at a multiple of their number

@@ -1,5 +1,6 @@
 // A region of memory.
 ghost use Rattle.std.specs.Prelude.{◌≡◌, ◌+◌, ◌-◌, ◌<◌, ◌≤◌, ◌%◌, ◌^◌, ◌*◌, ◌/◌, ◌⊎◌, ℕ, slice_index, length, IfOk};
+ghost use Rattle.tm_base.specs.declared.limits.TheConstants.{GUEST_BYTES};
 ghost use Rattle.tm_ram.specs.Region.{IsPlace, number_at, with_number};
 
 use crate::bytes::{number, put};
@@ -30,7 +31,7 @@ impl Ram {
         requires base { base % 8 ≡ 0 }
         requires whole { len % 8 ≡ 0 }
         requires some { 8 ≤ len }
-        requires few { len ≤ 16777216 }
+        requires few { len ≤ GUEST_BYTES }
         requires end { base + len < 2 ^ 64 }
         ensures base { IfOk result (λ r. r.base ≡ base) }
         ensures zeros { IfOk result (λ r. (k : ℕ) → slice_index r.bytes k ≡ 0) }

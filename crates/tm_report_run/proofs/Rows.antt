@@ -6,7 +6,7 @@ use Rattle.tm_table.specs.declared.state.Access.{Access}
 use Rattle.tm_table.specs.declared.state.Access.TheVariants.{Quiet, Read, Write}
 use Rattle.tm_plan_map.specs.declared.windows.Kind2.TheVariants.{True}
 use Rattle.tm_plan_map.specs.Map.{verdict_at, windows_base, window_at}
-use Rattle.tm_plan_cases.specs.declared.journal.Event.{Event}
+use Rattle.tm_plan_cases.specs.declared.event.Event.{Event}
 use Rattle.tm_plan_cases.specs.declared.cases.Cases.{Cases}
 use Rattle.tm_plan_cases.specs.Collected.{is_declared, collector, window_dwords, owned}
 use Rattle.tm_report_run.specs.Verdicts.{verdict_in, verdicts_of}

@@ -3,7 +3,7 @@ use Rattle.std.proofs.Common.{◌≡◌, ◌≢◌, ◌≤◌, ◌<◌, ℕ, zer
 use Rattle.std.proofs.Common.{ℤ, pos, negsuc, ◌≤ℤ◌, List, [], ◌∷◌, get_or, slice_get, is_some, Option, Some, None}
 use Rattle.std.proofs.Common.{refl, sym, ◌∙◌, ap, subst, inl, inr, arith}
 use Rattle.std.specs.List.{list_any}
-use Rattle.std.proofs.lemmas.Bool.{cases_Bool, cases_eq, and_from, lt-ltb, le-ltb, le-leb, eq-eqb, ltb-true}
+use Rattle.std.proofs.lemmas.Bool.{cases_Bool, cases_eq, and_from, or_from, lt-ltb, le-ltb, le-leb, eq-eqb, ltb-true}
 use Rattle.std.proofs.lemmas.Int.{ints}
 use Rattle.std.proofs.Math.Nat.{mod-eq_of_lt, mul-le-mul_right}
 use Rattle.tm_table.specs.declared.instr.Op.{Op}
@@ -24,6 +24,7 @@ use Rattle.tm_place.proofs.AllowedLemmas.{Shown, store-computed, load-computed}
 use Rattle.tm_rules_slot.specs.Teams.{harts_of, in_team}
 use Rattle.tm_rules_slot.specs.Slots.{first, is_source, is_placed, width_of, may_access, is_forward, target_fault}
 use Rattle.tm_rules_slot.specs.Slots.{register_checks, access_checks, emit_fault, mix_fault}
+use Rattle.tm_base.specs.declared.limits.TheConstants.{MOST_SLOTS, MOST_WEIGHTS}
 use Rattle.tm_rules_slot.specs.Laws.{IsRuledLine, AreRuledWeights}
 use Rattle.tm_rules.specs.Laws.{HasHart}
 use Rattle.tm_rules_slot.proofs.Finding.{team-none}
@@ -141,7 +142,7 @@ fits-above : (i : Instr) → Fits i → negsuc 1048575 ≤ℤ i.imm
 unfolding Fits
 fits-above i h = imm-above (row_of i.op).layout i h
 
-forward-passes : (n len : ℕ) (z : ℤ) → len ≤ 256 → negsuc 1048575 ≤ℤ z → z ≤ℤ pos 1048575 → low 64 z % 4 ≡ 0
+forward-passes : (n len : ℕ) (z : ℤ) → len ≤ MOST_SLOTS → negsuc 1048575 ≤ℤ z → z ≤ℤ pos 1048575 → low 64 z % 4 ≡ 0
     → n < n + low 64 z / 4 → n + low 64 z / 4 ≤ len → is_forward n len z ≡ true
 forward-passes n len (pos o) few above below whole ahead end =
     let small : o ≤ 1048575 = omega (arith, ints) in
@@ -159,7 +160,7 @@ forward-passes n len (negsuc k) few above below whole ahead end =
     let d : n + (2 ^ 64 - 1 - k) / 4 ≤ len = rw same at end in
     absurd (omega arith)
 
-target-passes : (s : Sharing) (h len n : ℕ) (i : Instr) → len ≤ 256 → IsRuledEmit s h len n i → target_fault n len i
+target-passes : (s : Sharing) (h len n : ℕ) (i : Instr) → len ≤ MOST_SLOTS → IsRuledEmit s h len n i → target_fault n len i
     ≡ None
 unfolding slot_target
 target-passes s h len n i few m = elim (cases_Bool (is_jump i.op)) [
@@ -174,7 +175,7 @@ target-passes s h len n i few m = elim (cases_Bool (is_jump i.op)) [
 
 -- a line that each hart of a body with some hart may run has no fault
 pub line-passes : (s : Sharing) (shape : List (Option Window)) (topo : Topology) (whom : Selector) (n len : ℕ)
-    (text : List ℕ) → Shown s shape → s.harts ≡ harts_of topo → len ≤ 256
+    (text : List ℕ) → Shown s shape → s.harts ≡ harts_of topo → len ≤ MOST_SLOTS
     → HasHart topo whom → IsRuledLine s topo whom len n text → emit_fault s.line s.part shape topo whom n len text
     ≡ None
 unfolding emit_fault
@@ -182,7 +183,8 @@ line-passes s shape topo whom n len text shown harts few some line =
     let i = line.instr in
     let m = line.each (some.0) (some.1) (some.2) in
     let read = line.read in
-    let last = emit-target s.line s.part shape topo whom n len i m.allowed (registers-pass s (some.0) len n i m)
+    let last = emit-target s.line s.part shape topo whom n len i
+    (or_from _ _ m.allowed line.allowed) (registers-pass s (some.0) len n i m)
     (access-passes s shape topo whom len n i (some.0) shown harts line.each m) in
     rw read (sym last ∙ target-passes s (some.0) len n i few m)
 
@@ -201,7 +203,7 @@ pub weights-pass : (shape : List (Option Window)) (alu load store branch : ℕ)
 unfolding mix_fault
 weights-pass shape alu load store branch m =
     let a = le-leb 1 (alu + load + store + branch) m.some in
-    let b = le-leb (alu + load + store + branch) 1000000 m.few in
+    let b = le-leb (alu + load + store + branch) MOST_WEIGHTS m.few in
     elim (cases_eq (load + store) 0) [
       | inl none ↦ rw (a, b, none) refl
       | inr some ↦

@@ -2,16 +2,17 @@
 use Rattle.std.proofs.Common.{◌≡◌, ◌≢◌, ◌+◌, ◌<◌, ◌==◌, ℕ, zero, suc, List, [], ◌∷◌, map, length, take, Option, Some}
 use Rattle.std.proofs.Common.{None, slice_get, refl, sym, ◌∙◌, subst, arith, rules}
 use Rattle.std.specs.Prelude.{find, AllPairs}
-use Rattle.std.specs.Str.{bytes_eq}
 use Rattle.std.proofs.lemmas.Bool.{leb-true, eq-eqb, and_parts, true≢false}
 use Rattle.std.proofs.lemmas.List.{length-map, length-take-le}
-use Rattle.std.proofs.lemmas.Slice.Eq.{bytes_eq-Decides}
 use Rattle.tm_table.specs.Words.{Fits}
 use Rattle.tm_base.specs.Lists.{count_from}
+use Rattle.tm_base.specs.Limits.{image_version, most_cases}
+use Rattle.tm_base.specs.declared.limits.TheConstants.{LEAST_PASSES, MOST_PASSES}
 use Rattle.tm_plan_map.specs.declared.windows.Window.{Window}
 use Rattle.tm_plan_map.specs.declared.admitted.Slot.{Slot}
 use Rattle.tm_plan_map.specs.declared.admitted.Slot.TheVariants as slot
-use Rattle.tm_place.specs.Ruled.{IsRuledEmit, IsRuledSlot, AreRuledSlots, IsRuledCase, IsRuledWindow, IsRuled}
+use Rattle.tm_place.specs.Ruled.{IsRuledEmit, IsRuledSlot, AreRuledSlots, IsRuledCase, IsRuled}
+use Rattle.tm_place.specs.Limits.{IsWindow}
 use Rattle.tm_place.proofs.AllowedLemmas.{Shown}
 use Rattle.tm_tmpl_types.specs.declared.template.BodyDecl.{BodyDecl}
 use Rattle.tm_tmpl_types.specs.declared.template.CaseDecl.{CaseDecl}
@@ -126,21 +127,12 @@ case-parts topo t none k c at =
 
 few-cases : (topo : Topology) (t : Template)
     → first_of (in_turn (case_checks topo (shape_of (windows_of t.windows)) (length t.cases)) [] t.cases) ≡ None
-    → (32 < length t.cases → ⊥)
+    → (most_cases image_version < length t.cases → ⊥)
 few-cases topo t none many =
-    let last = stands-at t.cases 32 many in
-    let rules = (case-parts topo t none 32 last.0 last.1).0 in
-    (case-sound (length t.cases) (take 32 t.cases) last.0.name rules).0 (length-take-le 32 t.cases (omega arith))
-
-names-differ : (topo : Topology) (t : Template)
-    → first_of (in_turn (case_checks topo (shape_of (windows_of t.windows)) (length t.cases)) [] t.cases) ≡ None
-    → AllPairs (λ c d. c.name ≢ d.name) (map (admitted_case topo) t.cases)
-names-differ topo t none = pair-images (admitted_case topo) (λ c d. c.name ≢ d.name) t.cases
-    (λ j d there i c before here.
-    let rules = (case-parts topo t none j d there).0 in
-    let fails = any-fails (λ e. bytes_eq e.name d.name) t.cases j
-    (case-sound (length t.cases) (take j t.cases) d.name rules).1 i c before here in
-    λ same. true≢false (sym ((bytes_eq-Decides c.name d.name).1 same) ∙ fails))
+    let most = most_cases image_version in
+    let last = stands-at t.cases most many in
+    let rules = (case-parts topo t none most last.0 last.1).0 in
+    (case-sound (length t.cases) (take most t.cases) last.0.name rules).0 (length-take-le most t.cases (omega arith))
 
 -- ---- the whole form
 
@@ -164,12 +156,11 @@ admitted-ruled topo t system none =
       line = system.line;
       part = refl;
       bias = system.bias;
-      passes = (leb-true 2 t.passes passes.0, leb-true t.passes 8 passes.1);
-      windows = all-images window_of (IsRuledWindow (harts_of topo) topo.line) t.windows
+      passes = (leb-true LEAST_PASSES t.passes passes.0, leb-true t.passes MOST_PASSES passes.1);
+      windows = all-images window_of (IsWindow (harts_of topo) topo.line) t.windows
           (λ k w at. (windows-sound topo t.windows parts.1 k w at).0);
       apart = numbers-differ topo t.windows parts.1;
       count = (omega (arith, same, parts.3), omega (arith, same, few-cases topo t parts.2));
-      names = names-differ topo t parts.2;
       each = all-images (admitted_case topo) (IsRuledCase (shared topo (windows_of t.windows)) (windows_of t.windows))
           t.cases
           (λ k c at. case-ruled topo (windows_of t.windows) c shown (case-parts topo t parts.2 k c at).1);

@@ -43,8 +43,8 @@ shared topo windows = record {
 reads-past : (topo : Topology) (ws : List WindowDecl) → first_of (in_turn (window_checks topo) [] ws) ≡ None → (n : ℕ)
     → 3 ≤ n → (o : Option Window) → numbered (windows_of ws) n ≡ o → o ≡ None
 reads-past topo ws none n past None is = refl
-reads-past topo ws none n past (Some v) is = let below = (numbered-sound topo ws none n v is).below in
-    absurd (omega arith)
+reads-past topo ws none n past (Some v) is = let at = numbered-sound topo ws none n v is in
+    absurd (omega (arith, at.number, at.window.shaped.number))
 
 shape-reads : (topo : Topology) (ws : List WindowDecl) → first_of (in_turn (window_checks topo) [] ws) ≡ None → (n : ℕ)
     → numbered (windows_of ws) n ≡ get_or (shape_of (windows_of ws)) n None

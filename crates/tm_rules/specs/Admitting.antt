@@ -22,8 +22,8 @@ use Rattle.tm_topo.specs.declared.system.Topology.{Topology}
 use Rattle.tm_rules_slot.specs.Teams.{harts_of, in_team}
 use Rattle.tm_rules_first.specs.Windows.{windows_of}
 use Rattle.tm_rules_first.specs.Rules.{broken_rule}
-use Rattle.tm_faults.specs.declared.rule.AdmitFault.{AdmitFault}
-use Rattle.tm_faults.specs.declared.rule.AdmitFault.TheVariants.{Rule, NoMemory}
+use Rattle.tm_refusals.specs.declared.rule.AdmitFault.{AdmitFault}
+use Rattle.tm_refusals.specs.declared.rule.AdmitFault.TheVariants.{Rule, NoMemory}
 
 -- `addi x0, x0, 0`, which changes nothing (RV64I 2.1)
 unfoldable pub nothing : Instr

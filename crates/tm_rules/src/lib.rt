@@ -7,4 +7,4 @@ pub mod laws;
 mod slots;
 
 pub use form::admit;
-pub use tm_faults::{AdmitFault, RuleAt, RuleFault};
+pub use tm_refusals::{AdmitFault, RuleAt, RuleFault};

@@ -2,6 +2,7 @@
 use Rattle.std.proofs.Common.{◌≡◌, ◌+◌, ◌<◌, ◌≤◌, ◌^◌, ◌-◌, min, ℕ, List, [], ◌∷◌, ◌++◌, length, get_or, take, drop}
 use Rattle.std.proofs.Common.{refl, sym, ap, ◌∙◌, arith}
 use Rattle.std.proofs.lemmas.List.{take_more, take-append-drop}
+use Rattle.tm_base.specs.declared.limits.TheConstants.{MOST_SLOTS}
 use Rattle.tm_tmpl_types.specs.declared.template.SlotDecl.{SlotDecl}
 use Rattle.tm_rules_first.specs.Rules.{slots_in, total_slots, slot_count}
 
@@ -42,6 +43,6 @@ unfolding slot_count
 count-more ds k d within is = rw (total-more ds k d within is) (omega arith)
 
 -- a count of a body that may stand is the sum itself
-pub count-small : (ds : List SlotDecl) → slot_count ds ≤ 256 → total_slots ds ≡ slot_count ds
+pub count-small : (ds : List SlotDecl) → slot_count ds ≤ MOST_SLOTS → total_slots ds ≡ slot_count ds
 unfolding slot_count
 count-small ds few = omega arith

@@ -2,9 +2,9 @@
 use Rattle.std.proofs.Common.{◌≡◌, ◌≢◌, ◌<◌, ℕ, zero, suc, List, [], ◌∷◌, ◌++◌, Option, Some, None, slice_get, refl}
 use Rattle.std.proofs.Common.{ap, arith}
 use Rattle.tm_base.specs.declared.Pos.{Pos}
-use Rattle.tm_faults.specs.declared.rule.RuleFault.{RuleFault}
+use Rattle.tm_refusals.specs.declared.rule.RuleFault.{RuleFault}
 use Rattle.tm_rules_slot.specs.Slots.{first}
-use Rattle.tm_faults.specs.declared.rule.RuleAt.{RuleAt}
+use Rattle.tm_refusals.specs.declared.rule.RuleAt.{RuleAt}
 use Rattle.tm_rules_first.specs.Rules.{Check, put_at, or_later, first_of, broken, NoneBroken, IsFirst}
 
 -- a fault at a place

@@ -1,6 +1,6 @@
 -- The checks of one statement, from the fault that its rules give.
 use Rattle.std.proofs.Common.{◌≡◌, ◌+◌, ◌<◌, ℕ, List, [], ◌∷◌, Option, Some, None, length, get_or, take, refl, sym}
-use Rattle.tm_faults.specs.declared.rule.RuleFault.{RuleFault}
+use Rattle.tm_refusals.specs.declared.rule.RuleFault.{RuleFault}
 use Rattle.tm_rules_slot.specs.Slots.{first}
 use Rattle.tm_plan_map.specs.declared.windows.Window.{Window}
 use Rattle.tm_tmpl_types.specs.declared.template.WindowDecl.{WindowDecl}

@@ -1,10 +1,10 @@
 -- The first broken rule of a template, from those of its parts.
 use Rattle.std.proofs.Common.{◌≡◌, ◌==◌, true, false, not, List, [], ◌∷◌, ◌++◌, length, Some, None, refl, sym, ◌∙◌}
 use Rattle.std.proofs.lemmas.Bool.{eq-eqb, ne_eqb, not-true, true≢false}
-use Rattle.tm_faults.specs.declared.rule.RuleFault.TheVariants.{Cases, Passes}
+use Rattle.tm_refusals.specs.declared.rule.RuleFault.TheVariants.{Cases, Passes}
 use Rattle.tm_tmpl_types.specs.declared.template.Template.{Template}
 use Rattle.tm_topo.specs.declared.system.Topology.{Topology}
-use Rattle.tm_faults.specs.declared.rule.RuleAt.{RuleAt}
+use Rattle.tm_refusals.specs.declared.rule.RuleAt.{RuleAt}
 use Rattle.tm_rules_first.specs.Windows.{windows_of}
 use Rattle.tm_rules_first.specs.Rules.{Check, unless, first_of, in_turn, are_passes, window_checks, case_checks}
 use Rattle.tm_rules_first.specs.Rules.{checks_of, broken_rule}

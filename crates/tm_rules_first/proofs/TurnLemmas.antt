@@ -4,7 +4,7 @@ use Rattle.std.proofs.Common.{get_or, take, drop, slice_get, refl, sym, ap, â—Œâ
 use Rattle.std.proofs.Math.Seq.{drop-cons}
 use Rattle.std.proofs.Math.ListN.{drop_of_length-le}
 use Rattle.std.proofs.lemmas.List.{take_more}
-use Rattle.tm_faults.specs.declared.rule.RuleAt.{RuleAt}
+use Rattle.tm_refusals.specs.declared.rule.RuleAt.{RuleAt}
 use Rattle.tm_rules_first.specs.Rules.{Check, first_of, in_turn}
 use Rattle.tm_rules_first.proofs.FirstLemmas.{first-passes, first-stops, first-both}
 

@@ -6,6 +6,8 @@ use Rattle.std.specs.Prelude.{option_map}
 use Rattle.std.specs.List.{list_any}
 use Rattle.std.specs.Str.{bytes_eq}
 use Rattle.tm_base.specs.Limits.{image_version, most_cases}
+use Rattle.tm_base.specs.declared.limits.TheConstants.{LEAST_PASSES, MOST_PASSES, MOST_SLOTS, WINDOWS}
+use Rattle.tm_base.specs.declared.limits.TheConstants.{WINDOW_BYTES}
 use Rattle.tm_base.specs.declared.Pos.{Pos}
 use Rattle.tm_plan_map.specs.declared.windows.Window.{Window}
 use Rattle.tm_place.specs.Numbers.{part_size}
@@ -21,12 +23,12 @@ use Rattle.tm_tmpl_types.specs.declared.template.CaseDecl.{CaseDecl}
 use Rattle.tm_tmpl_types.specs.declared.template.WindowDecl.{WindowDecl}
 use Rattle.tm_tmpl_types.specs.declared.template.Template.{Template}
 use Rattle.tm_topo.specs.declared.system.Topology.{Topology}
-use Rattle.tm_faults.specs.declared.rule.RuleFault.{RuleFault}
-use Rattle.tm_faults.specs.declared.rule.RuleFault.TheVariants.{Cases, Passes, Slots, Lines, NoWindow, NoHart}
-use Rattle.tm_faults.specs.declared.rule.RuleFault.TheVariants.{TwiceBody, TwiceName}
+use Rattle.tm_refusals.specs.declared.rule.RuleFault.{RuleFault}
+use Rattle.tm_refusals.specs.declared.rule.RuleFault.TheVariants.{Cases, Passes, Slots, Lines, NoWindow, NoHart}
+use Rattle.tm_refusals.specs.declared.rule.RuleFault.TheVariants.{TwiceBody, TwiceName}
 use Rattle.tm_rules_slot.specs.Teams.{harts_of, in_team, team}
 use Rattle.tm_rules_slot.specs.Slots.{emit_fault, mix_fault}
-use Rattle.tm_faults.specs.declared.rule.RuleAt.{RuleAt}
+use Rattle.tm_refusals.specs.declared.rule.RuleAt.{RuleAt}
 use Rattle.tm_rules_first.specs.Windows.{windows_of}
 use Rattle.tm_place.specs.Placing.{shape_of}
 
@@ -64,7 +66,7 @@ in_turn checks before (x ∷ xs) = checks before x ++ in_turn checks (before ++ 
 
 -- there are 2 to 8 passes (this project)
 abbrev pub are_passes : ℕ → Bool
-are_passes n = nat_le 2 n && nat_le n 8
+are_passes n = nat_le LEAST_PASSES n && nat_le n MOST_PASSES
 
 -- an own window has a line for each of the harts (this project)
 abbrev pub has_each : Kind → (harts lines : ℕ) → Bool
@@ -74,13 +76,14 @@ has_each False harts lines = true
 
 -- a window has at least one line and at most 2048 bytes, and an own one a line for each hart (this project)
 abbrev pub has_lines : Topology → Kind → (lines : ℕ) → Bool
-has_lines topo kind lines = (nat_le 1 lines && nat_le (lines * topo.line) 2048) && has_each kind (harts_of topo) lines
+has_lines topo kind lines =
+    (nat_le 1 lines && nat_le (lines * topo.line) WINDOW_BYTES) && has_each kind (harts_of topo) lines
 
 -- the rules of a window behind those before it: its number is below 3, and is new, and its lines are enough and not
 -- too many (this project)
 unfoldable pub window_rules : Topology → List WindowDecl → WindowDecl → List (Option RuleFault)
 window_rules topo before w =
-    unless (nat_lt w.number 3) (NoWindow w.number)
+    unless (nat_lt w.number WINDOWS) (NoWindow w.number)
     ∷ unless (not (list_any (λ v. v.number == w.number) before)) TwiceName
     ∷ unless (has_lines topo w.kind w.lines) (Lines w.lines)
     ∷ []
@@ -148,7 +151,7 @@ unfoldable pub body_rules : Topology → List BodyDecl → Selector → (len : �
 body_rules topo before whom len =
     unless (is_there topo whom) (NoHart (number_in whom))
     ∷ twice_fault topo before whom
-    ∷ unless (nat_le 1 len && nat_le len 256) (Slots len)
+    ∷ unless (nat_le 1 len && nat_le len MOST_SLOTS) (Slots len)
     ∷ []
 
 -- the checks of a body behind those before it in its case, and of its statements (this project)

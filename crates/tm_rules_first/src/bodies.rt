@@ -6,7 +6,8 @@ ghost use Rattle.tm_rules_first.specs.Rules as rules;
 
 use crate::RuleAt;
 use crate::slots::{slot_count, slots_broken};
-use tm_faults::RuleFault;
+use tm_base::MOST_SLOTS;
+use tm_refusals::RuleFault;
 use tm_place::Placement;
 use tm_rules_slot::is_in_team;
 use tm_tmpl_types::{BodyDecl, Selector};
@@ -65,7 +66,7 @@ fn body_fault(topo: &Topology, before: &[BodyDecl], whom: Selector, len: u64) ->
     if len < 1 {
         return Some(RuleFault::Slots { n: len });
     }
-    if len > 256 {
+    if len > MOST_SLOTS as u64 {
         return Some(RuleFault::Slots { n: len });
     }
     None

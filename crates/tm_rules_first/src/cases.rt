@@ -8,7 +8,8 @@ ghost use Rattle.tm_rules_first.specs.Rules as rules;
 
 use crate::RuleAt;
 use crate::bodies::bodies_broken;
-use tm_faults::RuleFault;
+use tm_base::{IMAGE_VERSION, most_cases};
+use tm_refusals::RuleFault;
 use tm_place::Placement;
 use tm_tmpl_types::CaseDecl;
 use tm_topo::Topology;
@@ -58,7 +59,7 @@ fn case_broken(
 fn case_fault(count: u64, before: &[CaseDecl], name: &[u8]) -> Option<RuleFault>
     ensures { result ≡ first (rules.case_rules count before.now name.now) }
 {
-    if before.len() == 32 {
+    if before.len() == most_cases(IMAGE_VERSION) as usize {
         return Some(RuleFault::Cases { n: count });
     }
     if is_named(before, name) {

@@ -10,5 +10,5 @@ mod walk;
 mod windows;
 
 pub use place::window_of;
-pub use tm_faults::RuleAt;
+pub use tm_refusals::RuleAt;
 pub use walk::first_broken;

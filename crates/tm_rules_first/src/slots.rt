@@ -4,7 +4,8 @@ ghost use Rattle.tm_rules_slot.specs.Teams.{IsSystem, harts_of};
 ghost use Rattle.tm_rules_first.specs.Rules as rules;
 
 use crate::RuleAt;
-use tm_faults::RuleFault;
+use tm_base::MOST_SLOTS;
+use tm_refusals::RuleFault;
 use tm_place::Placement;
 use tm_rules_slot::{emit_fault, mix_fault};
 use tm_tmpl_types::{Selector, SlotDecl, SlotText};
@@ -43,7 +44,7 @@ pub fn slots_broken(
     requires harts { p.now.harts ≡ harts_of topo.now }
     requires line { p.now.line ≡ topo.now.line }
     requires len { len ≡ rules.slot_count slots.now }
-    requires few { len ≤ 256 }
+    requires few { len ≤ MOST_SLOTS }
     ensures { result ≡ rules.first_of (rules.in_turn (rules.slot_checks topo.now p.now.shape whom len) [] slots.now) }
 {
     let mut at: u32 = 0;
@@ -73,7 +74,7 @@ fn slot_fault(
     requires harts { p.now.harts ≡ harts_of topo.now }
     requires line { p.now.line ≡ topo.now.line }
     requires within { at + rules.slots_in what.now ≤ len }
-    requires few { len ≤ 256 }
+    requires few { len ≤ MOST_SLOTS }
     ensures { result ≡ rules.slot_fault topo.now p.now.shape whom len at what.now }
 {
     match what {

@@ -7,7 +7,8 @@ use crate::RuleAt;
 use crate::cases::cases_broken;
 use crate::place::placement;
 use crate::windows::windows_broken;
-use tm_faults::RuleFault;
+use tm_base::{LEAST_PASSES, MOST_PASSES};
+use tm_refusals::RuleFault;
 use tm_tmpl_types::Template;
 use tm_topo::Topology;
 
@@ -45,5 +46,5 @@ pub fn first_broken(t: &Template, topo: &Topology) -> Option<RuleAt>
 fn are_passes(passes: u32) -> bool
     ensures { result ≡ rules.are_passes passes }
 {
-    2 <= passes && passes <= 8
+    LEAST_PASSES <= passes && passes <= MOST_PASSES
 }

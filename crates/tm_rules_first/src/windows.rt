@@ -6,7 +6,8 @@ ghost use Rattle.tm_rules_slot.specs.Slots.{first};
 ghost use Rattle.tm_rules_first.specs.Rules as rules;
 
 use crate::RuleAt;
-use tm_faults::RuleFault;
+use tm_base::{WINDOW_BYTES, WINDOWS};
+use tm_refusals::RuleFault;
 use tm_tmpl_types::{Kind, WindowDecl};
 use tm_topo::Topology;
 
@@ -32,7 +33,7 @@ fn window_fault(topo: &Topology, before: &[WindowDecl], window: WindowDecl) -> O
     requires { IsSystem topo.now }
     ensures { result ≡ first (rules.window_rules topo.now before.now window) }
 {
-    if window.number >= 3 {
+    if window.number >= WINDOWS {
         return Some(RuleFault::NoWindow { w: window.number });
     }
     if is_declared(before, window.number) {
@@ -59,7 +60,7 @@ fn has_lines(topo: &Topology, kind: Kind, lines: u32) -> bool
     if lines < 1 {
         return false;
     }
-    if u64::from(lines) * u64::from(topo.line) > 2048 {
+    if u64::from(lines) * u64::from(topo.line) > WINDOW_BYTES as u64 {
         return false;
     }
     has_each(kind, topo.cores * topo.threads, lines)

@@ -1,6 +1,6 @@
 -- Checks: the first that is broken.
 use Rattle.std.proofs.Common.{◌≡◌, Bool, true, false, List, [], ◌∷◌, ◌++◌, Option, Some, None, refl, sym, ◌∙◌}
-use Rattle.tm_faults.specs.declared.rule.RuleFault.{RuleFault}
+use Rattle.tm_refusals.specs.declared.rule.RuleFault.{RuleFault}
 use Rattle.tm_rules_slot.specs.Slots.{first, broken}
 
 -- checks that pass have no part in what is broken first

@@ -9,7 +9,7 @@ use Rattle.tm_plan_map.specs.declared.windows.Kind2.TheVariants.{False}
 use Rattle.tm_plan_map.specs.Map.{window_at, windows_base}
 use Rattle.tm_plan_map.specs.Slots.{slot_addr}
 use Rattle.tm_place.specs.Allowed.{may_store_at, may_load_at}
-use Rattle.tm_faults.specs.declared.rule.RuleFault.TheVariants.{NotOwner}
+use Rattle.tm_refusals.specs.declared.rule.RuleFault.TheVariants.{NotOwner}
 use Rattle.tm_rules_slot.specs.Teams.{in_team, team}
 use Rattle.tm_rules_slot.specs.Slots.{first, window_fault, place_fault, may_access, owner_fault, emit_checks}
 

@@ -3,7 +3,7 @@ use Rattle.std.proofs.Common.{◌≡◌, ◌≢◌, ◌≤◌, ◌<◌, ℕ, suc
 use Rattle.std.proofs.Common.{not, nat_lt, nat_le, ℤ, pos, negsuc, ◌≤ℤ◌, List, [], ◌∷◌, find, get_or, Option, Some}
 use Rattle.std.proofs.Common.{None, option_map, is_some, Result, Ok, Err, refl, ◌∙◌, ap, inl, inr, arith}
 use Rattle.std.specs.List.{list_any}
-use Rattle.std.proofs.lemmas.Bool.{and_parts, not-false, ltb-true, ltb-false, leb-true, eqb-true, lt-ltb}
+use Rattle.std.proofs.lemmas.Bool.{and_parts, or_parts, not-false, ltb-true, ltb-false, leb-true, eqb-true, lt-ltb}
 use Rattle.std.proofs.lemmas.Nat.{div-add-mod'}
 use Rattle.std.proofs.Math.Nat.{mod-lt, mod-eq_of_lt, div-lt_iff_lt-mul}
 use Rattle.std.proofs.lemmas.Int.{ints}
@@ -20,16 +20,19 @@ use Rattle.tm_topo.specs.declared.system.Topology.{Topology}
 use Rattle.tm_tmpl_types.specs.declared.template.Selector.{Selector}
 use Rattle.tm_plan_map.specs.declared.windows.Window.{Window}
 use Rattle.tm_plan_map.specs.Map.{window_at, within}
-use Rattle.tm_plan_map.specs.Slots.{is_access, is_barred, is_jump, load_width, store_width, slot_addr, slot_target}
+use Rattle.tm_plan_map.specs.Slots.{IsBase, is_access, is_product, is_jump, load_width, store_width, slot_addr}
+use Rattle.tm_plan_map.specs.Slots.{slot_target}
 use Rattle.tm_place.specs.Sharing.{Sharing}
 use Rattle.tm_place.specs.Ruled.{IsBased, IsRuledEmit}
 use Rattle.tm_place.specs.Allowed.{may_store_at, may_load_at}
 use Rattle.tm_place.proofs.PartLemmas.{size-some}
 use Rattle.tm_place.proofs.AllowedLemmas.{Shown, store-computed, load-computed}
-use Rattle.tm_faults.specs.declared.rule.RuleFault.{RuleFault}
-use Rattle.tm_faults.specs.declared.rule.RuleFault.TheVariants.{NoWindow, NotOwner, BadPlace, NotAllowed}
+use Rattle.tm_refusals.specs.declared.rule.RuleFault.{RuleFault}
+use Rattle.tm_refusals.specs.declared.rule.RuleFault.TheVariants.{NoWindow, NotOwner, BadPlace, NotAllowed}
 use Rattle.tm_rules_slot.specs.Teams.{harts_of, in_team, team}
-use Rattle.tm_rules_slot.specs.Slots.{first, broken, barred, within_registers, is_source, source_fault, window_fault}
+use Rattle.tm_base.specs.declared.limits.TheConstants.{MOST_WEIGHTS}
+use Rattle.tm_rules_slot.specs.Slots.{first, broken, barred, is_refused, within_registers, is_source, source_fault}
+use Rattle.tm_rules_slot.specs.Slots.{window_fault}
 use Rattle.tm_rules_slot.specs.Slots.{is_placed, width_of, place_fault, may_access, owner_fault, is_forward}
 use Rattle.tm_rules_slot.specs.Slots.{target_fault, register_checks, access_checks, emit_checks, fault_of, emit_fault}
 use Rattle.tm_rules_slot.specs.Slots.{weight_fault, any_window_fault, mix_fault}
@@ -58,11 +61,11 @@ unfolding mix_fault
 mix-ruled shape alu load store branch e =
     let sum = alu + load + store + branch in
     let checks = first-none (weight_fault sum) (any_window_fault shape (load + store) ∷ []) e in
-    let weights = and_parts (nat_le 1 sum) (nat_le sum 1000000) (not-false _ (unbroken _ _ (checks.0))) in
+    let weights = and_parts (nat_le 1 sum) (nat_le sum MOST_WEIGHTS) (not-false _ (unbroken _ _ (checks.0))) in
     let windows = first-none (any_window_fault shape (load + store)) [] (checks.1) in
     record {
       some = leb-true 1 sum (weights.0);
-      few = leb-true sum 1000000 (weights.1);
+      few = leb-true sum MOST_WEIGHTS (weights.1);
       places = λ some. any-stands shape (held (nat_lt 0 (load + store)) (list_any is_some shape) _ (windows.0)
           (lt-ltb 0 (load + store) (omega arith)));
     }
@@ -97,7 +100,7 @@ one-kind _ h = absurd (h refl)
 source-free : (i : Instr) → is_source i ≡ true → is_access i.op ≡ false → i.rs1 ≤ 27
 source-free i e t = let read = rw t at e in leb-true i.rs1 27 read
 
-source-base : (i : Instr) → is_source i ≡ true → is_access i.op ≡ true → (28 ≤ i.rs1) × (i.rs1 ≤ 30)
+source-base : (i : Instr) → is_source i ≡ true → is_access i.op ≡ true → IsBase i.rs1
 source-base i e t = let read = rw t at e in let both = and_parts (nat_le 28 i.rs1) (nat_le i.rs1 30) read in
     (leb-true 28 i.rs1 (both.0), leb-true i.rs1 30 (both.1))
 
@@ -138,17 +141,17 @@ access-owned line part shape topo whom i v (Some h) t some on found = rw (t, som
 abbrev Found : (line part : ℕ) → List (Option Window) → Topology → Selector → (n len : ℕ) → Instr → Option RuleFault
 Found line part shape topo whom n len i = first (emit_checks line part shape topo whom n len i)
 
-allowed : (i : Instr) → is_barred i.op ≡ false → barred i ≡ None
+allowed : (i : Instr) → is_refused i.op ≡ false → barred i ≡ None
 allowed i t = rw t refl
 
-pub emit-barred : (line part : ℕ) (shape : List (Option Window)) (topo : Topology) (whom : Selector) (n len : ℕ)
-    (i : Instr) → is_barred i.op ≡ true
+pub emit-refused : (line part : ℕ) (shape : List (Option Window)) (topo : Topology) (whom : Selector) (n len : ℕ)
+    (i : Instr) → is_refused i.op ≡ true
     → Some (NotAllowed i.op) ≡ Found line part shape topo whom n len i
 unfolding emit_checks
-emit-barred line part shape topo whom n len i t = rw t refl
+emit-refused line part shape topo whom n len i t = rw t refl
 
 pub emit-register : (line part : ℕ) (shape : List (Option Window)) (topo : Topology) (whom : Selector) (n len : ℕ)
-    (i : Instr) (f : RuleFault) → is_barred i.op ≡ false
+    (i : Instr) (f : RuleFault) → is_refused i.op ≡ false
     → first (register_checks i) ≡ Some f → Some f ≡ Found line part shape topo whom n len i
 unfolding emit_checks
 emit-register line part shape topo whom n len i f t =
@@ -156,7 +159,7 @@ emit-register line part shape topo whom n len i f t =
     f (allowed i t)
 
 pub emit-access : (line part : ℕ) (shape : List (Option Window)) (topo : Topology) (whom : Selector) (n len : ℕ)
-    (i : Instr) (f : RuleFault) → is_barred i.op ≡ false
+    (i : Instr) (f : RuleFault) → is_refused i.op ≡ false
     → first (register_checks i) ≡ None → Accessed line part shape topo whom i ≡ Some f
     → Some f ≡ Found line part shape topo whom n len i
 unfolding emit_checks
@@ -165,7 +168,7 @@ emit-access line part shape topo whom n len i f t =
     (allowed i t)
 
 pub emit-target : (line part : ℕ) (shape : List (Option Window)) (topo : Topology) (whom : Selector) (n len : ℕ)
-    (i : Instr) → is_barred i.op ≡ false
+    (i : Instr) → is_refused i.op ≡ false
     → first (register_checks i) ≡ None → Accessed line part shape topo whom i ≡ None → target_fault n len i
     ≡ Found line part shape topo whom n len i
 unfolding emit_checks
@@ -270,6 +273,12 @@ goes-forward n len (pos o) few e =
     rw same (whole, omega arith, end)
 goes-forward n len (negsuc k) few e = cc
 
+-- an instruction of which no rule is broken is no product
+pub no-product : (line part : ℕ) (shape : List (Option Window)) (topo : Topology) (whom : Selector) (n len : ℕ)
+    (i : Instr) → first (emit_checks line part shape topo whom n len i) ≡ None → is_product i.op ≡ false
+unfolding emit_checks
+no-product line part shape topo whom n len i e = (or_parts _ _ (unbroken _ _ (first-none (barred i) _ e).0)).1
+
 -- An instruction of which no rule is broken is one that each hart of the body may run.
 pub instr-ruled : (s : Sharing) (shape : List (Option Window)) (topo : Topology) (whom : Selector) (n len : ℕ)
     (i : Instr) → Shown s shape → s.harts ≡ harts_of topo → Fits i
@@ -290,7 +299,7 @@ instr-ruled s shape topo whom n len i shown harts fits e h less among =
     λ t. rw harts (owner-allows s.line s.part shape topo whom i (k.0) t h less among) in
     record {
       fits = fits;
-      allowed = unbroken _ _ (a.0);
+      allowed = (or_parts _ _ (unbroken _ _ (a.0))).0;
       result = ltb-false 27 i.rd (unbroken _ _ (b.0));
       second = ltb-false 27 i.rs2 (unbroken _ _ (f.0));
       first = source-free i source;
@@ -314,6 +323,7 @@ ruled-by s shape topo whom n len text (Err f) is shown harts e = cc
 ruled-by s shape topo whom n len text (Ok i) is shown harts e = record {
   instr = i;
   read = is;
+  allowed = no-product s.line s.part shape topo whom n len i e;
   each = instr-ruled s shape topo whom n len i shown harts (line-fits text i is) e;
 }
 

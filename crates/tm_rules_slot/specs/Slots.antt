@@ -1,20 +1,22 @@
 -- The rules of one slot of a body (this project's own). A rule of a statement is a check: the fault where it is broken.
-use Rattle.std.specs.Prelude.{ℕ, ◌+◌, ◌-◌, ◌*◌, ◌/◌, ◌%◌, ◌==◌, nat_le, nat_lt, Bool, false, ◌&&◌, not, if◌then◌else◌}
+use Rattle.std.specs.Prelude.{ℕ, ◌+◌, ◌-◌, ◌*◌, ◌/◌, ◌%◌, ◌==◌, nat_le, nat_lt, Bool, false, ◌&&◌, ◌||◌, not}
 use Rattle.std.specs.Prelude.{ℤ, pos, negsuc, List, [], ◌∷◌, ◌++◌, find, get_or, Option, Some, None, option_map}
-use Rattle.std.specs.Prelude.{is_some, Result, Ok, Err}
+use Rattle.std.specs.Prelude.{is_some, Result, Ok, Err, if◌then◌else◌}
 use Rattle.std.specs.List.{list_any}
+use Rattle.tm_table.specs.declared.instr.Op.{Op}
 use Rattle.tm_table.specs.declared.instr.Instr.{Instr}
 use Rattle.tm_asm_line.specs.declared.fault.AsmFault.{AsmFault}
 use Rattle.tm_asm_line.specs.Reading.{line_of}
 use Rattle.tm_topo.specs.declared.system.Topology.{Topology}
 use Rattle.tm_tmpl_types.specs.declared.template.Selector.{Selector}
 use Rattle.tm_plan_map.specs.declared.windows.Window.{Window}
+use Rattle.tm_base.specs.declared.limits.TheConstants.{MOST_WEIGHTS}
 use Rattle.tm_plan_map.specs.Map.{window_at, within}
-use Rattle.tm_plan_map.specs.Slots.{is_access, is_barred, is_jump, load_width, store_width, slot_addr}
+use Rattle.tm_plan_map.specs.Slots.{is_access, is_barred, is_product, is_jump, load_width, store_width, slot_addr}
 use Rattle.tm_place.specs.Allowed.{may_store_at, may_load_at}
-use Rattle.tm_faults.specs.declared.rule.RuleFault.{RuleFault}
-use Rattle.tm_faults.specs.declared.rule.RuleFault.TheVariants.{NoWindow, Register, Asm, NotAllowed, BadPlace}
-use Rattle.tm_faults.specs.declared.rule.RuleFault.TheVariants.{NotOwner, Target, NoWeight}
+use Rattle.tm_refusals.specs.declared.rule.RuleFault.{RuleFault}
+use Rattle.tm_refusals.specs.declared.rule.RuleFault.TheVariants.{NoWindow, Register, Asm, NotAllowed, BadPlace}
+use Rattle.tm_refusals.specs.declared.rule.RuleFault.TheVariants.{NotOwner, Target, NoWeight}
 use Rattle.tm_rules_slot.specs.Teams.{harts_of, team}
 
 -- ---- checks
@@ -31,9 +33,13 @@ broken b fault = if b then Some fault else None
 
 -- ---- an instruction as it is written
 
--- JALR, ECALL and EBREAK have no place in a stream
+-- JALR, ECALL and EBREAK have no place in a stream, and images of version 1 have no products
+abbrev pub is_refused : Op → Bool
+is_refused op = is_barred op || is_product op
+
+-- the op is one that a stream may have
 abbrev pub barred : Instr → Option RuleFault
-barred i = broken (is_barred i.op) (NotAllowed i.op)
+barred i = broken (is_refused i.op) (NotAllowed i.op)
 
 -- a register is one of x0 to x27
 abbrev pub within_registers : ℕ → Option RuleFault
@@ -126,7 +132,7 @@ emit_fault line part shape topo whom n len text =
 
 -- the sum of the four weights is 1 to 1,000,000
 abbrev pub weight_fault : ℕ → Option RuleFault
-weight_fault sum = broken (not (nat_le 1 sum && nat_le sum 1000000)) (NoWeight sum)
+weight_fault sum = broken (not (nat_le 1 sum && nat_le sum MOST_WEIGHTS)) (NoWeight sum)
 
 -- a window is declared where loads or stores have a weight
 abbrev pub any_window_fault : List (Option Window) → ℕ → Option RuleFault

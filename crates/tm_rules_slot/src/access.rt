@@ -5,11 +5,11 @@ ghost use Rattle.tm_plan_map.specs.Map.{window_at, within};
 ghost use Rattle.tm_rules_slot.specs.Teams.{IsSystem, harts_of, team};
 ghost use Rattle.tm_rules_slot.specs.Slots as rules;
 
-use crate::ops::{is_access, load_width, store_width};
 use crate::teams::is_in_team;
-use tm_faults::RuleFault;
+use tm_base::{WINDOW_BYTES, WINDOWS};
+use tm_refusals::RuleFault;
 use tm_place::{Placement, may_load, may_store};
-use tm_plan_map::window_base;
+use tm_plan_map::{is_access, load_width, slot_addr, store_width, window_base};
 use tm_table::Instr;
 use tm_tmpl_types::Selector;
 use tm_topo::Topology;
@@ -18,7 +18,7 @@ use tm_topo::Topology;
 pub fn access_fault(p: &Placement, topo: &Topology, whom: Selector, i: Instr) -> Option<RuleFault>
     requires system { IsSystem topo.now }
     requires harts { p.now.harts ≡ harts_of topo.now }
-    requires base { IsTrue (slots.is_access i.op) → (28 ≤ i.rs1) × (i.rs1 ≤ 30) }
+    requires base { IsTrue (slots.is_access i.op) → slots.IsBase i.rs1 }
     ensures { result ≡ rules.first (rules.access_checks p.now.line p.now.part p.now.shape topo.now whom i) }
 {
     if !is_access(i.op) {
@@ -40,15 +40,6 @@ pub fn access_fault(p: &Placement, topo: &Topology, whom: Selector, i: Instr) ->
     }
 }
 
-/// The address of a load or store, by the base that its first register holds.
-#[tactic(auto, unfolding(tm_plan_map::specs::Slots::slot_addr))]
-fn slot_addr(i: Instr) -> u64
-    requires { (28 ≤ i.rs1) × (i.rs1 ≤ 30) }
-    ensures { result ≡ slots.slot_addr i }
-{
-    window_base(u32::from(i.rs1 - 28)).wrapping_add(i.imm.cast_unsigned())
-}
-
 /// The bytes that a load or store moves.
 fn width_of(i: Instr) -> u8
     ensures { result ≡ rules.width_of i }
@@ -61,7 +52,7 @@ fn stranger(p: &Placement, topo: &Topology, whom: Selector, i: Instr) -> Option<
     requires system { IsSystem topo.now }
     requires harts { p.now.harts ≡ harts_of topo.now }
     requires access { IsTrue (slots.is_access i.op) }
-    requires base { (28 ≤ i.rs1) × (i.rs1 ≤ 30) }
+    requires base { slots.IsBase i.rs1 }
     ensures { result ≡ find (λ h. not (rules.may_access p.now.harts p.now.line p.now.part p.now.shape i h))
         (team topo.now whom) }
 {
@@ -78,7 +69,7 @@ fn stranger(p: &Placement, topo: &Topology, whom: Selector, i: Instr) -> Option<
 fn may_access(p: &Placement, i: Instr, h: u32) -> bool
     requires hart { h < p.now.harts }
     requires access { IsTrue (slots.is_access i.op) }
-    requires base { (28 ≤ i.rs1) × (i.rs1 ≤ 30) }
+    requires base { slots.IsBase i.rs1 }
     ensures { result ≡ rules.may_access p.now.harts p.now.line p.now.part p.now.shape i h }
 {
     let width = load_width(i.op);
@@ -91,8 +82,8 @@ fn may_access(p: &Placement, i: Instr, h: u32) -> bool
 
 /// Whether an address is a multiple of `width`, in one of the first lines of window `w`.
 fn is_placed(line: u32, w: u32, width: u8, addr: u64, lines: u32) -> bool
-    requires window { w < 3 }
-    requires few { lines * line ≤ 2048 }
+    requires window { w < WINDOWS }
+    requires few { lines * line ≤ WINDOW_BYTES }
     requires some { 1 ≤ width }
     ensures { result ≡ ((addr % width == 0) && within (window_at w) (lines * line) addr) }
 {

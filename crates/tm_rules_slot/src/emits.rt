@@ -5,11 +5,12 @@ ghost use Rattle.tm_rules_slot.specs.Slots as rules;
 ghost use Rattle.tm_rules_slot.specs.Laws.{IsRuledLine};
 
 use crate::access::access_fault;
-use crate::ops::{is_access, is_barred, is_jump};
 use tm_asm_line::parse_line;
-use tm_faults::RuleFault;
+use tm_base::MOST_SLOTS;
+use tm_refusals::RuleFault;
 use tm_place::Placement;
-use tm_table::Instr;
+use tm_plan_map::{is_access, is_barred, is_jump, is_product};
+use tm_table::{Instr, Op};
 use tm_tmpl_types::Selector;
 use tm_topo::Topology;
 
@@ -28,7 +29,7 @@ pub fn emit_fault(
     requires harts { p.now.harts ≡ harts_of topo.now }
     requires line { p.now.line ≡ topo.now.line }
     requires slot { slot < slots }
-    requires slots { slots ≤ 256 }
+    requires slots { slots ≤ MOST_SLOTS }
     ensures fault { result ≡ rules.emit_fault p.now.line p.now.part p.now.shape topo.now whom slot slots line.now }
     ensures ruled { result ≡ None → IsRuledLine (sharing_of p.now) topo.now whom slots slot line.now }
 {
@@ -49,11 +50,11 @@ fn instr_fault(
 ) -> Option<RuleFault>
     requires system { IsSystem topo.now }
     requires harts { p.now.harts ≡ harts_of topo.now }
-    requires slots { slots ≤ 256 }
+    requires slots { slots ≤ MOST_SLOTS }
     requires slot { slot < slots }
     ensures { result ≡ rules.first (rules.emit_checks p.now.line p.now.part p.now.shape topo.now whom slot slots i) }
 {
-    if is_barred(i.op) {
+    if is_refused(i.op) {
         return Some(RuleFault::NotAllowed { name: i.op });
     }
     if let Some(fault) = register_fault(i) {
@@ -63,6 +64,13 @@ fn instr_fault(
         return Some(fault);
     }
     target_fault(slot, slots, i)
+}
+
+/// Whether an op is none that a stream may have.
+fn is_refused(op: Op) -> bool
+    ensures { result ≡ rules.is_refused op }
+{
+    is_barred(op) || is_product(op)
 }
 
 /// The first of the registers rd, rs1 and rs2 that may not stand there.
@@ -93,7 +101,7 @@ fn is_source(i: Instr) -> bool
 
 /// The fault of a branch or JAL that doesn't go forward.
 fn target_fault(slot: u32, slots: u32, i: Instr) -> Option<RuleFault>
-    requires slots { slots ≤ 256 }
+    requires slots { slots ≤ MOST_SLOTS }
     requires slot { slot < slots }
     ensures { result ≡ rules.target_fault slot slots i }
 {

@@ -4,10 +4,9 @@
 mod access;
 mod emits;
 mod mixes;
-mod ops;
 mod teams;
 
 pub use emits::emit_fault;
 pub use mixes::mix_fault;
 pub use teams::is_in_team;
-pub use tm_faults::RuleFault;
+pub use tm_refusals::RuleFault;

@@ -3,7 +3,8 @@ ghost use Rattle.std.specs.List.{list_any};
 ghost use Rattle.tm_rules_slot.specs.Slots as rules;
 ghost use Rattle.tm_rules_slot.specs.Laws.{AreRuledWeights};
 
-use tm_faults::RuleFault;
+use tm_base::MOST_WEIGHTS;
+use tm_refusals::RuleFault;
 use tm_place::Placement;
 
 /// The first rule that the four weights of a drawn slot break.
@@ -24,7 +25,7 @@ pub fn mix_fault(p: &Placement, alu: u32, load: u32, store: u32, branch: u32) ->
 fn weight_fault(sum: u64) -> Option<RuleFault>
     ensures { result ≡ rules.weight_fault sum }
 {
-    if sum < 1 || sum > 1_000_000 {
+    if sum < 1 || sum > MOST_WEIGHTS as u64 {
         return Some(RuleFault::NoWeight { sum });
     }
     None

@@ -10,7 +10,7 @@ use Rattle.tm_topo.specs.Reading.{topology_of, allows}
 use Rattle.tm_tmpl_types.specs.declared.template.Template.{Template}
 use Rattle.tm_tmpl_types.specs.declared.template.TmplFault.{TmplFault}
 use Rattle.tm_tmpl_read.specs.Grammar.{template_of}
-use Rattle.tm_faults.specs.declared.rule.RuleAt.{RuleAt}
+use Rattle.tm_refusals.specs.declared.rule.RuleAt.{RuleAt}
 use Rattle.tm_rules_first.specs.Rules.{broken_rule}
 use Rattle.tm_rules.specs.Admitting.{admitted_of}
 use Rattle.tm_image_inputs.specs.Inputs.{inputs, template_inputs, behind_topology, of_reading, unless_broken}

@@ -2,3 +2,4 @@ pub mod Table
 pub mod Words
 pub mod State
 pub mod Row
+pub mod Ops

@@ -1,7 +1,7 @@
 -- All seats of a mill, of which one has changed.
 use Rattle.std.proofs.Common.{◌≡◌, ℕ, zero, suc, ◌⊎◌, List, [], ◌∷◌, slice_get, slice_set, Some}
 use Rattle.std.proofs.Common.{refl, sym, ap, subst, ◌∙◌, inl, inr, ⊎_elim}
-use Rattle.tm_plan_cases.specs.declared.journal.Event.{Event}
+use Rattle.tm_plan_cases.specs.declared.event.Event.{Event}
 use Rattle.tm_turn.specs.Seats.{SeatState, HasNumber}
 use Rattle.tm_turn.proofs.Places.{one_value, none_some}
 use Rattle.tm_harts.specs.declared.held.Setup.{Setup}

@@ -11,6 +11,7 @@ use Rattle.std.proofs.lemmas.Grind.{common_steps}
 use Rattle.std.proofs.lemmas.List.Splits.{slice_split_at}
 use Rattle.tm_base.specs.Numbers.{number_of}
 use Rattle.tm_base.proofs.PrintLemmas.{decimal_reads_back}
+use Rattle.tm_base.specs.declared.limits.TheConstants.{WORD_BYTES}
 use Rattle.tm_lex.specs.declared.token.TokenKind.TheVariants.{Word, Raw, LineEnd}
 use Rattle.tm_lex.specs.declared.token.Token.{Token}
 use Rattle.tm_lex.specs.Lexing.{is_word, words, spans, line_fault, line_tokens, lines_reading, token_at, as_words}
@@ -142,7 +143,7 @@ emit_lexed text pre post n from asm good same place =
     }
 
 abbrev is_keyword : List ℕ → Bool
-is_keyword w = (nat_lt 0 (length w) && nat_le (length w) 64) && list_all is_word w
+is_keyword w = (nat_lt 0 (length w) && nat_le (length w) WORD_BYTES) && list_all is_word w
 
 keyword : (w : List ℕ) → is_keyword w ≡ true → IsPlain w
 keyword w h = record {

@@ -14,6 +14,7 @@ use Rattle.std.proofs.lemmas.Fmt.{decimal_is_IsNumeral, length-decimal-le}
 use Rattle.std.proofs.lemmas.Grind.{common_steps}
 use Rattle.std.proofs.lemmas.List.Folds.{list_all-append}
 use Rattle.std.proofs.lemmas.List.Sums.{suffix_len_is, AllPass-from_list_all}
+use Rattle.tm_base.specs.declared.limits.TheConstants.{WORD_BYTES}
 use Rattle.tm_lex.specs.declared.token.TokenKind.{TokenKind}
 use Rattle.tm_lex.specs.declared.token.TokenKind.TheVariants.{Word, Raw}
 use Rattle.tm_lex.specs.Lexing.{Span, is_word, is_separator, words, spans, text_of, trimmed, as_words, with_kinds}
@@ -24,10 +25,10 @@ use Rattle.tm_tmpl_line.specs.Readings.{is_name_byte, is_name, Lexeme, lexemes}
 use Rattle.tm_tmpl_read.specs.Writable.{IsAsm}
 use Rattle.tm_tmpl.specs.Printed.{spaced}
 
--- a word of at most 64 bytes
+-- a word that isn't too long
 pub record IsPlain (w : List ℕ) : Type 0 where
   pub some : 0 < length w
-  pub short : length w ≤ 64
+  pub short : length w ≤ WORD_BYTES
   pub bytes : list_all is_word w ≡ true
 
 abbrev pub ArePlain : List (List ℕ) → Type 0
@@ -245,7 +246,7 @@ no-line-end bs h = AllPass-from_list_all (λ b. not (eqb b 10)) bs (each bs h) w
     | inr other ↦ (let no : false ≡ true = rw other at h in absurd (true≢false (sym no)))
   ]
 
-short_test : (i n : ℕ) → n ≤ 64 → ltb (i + 64) (i + n) ≡ false
+short_test : (i n : ℕ) → n ≤ WORD_BYTES → ltb (i + WORD_BYTES) (i + n) ≡ false
 short_test i n h = grind (arith, nat_tests)
 
 pub plain-short : (i : ℕ) (ws : List (List ℕ)) → ArePlain ws → long_part (as_words (spans_from i ws)) ≡ None

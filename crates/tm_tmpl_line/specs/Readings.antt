@@ -7,6 +7,7 @@ use Rattle.std.specs.Str.{bytes_eq}
 use Rattle.tm_base.specs.Numbers.{number_of}
 use Rattle.tm_base.specs.declared.Pos.{Pos}
 use Rattle.tm_base.specs.declared.numbers.NumberFault.{NumberFault}
+use Rattle.tm_base.specs.declared.limits.TheConstants.{NAME_BYTES}
 use Rattle.tm_lex.specs.declared.token.Token.{Token}
 use Rattle.tm_lex.specs.declared.token.TokenKind.{TokenKind}
 use Rattle.tm_lex.specs.declared.token.TokenKind.TheVariants.{Word, Raw, LineEnd}
@@ -62,7 +63,8 @@ is_name_byte b = (is_letter b || is_digit b) || b == 95
 
 -- a name has 1 to 16 letters, digits and `_`, the first a letter
 abbrev pub is_name : List ℕ → Bool
-is_name w = ((nat_le 1 (length w) && nat_le (length w) 16) && is_letter (slice_index w 0)) && list_all is_name_byte w
+is_name w = ((nat_le 1 (length w) && nat_le (length w) NAME_BYTES) && is_letter (slice_index w 0))
+    && list_all is_name_byte w
 
 -- a token as a name
 abbrev pub name : Lexeme → Option (List ℕ)

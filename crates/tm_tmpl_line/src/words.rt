@@ -4,7 +4,7 @@ ghost use Rattle.std.specs.List.{list_all};
 ghost use Rattle.tm_tmpl_line.specs.Readings as readings;
 
 use crate::{Kind, TmplFault, Want};
-use tm_base::read_number;
+use tm_base::{NAME_BYTES, read_number};
 use tm_lex::{Token, TokenKind};
 
 /// The number at an index of a line.
@@ -213,7 +213,7 @@ fn is_name(word: &[u8]) -> bool
     if word.is_empty() {
         return false;
     }
-    if word.len() > 16 {
+    if word.len() > NAME_BYTES {
         return false;
     }
     if !is_letter(word[0]) {

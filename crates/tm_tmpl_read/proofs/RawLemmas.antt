@@ -11,6 +11,7 @@ use Rattle.std.proofs.lemmas.Grind.{common_steps}
 use Rattle.std.proofs.lemmas.List.{get_or-drop, get_or-take, drop-append-le, take-append-le}
 use Rattle.std.proofs.lemmas.List.Splits.{join_with_byte-slice_split}
 use Rattle.std.proofs.lemmas.Slice.Eq.{bytes_eq-Decides}
+use Rattle.tm_base.specs.declared.limits.TheConstants.{WORD_BYTES}
 use Rattle.tm_lex.specs.declared.token.TokenKind.{TokenKind}
 use Rattle.tm_lex.specs.declared.token.TokenKind.TheVariants.{Word, LineEnd}
 use Rattle.tm_lex.specs.declared.token.Token.{Token}
@@ -54,7 +55,7 @@ part_of pre bs post from a b place le within =
 
 -- a trimmed part of a fine line is an assembler line
 asm_of : (bs : List ℕ) (i : ℕ) (s : Span) → i ≤ length bs → IsTrimmed s i (drop i bs) → list_all may_stand bs ≡ true
-    → s.1 ≤ s.0 + 64 → IsAsm (take (s.1 - s.0) (drop s.0 bs))
+    → s.1 ≤ s.0 + WORD_BYTES → IsAsm (take (s.1 - s.0) (drop s.0 bs))
 asm_of bs i s room h stands short =
     let end : s.1 ≤ length bs = omega (arith, h.within, length-drop i bs) in
     let enough : s.1 - s.0 ≤ length (drop s.0 bs) = omega (arith, length-drop s.0 bs) in
@@ -99,7 +100,7 @@ first_end s ss bs h =
 raw_asm : (text pre bs post : List ℕ) (n from m : ℕ) (s : Span) (raw : List Span) → text ≡ pre ++ (bs ++ post)
     → from ≡ length pre → s.1 ≤ length bs
     → RawAt raw s.1 (drop s.1 bs) → list_all may_stand bs ≡ true
-    → list_all (λ p. nat_le p.1.1 (p.1.0 + 64)) ((Word, s) ∷ as_raw raw) ≡ true
+    → list_all (λ p. nat_le p.1.1 (p.1.0 + WORD_BYTES)) ((Word, s) ∷ as_raw raw) ≡ true
     → HaveAsm (lexemes text (map (token_at n from) ((Word, s) ∷ as_raw raw ++ (LineEnd, (m, m)) ∷ [])))
 raw_asm text pre bs post n from m s [] same place room h stands short =
     (λ here. absurd (true≢false (sym here)), (λ here. absurd (true≢false (sym here)), tt))
@@ -107,7 +108,7 @@ raw_asm text pre bs post n from m s (r ∷ []) same place room h stands short =
     let behind : s.1 ≤ r.0 = h.behind in
     let end : r.1 ≤ length bs = omega (arith, h.within, length-drop s.1 bs) in
     let le : r.0 ≤ r.1 = omega (arith, h.some) in
-    let few : r.1 ≤ r.0 + 64 = grind (arith, nat_tests) in (
+    let few : r.1 ≤ r.0 + WORD_BYTES = grind (arith, nat_tests) in (
       λ here. absurd (true≢false (sym here)),
       (
         (λ _. rw (same, part_of pre bs post from r.0 r.1 place le end) (asm_of bs s.1 r room h stands few)),

@@ -1,6 +1,7 @@
 -- What a template can say: each of its statements is spelled by some line. All of this is this project's own.
 use Rattle.std.specs.Prelude.{ℕ, ◌≡◌, ◌<◌, ◌≤◌, ◌-◌, ◌^◌, true, false, List, [], ◌∷◌, length, slice_index}
 use Rattle.std.specs.List.{list_all}
+use Rattle.tm_base.specs.declared.limits.TheConstants.{WORD_BYTES}
 use Rattle.tm_lex.specs.Lexing.{is_separator}
 use Rattle.tm_lex.specs.Tiling.{may_stand}
 use Rattle.tm_tmpl_types.specs.declared.template.Selector.{Selector}
@@ -15,7 +16,7 @@ use Rattle.tm_tmpl_read.specs.Steps.{windows_at, cases_at}
 -- an assembler line: at most 64 bytes that may stand in a line, without separators at its ends
 pub record IsAsm (asm : List ℕ) : Type 0 where
   pub some : 0 < length asm
-  pub short : length asm ≤ 64
+  pub short : length asm ≤ WORD_BYTES
   pub bytes : list_all may_stand asm ≡ true
   pub first : is_separator (slice_index asm 0) ≡ false
   pub last : is_separator (slice_index asm (length asm - 1)) ≡ false

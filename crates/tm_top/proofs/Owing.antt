@@ -1,7 +1,7 @@
 -- How a call ended, and what follows of it.
 use Rattle.std.proofs.Common.{◌≡◌, ◌∙◌, ap, sym, refl, ℕ, List, IsTrue, ◌⊎◌, inl, inr, Option, None, Some}
 use Rattle.tm_desk.specs.declared.desk.DeskError.TheVariants.{Failed}
-use Rattle.tm_faults.specs.declared.role.Role.{Role}
+use Rattle.tm_refusals.specs.declared.role.Role.{Role}
 use Rattle.tm_top_line.specs.declared.fault.AnyFault.{AnyFault}
 use Rattle.tm_top_line.specs.declared.fault.AnyFault.TheVariants.{Desk}
 use Rattle.tm_top_owed.specs.declared.stop.Stop.{Stop}
@@ -10,7 +10,7 @@ use Rattle.tm_words.specs.Words.{Command}
 use Rattle.tm_words.specs.Words.Command.{to_build, to_list, to_run, to_sample}
 use Rattle.tm_top_line.specs.Lines.{fault_text}
 use Rattle.tm_top_owed.specs.Inputs.{first_fault}
-use Rattle.tm_plan_cases.specs.declared.journal.Event.{Event}
+use Rattle.tm_plan_cases.specs.declared.event.Event.{Event}
 use Rattle.tm_top_owed.specs.Changes.{DeskChange, SinkChange, DeskFailed, SinkFailed, FilesStay, OtherFilesStay}
 use Rattle.tm_top_owed.specs.Owed.{Ending, Owes, Ended, IsReady, IsRefusal, IsFailure, IsUntouched, RestStays}
 use Rattle.tm_top_owed.specs.Owed.{AlwaysAtFault, AlwaysDone, status_of}

@@ -3,7 +3,7 @@ use Rattle.std.specs.Prelude.{◌≡◌, ℕ, false, [], None, Option, List, Vec
 use Rattle.std.specs.declared.string.String.{String}
 use Rattle.std.specs.declared.alloc.Global.{Global}
 use Rattle.tm_words.specs.Words.{bytes_of_words, command_if}
-use Rattle.tm_plan_cases.specs.declared.journal.Event.{Event}
+use Rattle.tm_plan_cases.specs.declared.event.Event.{Event}
 use Rattle.tm_top_owed.specs.Changes.{DeskChange, SinkChange, FilesStay, Silent, TookFronts}
 use Rattle.tm_top_owed.specs.Owed.{Owes}
 use Rattle.tm_top.specs.declared.program.NoWords.{NoWords}

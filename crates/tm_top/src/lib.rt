@@ -6,7 +6,7 @@ mod program;
 
 pub use call::{Outcome, still, top};
 pub use program::{NoWords, outcome_of, run};
-pub use tm_faults::Role;
+pub use tm_refusals::Role;
 pub use tm_sample::laws::always_accepted;
 pub use tm_sample::sample_texts;
 pub use tm_top_line::{AnyFault, fault_line};

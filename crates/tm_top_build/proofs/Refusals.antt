@@ -5,10 +5,10 @@ use Rattle.std.specs.Prelude.{IsSomeAnd}
 use Rattle.tm_plan_map.specs.declared.admitted.Admitted.{Admitted}
 use Rattle.tm_desk.specs.Causes.{Files}
 use Rattle.tm_desk.specs.declared.desk.DeskError.TheVariants.{TooLong, Failed}
-use Rattle.tm_faults.specs.declared.role.Role.TheVariants.{Topology, Template}
-use Rattle.tm_faults.specs.declared.inputs.InputFault.{InputFault}
+use Rattle.tm_refusals.specs.declared.role.Role.TheVariants.{Topology, Template}
+use Rattle.tm_refusals.specs.declared.inputs.InputFault.{InputFault}
 use Rattle.tm_image_inputs.specs.Inputs.{topology_refusal, inputs}
-use Rattle.tm_faults.specs.Named.{IsNamed}
+use Rattle.tm_refusals.specs.Named.{IsNamed}
 use Rattle.tm_top_line.proofs.Named.{input_calm}
 use Rattle.tm_image_build.specs.Built.{built, built_of}
 use Rattle.tm_top_line.specs.declared.fault.AnyFault.{AnyFault}

@@ -2,8 +2,8 @@
 use Rattle.std.specs.Prelude.{◌≡◌, ◌≤◌, ℕ, Bool, false, List, length, IsTrue, None, Some, Result, Err}
 use Rattle.tm_desk.specs.Causes.{Files}
 use Rattle.tm_plan_map.specs.declared.admitted.Admitted.{Admitted}
-use Rattle.tm_faults.specs.declared.role.Role.TheVariants as roles
-use Rattle.tm_faults.specs.declared.inputs.InputFault.{InputFault}
+use Rattle.tm_refusals.specs.declared.role.Role.TheVariants as roles
+use Rattle.tm_refusals.specs.declared.inputs.InputFault.{InputFault}
 use Rattle.tm_image_inputs.specs.Inputs.{topology_refusal}
 use Rattle.tm_top_line.specs.declared.fault.AnyFault.TheVariants.{Input}
 use Rattle.tm_top_owed.specs.declared.stop.Stop.{Stop}

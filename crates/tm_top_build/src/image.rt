@@ -9,9 +9,9 @@ ghost use Rattle.tm_top_build.specs.Steps.{ImageStop};
 use crate::made::Made;
 use std::alloc::Global;
 use tm_base::{Bytes, NoMemory, Text, push_decimal};
-use tm_faults::{BuildFault, Role};
 use tm_image_build::build;
 use tm_plan_cases::Program;
+use tm_refusals::{BuildFault, Role};
 use tm_top_line::AnyFault;
 use tm_top_owed::Stop;
 

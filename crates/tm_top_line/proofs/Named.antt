@@ -6,14 +6,14 @@ use Rattle.tm_topo.specs.declared.system.TopoFault.{TopoFault}
 use Rattle.tm_topo.specs.declared.system.TopoFault.TheVariants as topo
 use Rattle.tm_tmpl_types.specs.declared.template.TmplFault.{TmplFault}
 use Rattle.tm_tmpl_types.specs.declared.template.TmplFault.TheVariants as tmpl
-use Rattle.tm_elf_head.specs.declared.fault.ElfFault.{ElfFault}
-use Rattle.tm_elf_head.specs.declared.fault.ElfFault.TheVariants as elf
-use Rattle.tm_faults.specs.declared.inputs.InputFault.{InputFault}
-use Rattle.tm_faults.specs.declared.inputs.InputFault.TheVariants as input
-use Rattle.tm_faults.specs.Named.{IsNamed}
-use Rattle.tm_faults.specs.declared.image.ImageFault.{ImageFault}
-use Rattle.tm_faults.specs.declared.image.ImageFault.TheVariants as image
-use Rattle.tm_faults.specs.Named.{IsNamedFault}
+use Rattle.tm_refusals.specs.declared.elf.ElfFault.{ElfFault}
+use Rattle.tm_refusals.specs.declared.elf.ElfFault.TheVariants as elf
+use Rattle.tm_refusals.specs.declared.inputs.InputFault.{InputFault}
+use Rattle.tm_refusals.specs.declared.inputs.InputFault.TheVariants as input
+use Rattle.tm_refusals.specs.Named.{IsNamed}
+use Rattle.tm_refusals.specs.declared.image.ImageFault.{ImageFault}
+use Rattle.tm_refusals.specs.declared.image.ImageFault.TheVariants as image
+use Rattle.tm_refusals.specs.Named.{IsNamedFault}
 use Rattle.tm_top_line.specs.declared.fault.AnyFault.TheVariants as any
 use Rattle.tm_top_line.specs.Inputs.{input_wants}
 use Rattle.tm_top_line.specs.Lines.{wants_memory}

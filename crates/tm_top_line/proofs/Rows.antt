@@ -1,13 +1,13 @@
 -- Worked lines.
 use Rattle.std.proofs.Common.{◌≡◌, codes, refl}
 use Rattle.std.specs.Fmt.{digits}
-use Rattle.tm_base.specs.Numbers.{hex_text}
+use Rattle.tm_base.specs.Numbers.{hex_text, pos_text}
 use Rattle.tm_asm_line.specs.Shapes.{name_of}
 use Rattle.tm_desk.specs.declared.desk.DeskError.TheVariants as desk
-use Rattle.tm_elf_head.specs.declared.fault.ElfFault.TheVariants as elf
-use Rattle.tm_faults.specs.declared.role.Role.TheVariants as role
-use Rattle.tm_faults.specs.declared.inputs.InputFault.TheVariants.{Topo, Tmpl, Rule}
-use Rattle.tm_faults.specs.declared.image.ImageFault.TheVariants as image
+use Rattle.tm_refusals.specs.declared.elf.ElfFault.TheVariants as elf
+use Rattle.tm_refusals.specs.declared.role.Role.TheVariants as role
+use Rattle.tm_refusals.specs.declared.inputs.InputFault.TheVariants.{Topo, Tmpl, Rule}
+use Rattle.tm_refusals.specs.declared.image.ImageFault.TheVariants as image
 use Rattle.std.specs.Prelude.{pos, negsuc}
 use Rattle.tm_asm_line.specs.declared.fault.AsmFault.TheVariants as asm
 use Rattle.tm_topo.specs.declared.system.TopoFault.TheVariants as topo
@@ -16,8 +16,8 @@ use Rattle.tm_lex.specs.declared.token.LexFault.TheVariants as lex
 use Rattle.tm_tmpl_types.specs.declared.template.TmplFault.TheVariants as tmpl
 use Rattle.tm_tmpl_types.specs.declared.template.Want.TheVariants as want
 use Rattle.tm_table.specs.declared.instr.Op.TheVariants as op
-use Rattle.tm_faults.specs.declared.rule.RuleFault.TheVariants as rule
-use Rattle.tm_top_line.specs.Inputs.{with_value, pos_text, shown_key, signed_text, input_text, addr_text}
+use Rattle.tm_refusals.specs.declared.rule.RuleFault.TheVariants as rule
+use Rattle.tm_top_line.specs.Inputs.{with_value, shown_key, signed_text, input_text, addr_text}
 use Rattle.tm_top_line.specs.declared.fault.AnyFault.TheVariants as any
 use Rattle.tm_top_line.specs.Lines.{fault_text}
 

@@ -3,8 +3,7 @@
 use Rattle.std.specs.Prelude.{ℕ, ◌^◌, ◌&&◌, nat_le, nat_lt, Bool, true, false, if◌then◌else◌, ℤ}
 use Rattle.std.specs.Prelude.{List, [], ◌++◌, map, codes}
 use Rattle.std.specs.Fmt.{decimal, signed_decimal}
-use Rattle.tm_base.specs.declared.Pos.{Pos}
-use Rattle.tm_base.specs.Numbers.{hex_text}
+use Rattle.tm_base.specs.Numbers.{hex_text, pos_text}
 use Rattle.tm_asm_line.specs.declared.fault.AsmFault.{AsmFault}
 use Rattle.tm_asm_line.specs.declared.fault.AsmFault.TheVariants as asm
 use Rattle.tm_asm_line.specs.Shapes.{name_of}
@@ -18,21 +17,17 @@ use Rattle.tm_tmpl_types.specs.declared.template.Want.{Want}
 use Rattle.tm_tmpl_types.specs.declared.template.Want.TheVariants as want
 use Rattle.tm_tmpl_types.specs.declared.template.TmplFault.{TmplFault}
 use Rattle.tm_tmpl_types.specs.declared.template.TmplFault.TheVariants as tmpl
-use Rattle.tm_faults.specs.declared.rule.RuleFault.{RuleFault}
-use Rattle.tm_faults.specs.declared.rule.RuleFault.TheVariants as rule
-use Rattle.tm_faults.specs.declared.rule.RuleAt.{RuleAt}
-use Rattle.tm_faults.specs.declared.inputs.InputFault.{InputFault}
-use Rattle.tm_faults.specs.declared.inputs.InputFault.TheVariants as input
+use Rattle.tm_refusals.specs.declared.rule.RuleFault.{RuleFault}
+use Rattle.tm_refusals.specs.declared.rule.RuleFault.TheVariants as rule
+use Rattle.tm_refusals.specs.declared.rule.RuleAt.{RuleAt}
+use Rattle.tm_refusals.specs.declared.inputs.InputFault.{InputFault}
+use Rattle.tm_refusals.specs.declared.inputs.InputFault.TheVariants as input
 
 -- ---- values
 
 -- a variant's name and its one value (this project)
 unfoldable pub with_value : List ℕ → ℕ → List ℕ
 with_value name n = name ++ codes " " ++ decimal n
-
--- a place: line, colon, column (this project)
-unfoldable pub pos_text : Pos → List ℕ
-pos_text p = decimal p.line ++ codes ":" ++ decimal p.col
 
 -- how many digits an address has: 8, or 16 from 2^32 on (this project)
 abbrev pub digits_of : ℕ → ℕ

@@ -2,12 +2,12 @@
 use Rattle.std.specs.Prelude.{ℕ, Bool, true, false, List, [], ◌++◌, codes}
 use Rattle.tm_desk.specs.declared.desk.DeskError.{DeskError}
 use Rattle.tm_desk.specs.declared.desk.DeskError.TheVariants as desk
-use Rattle.tm_elf_head.specs.declared.fault.ElfFault.{ElfFault}
-use Rattle.tm_elf_head.specs.declared.fault.ElfFault.TheVariants as elf
-use Rattle.tm_faults.specs.declared.role.Role.{Role}
-use Rattle.tm_faults.specs.declared.role.Role.TheVariants.{Topology, Template, Image, Faults, Trace, Output}
-use Rattle.tm_faults.specs.declared.image.ImageFault.{ImageFault}
-use Rattle.tm_faults.specs.declared.image.ImageFault.TheVariants as image
+use Rattle.tm_refusals.specs.declared.elf.ElfFault.{ElfFault}
+use Rattle.tm_refusals.specs.declared.elf.ElfFault.TheVariants as elf
+use Rattle.tm_refusals.specs.declared.role.Role.{Role}
+use Rattle.tm_refusals.specs.declared.role.Role.TheVariants.{Topology, Template, Image, Faults, Trace, Output}
+use Rattle.tm_refusals.specs.declared.image.ImageFault.{ImageFault}
+use Rattle.tm_refusals.specs.declared.image.ImageFault.TheVariants as image
 use Rattle.tm_top_line.specs.declared.fault.AnyFault.{AnyFault}
 use Rattle.tm_top_line.specs.declared.fault.AnyFault.TheVariants as any
 use Rattle.tm_top_line.specs.Inputs.{with_value, input_text, input_wants}

@@ -2,8 +2,7 @@
 ghost use Rattle.std.specs.Prelude.{◌≡◌, ◌++◌, OnOk};
 ghost use Rattle.tm_top_line.specs.Inputs.{lex_text, tmpl_text, want_text};
 
-use crate::values::put_pos;
-use tm_base::{Bytes, NoMemory, push_decimal};
+use tm_base::{Bytes, NoMemory, push_decimal, push_pos};
 use tm_lex::LexFault;
 use tm_tmpl_types::{TmplFault, Want};
 
@@ -30,13 +29,13 @@ fn put_tokens(out: &mut Bytes, fault: &LexFault) -> Result<(), NoMemory>
     match fault {
         LexFault::BadByte { pos, byte } => {
             out.append(b"BadByte ")?;
-            put_pos(out, *pos)?;
+            push_pos(out, *pos)?;
             out.push(b' ')?;
             push_decimal(out, u64::from(*byte))
         }
         LexFault::LongWord { pos } => {
             out.append(b"LongWord ")?;
-            put_pos(out, *pos)
+            push_pos(out, *pos)
         }
         LexFault::NoMemory => Ok(()),
     }
@@ -56,7 +55,7 @@ pub fn put_grammar(out: &mut Bytes, fault: &TmplFault) -> Result<(), NoMemory>
         }
         TmplFault::Expected { pos, what } => {
             out.append(b"Expected ")?;
-            put_pos(out, *pos)?;
+            push_pos(out, *pos)?;
             out.push(b' ')?;
             out.append(name_of_want(*what))
         }

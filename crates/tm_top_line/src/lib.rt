@@ -10,4 +10,4 @@ mod values;
 
 pub use fault::AnyFault;
 pub use line::fault_line;
-pub use tm_faults::Role;
+pub use tm_refusals::Role;

@@ -12,8 +12,7 @@ use crate::values::put_value;
 use std::alloc::Global;
 use tm_base::{Bytes, NoMemory, Text};
 use tm_desk::DeskError;
-use tm_elf_head::ElfFault;
-use tm_faults::{ImageFault, InputFault, Role};
+use tm_refusals::{ElfFault, ImageFault, InputFault, Role};
 
 fn name_of_role(role: Role) -> &'static [u8]
     ensures { result.now ≡ role_name role }

@@ -3,10 +3,10 @@ ghost use Rattle.std.specs.Prelude.{◌≡◌, ◌++◌, OnOk};
 ghost use Rattle.tm_asm_line.specs.Shapes.{name_of};
 ghost use Rattle.tm_top_line.specs.Inputs.{asm_text, rule_at_text, rule_text};
 
-use crate::values::{put_addr, put_pos, put_signed, put_value};
+use crate::values::{put_addr, put_signed, put_value};
 use tm_asm_line::{AsmFault, op_name};
-use tm_base::{Bytes, NoMemory};
-use tm_faults::{RuleAt, RuleFault};
+use tm_base::{Bytes, NoMemory, push_pos};
+use tm_refusals::{RuleAt, RuleFault};
 use tm_table::Op;
 
 fn put_line(out: &mut Bytes, fault: &AsmFault) -> Result<(), NoMemory>
@@ -73,7 +73,7 @@ fn put_fault(out: &mut Bytes, fault: &RuleFault) -> Result<(), NoMemory>
 pub fn put_rule(out: &mut Bytes, broken: &RuleAt) -> Result<(), NoMemory>
     ensures { OnOk result (out.new ≡ out.old ++ rule_at_text broken.now) }
 {
-    put_pos(out, broken.pos)?;
+    push_pos(out, broken.pos)?;
     out.push(b' ')?;
     put_fault(out, &broken.fault)
 }

@@ -1,9 +1,9 @@
 // The values of faults, as they are told.
 ghost use Rattle.std.specs.Prelude.{◌≡◌, ◌++◌, ◌<◌, ◌^◌, OnOk};
 ghost use Rattle.std.specs.Fmt.{decimal};
-ghost use Rattle.tm_top_line.specs.Inputs.{with_value, pos_text, addr_text, shown_key, signed_text, shown as shown_as};
+ghost use Rattle.tm_top_line.specs.Inputs.{with_value, addr_text, shown_key, signed_text, shown as shown_as};
 
-use tm_base::{Bytes, NoMemory, Pos, push_decimal, push_hex};
+use tm_base::{Bytes, NoMemory, push_decimal, push_hex};
 
 /// A variant's name and its one value.
 #[tactic(auto, unfolding(crate::specs::Inputs::with_value))]
@@ -36,16 +36,6 @@ pub fn put_signed(out: &mut Bytes, value: &i128) -> Result<(), NoMemory>
         out.push(b'-')?;
     }
     put_decimal(out, value.unsigned_abs())
-}
-
-/// A place: line, colon, column.
-#[tactic(auto, unfolding(crate::specs::Inputs::pos_text))]
-pub fn put_pos(out: &mut Bytes, pos: Pos) -> Result<(), NoMemory>
-    ensures { OnOk result (out.new ≡ out.old ++ pos_text pos) }
-{
-    push_decimal(out, u64::from(pos.line))?;
-    out.push(b':')?;
-    push_decimal(out, u64::from(pos.col))
 }
 
 /// An address in 8 hexadecimal digits, or 16 from 2^32 on.

@@ -3,7 +3,7 @@ use Rattle.std.proofs.Common.{◌≡◌, ◌≤◌, ◌<◌, ◌∙◌, ap, refl
 use Rattle.std.specs.Prelude.{IsSomeAnd}
 use Rattle.tm_desk.specs.Causes.{Files}
 use Rattle.tm_desk.specs.declared.desk.DeskError.TheVariants.{TooLong, Failed}
-use Rattle.tm_faults.specs.declared.role.Role.TheVariants as roles
+use Rattle.tm_refusals.specs.declared.role.Role.TheVariants as roles
 use Rattle.tm_image_build.specs.Opened.{opened}
 use Rattle.tm_top_line.specs.declared.fault.AnyFault.{AnyFault}
 use Rattle.tm_top_line.specs.declared.fault.AnyFault.TheVariants.{Desk}

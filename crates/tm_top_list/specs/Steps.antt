@@ -1,7 +1,7 @@
 -- What the steps of a listing leave (this project's own).
 use Rattle.std.specs.Prelude.{◌≡◌, ℕ, false, List, Result, Err}
-use Rattle.tm_faults.specs.declared.role.Role.TheVariants as roles
-use Rattle.tm_faults.specs.declared.image.ImageFault.{ImageFault}
+use Rattle.tm_refusals.specs.declared.role.Role.TheVariants as roles
+use Rattle.tm_refusals.specs.declared.image.ImageFault.{ImageFault}
 use Rattle.tm_top_line.specs.declared.fault.AnyFault.TheVariants.{Image}
 use Rattle.tm_top_line.specs.Lines.{wants_memory}
 use Rattle.tm_top_owed.specs.declared.stop.Stop.{Stop}

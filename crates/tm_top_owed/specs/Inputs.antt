@@ -4,11 +4,11 @@ use Rattle.std.specs.Prelude.{ℕ, List, [], length, if◌then◌else◌, nat_lt
 use Rattle.tm_desk.specs.Causes.{Files}
 use Rattle.tm_desk.specs.declared.desk.DeskError.TheVariants.{Failed, TooLong}
 use Rattle.tm_plan_map.specs.declared.admitted.Admitted.{Admitted}
-use Rattle.tm_faults.specs.declared.role.Role.{Role}
-use Rattle.tm_faults.specs.declared.role.Role.TheVariants as roles
-use Rattle.tm_faults.specs.declared.inputs.InputFault.{InputFault}
+use Rattle.tm_refusals.specs.declared.role.Role.{Role}
+use Rattle.tm_refusals.specs.declared.role.Role.TheVariants as roles
+use Rattle.tm_refusals.specs.declared.inputs.InputFault.{InputFault}
 use Rattle.tm_image_inputs.specs.Inputs.{topology_refusal, inputs}
-use Rattle.tm_faults.specs.declared.image.ImageFault.{ImageFault}
+use Rattle.tm_refusals.specs.declared.image.ImageFault.{ImageFault}
 use Rattle.tm_image_build.specs.Opened.{opened}
 use Rattle.tm_top_line.specs.declared.fault.AnyFault.{AnyFault}
 use Rattle.tm_top_line.specs.declared.fault.AnyFault.TheVariants.{Input, Image, Desk}

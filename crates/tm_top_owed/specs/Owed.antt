@@ -6,13 +6,13 @@ use Rattle.tm_desk.specs.Causes.{Files}
 use Rattle.tm_desk.specs.declared.desk.DeskError.TheVariants.{Failed, TooLong, NoMemory}
 use Rattle.tm_plan_map.specs.declared.admitted.Admitted.{Admitted}
 use Rattle.tm_plan_cases.specs.declared.program.Program.{Program}
-use Rattle.tm_plan_cases.specs.declared.journal.Event.{Event}
+use Rattle.tm_plan_cases.specs.declared.event.Event.{Event}
 use Rattle.tm_gen.specs.Gen.{gen_of}
 use Rattle.tm_world.specs.Sound.{Sound}
 use Rattle.tm_elf_write.specs.declared.parts.Parts.{Parts}
 use Rattle.tm_elf.specs.Read.{elf_of}
-use Rattle.tm_faults.specs.declared.role.Role.{Role}
-use Rattle.tm_faults.specs.declared.role.Role.TheVariants as roles
+use Rattle.tm_refusals.specs.declared.role.Role.{Role}
+use Rattle.tm_refusals.specs.declared.role.Role.TheVariants as roles
 use Rattle.tm_image_inputs.specs.Inputs.{inputs}
 use Rattle.tm_image_build.specs.Built.{built, image_file, program_from}
 use Rattle.tm_image_build.specs.Opened.{opened, rebuilt}

@@ -3,7 +3,7 @@ use Rattle.std.specs.Prelude.{◌≡◌, ℕ, ◌≤◌, ◌==◌, Bool, true, f
 use Rattle.std.specs.List.{count_by}
 use Rattle.tm_base.specs.Lists.{count_from}
 use Rattle.tm_plan_cases.specs.declared.program.Program.{Program}
-use Rattle.tm_plan_cases.specs.declared.journal.Event.{Event}
+use Rattle.tm_plan_cases.specs.declared.event.Event.{Event}
 use Rattle.tm_plan_journal.specs.Journaled.{Journaled}
 use Rattle.tm_world.specs.Place.{harts, halt_of}
 use Rattle.tm_world.specs.Kinds.{Plain, Legal}

@@ -2,8 +2,8 @@
 use Rattle.std.specs.Prelude.{◌≡◌, ◌⊎◌, ◌<◌, ℕ, List, [], length, IsFalse, Option, None, IsSomeAnd}
 use Rattle.tm_desk.specs.Causes.{Rose}
 use Rattle.tm_desk.specs.declared.desk.DeskError.TheVariants.{Failed, TooLong}
-use Rattle.tm_faults.specs.declared.role.Role.{Role}
-use Rattle.tm_faults.specs.declared.role.Role.TheVariants.{Output}
+use Rattle.tm_refusals.specs.declared.role.Role.{Role}
+use Rattle.tm_refusals.specs.declared.role.Role.TheVariants.{Output}
 use Rattle.tm_top_line.specs.declared.fault.AnyFault.TheVariants.{Desk}
 use Rattle.tm_top_line.specs.Lines.{fault_text, wants_memory}
 use Rattle.tm_top_owed.specs.declared.stop.Stop.{Stop}

@@ -8,7 +8,7 @@ ghost use Rattle.tm_top_owed.specs.Steps.{Told, IsTellable, Reported};
 use crate::stop::Stop;
 use std::alloc::Global;
 use tm_desk::{DeskError, Sink, SinkError, put_all};
-use tm_faults::Role;
+use tm_refusals::Role;
 use tm_top_line::{AnyFault, fault_line};
 
 const USAGE: &[u8] = b"usage: threadmill build TOPO TEMPLATE OUT --seed S

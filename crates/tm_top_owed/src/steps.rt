@@ -6,7 +6,7 @@ ghost use Rattle.tm_top_owed.specs.Steps.{ReadStop, PutStop};
 use crate::stop::Stop;
 use tm_base::{Bytes, Text};
 use tm_desk::{Desk, DeskError, Sink, SinkError, put_all};
-use tm_faults::Role;
+use tm_refusals::Role;
 use tm_top_line::AnyFault;
 
 /// Reads the file of a role, of at most `max` bytes.

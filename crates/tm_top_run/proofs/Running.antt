@@ -6,10 +6,10 @@ use Rattle.std.specs.Prelude.{IsSomeAnd}
 use Rattle.std.proofs.lemmas.List.Elements.{All-nil}
 use Rattle.tm_desk.specs.Causes.{Files}
 use Rattle.tm_desk.specs.declared.desk.DeskError.TheVariants.{TooLong, Failed}
-use Rattle.tm_faults.specs.declared.role.Role.TheVariants as roles
+use Rattle.tm_refusals.specs.declared.role.Role.TheVariants as roles
 use Rattle.tm_image_build.specs.Opened.{opened}
 use Rattle.tm_plan_cases.specs.declared.program.Program.{Program}
-use Rattle.tm_plan_cases.specs.declared.journal.Event.{Event}
+use Rattle.tm_plan_cases.specs.declared.event.Event.{Event}
 use Rattle.tm_plan_script.specs.declared.faults.FaultLine.{FaultLine}
 use Rattle.tm_world.specs.Sound.{Sound}
 use Rattle.tm_world.specs.Work.{NeverStuck}

@@ -9,7 +9,7 @@ use Rattle.tm_table.specs.declared.state.Access.{Access}
 use Rattle.tm_table.specs.declared.state.Access.TheVariants.{Quiet, Read, Write}
 use Rattle.tm_plan_map.specs.Map.{verdict_at}
 use Rattle.tm_plan_cases.specs.declared.program.Program.{Program}
-use Rattle.tm_plan_cases.specs.declared.journal.Event.{Event}
+use Rattle.tm_plan_cases.specs.declared.event.Event.{Event}
 use Rattle.tm_plan_script.specs.declared.faults.FaultLine.{FaultLine}
 use Rattle.tm_base.specs.Lists.{count_from}
 use Rattle.tm_world.specs.Lists.{or_else}

@@ -1,7 +1,7 @@
 -- A law of simulations (this project's own).
 use Rattle.std.specs.Prelude.{List}
 use Rattle.tm_plan_cases.specs.declared.program.Program.{Program}
-use Rattle.tm_plan_cases.specs.declared.journal.Event.{Event}
+use Rattle.tm_plan_cases.specs.declared.event.Event.{Event}
 use Rattle.tm_plan_script.specs.declared.faults.FaultLine.{FaultLine}
 use Rattle.tm_world.specs.Kinds.{Legal}
 use Rattle.tm_world.specs.Sound.{Sound}

@@ -2,9 +2,9 @@
 use Rattle.std.specs.Prelude.{◌≡◌, ◌≢◌, ◌⊎◌, ℕ, Bool, false, IsTrue, List, [], length, None, Some, Result, Err}
 use Rattle.tm_desk.specs.Causes.{Files}
 use Rattle.tm_plan_cases.specs.declared.program.Program.{Program}
-use Rattle.tm_plan_cases.specs.declared.journal.Event.{Event}
-use Rattle.tm_faults.specs.declared.role.Role.TheVariants as roles
-use Rattle.tm_faults.specs.declared.image.ImageFault.{ImageFault}
+use Rattle.tm_plan_cases.specs.declared.event.Event.{Event}
+use Rattle.tm_refusals.specs.declared.role.Role.TheVariants as roles
+use Rattle.tm_refusals.specs.declared.image.ImageFault.{ImageFault}
 use Rattle.tm_top_line.specs.declared.fault.AnyFault.TheVariants.{Image}
 use Rattle.tm_top_line.specs.Lines.{wants_memory}
 use Rattle.tm_words.specs.Words.{Run}

@@ -4,7 +4,7 @@ use Rattle.tm_plan_map.specs.declared.admitted.Admitted.{Admitted}
 use Rattle.tm_plan_cases.specs.declared.program.Program.{Program}
 use Rattle.tm_gen.specs.Gen.{gen_of}
 use Rattle.tm_world.specs.Sound.{Sound}
-use Rattle.tm_faults.specs.declared.inputs.InputFault.{InputFault}
+use Rattle.tm_refusals.specs.declared.inputs.InputFault.{InputFault}
 use Rattle.tm_image_inputs.specs.Inputs.{inputs}
 use Rattle.tm_pass_place.specs.Built.{built as built_program}
 use Rattle.tm_image_program.specs.Program.{program_for}

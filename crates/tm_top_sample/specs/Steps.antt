@@ -4,7 +4,7 @@ use Rattle.tm_top_owed.specs.Owed.{IsSummed}
 use Rattle.tm_top_owed.specs.Runs.{guest_of, IsSimulated, IsRoundOrder}
 use Rattle.tm_words.specs.Words.{default_events}
 use Rattle.tm_plan_cases.specs.declared.program.Program.{Program}
-use Rattle.tm_plan_cases.specs.declared.journal.Event.{Event}
+use Rattle.tm_plan_cases.specs.declared.event.Event.{Event}
 
 -- A simulation of a program in round order that makes these events, and how it is told as the one of a sample.
 pub record IsSummary (number : ℕ) (p : Program) (events : List Event) (text : List ℕ) (status : ℕ) : Type 0 where

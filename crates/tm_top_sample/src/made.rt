@@ -5,8 +5,8 @@ ghost use Rattle.tm_top_owed.specs.Owed.{IsBuiltOf};
 
 use std::alloc::Global;
 use tm_base::NoMemory;
-use tm_faults::BuildFault;
 use tm_image_build::{Image, build};
+use tm_refusals::BuildFault;
 use tm_sample::laws::always_accepted;
 use tm_sample::sample_texts;
 

@@ -1,13 +1,17 @@
 -- What is read of a text lies within the limits.
-use Rattle.std.proofs.Common.{◌≡◌, ℕ, ◌*◌, ◌≤◌, Bool, true, false, nat_le, if◌then◌else◌, ℤ, pos, negsuc, Option, Some, None, Result, Ok, Err, IfOk, IsTrue, refl, sym, List}
+use Rattle.std.proofs.Common.{◌≡◌, ℕ, ◌*◌, ◌≤◌, Bool, true, false, nat_le, if◌then◌else◌, ℤ, pos, negsuc, Option, Some}
+use Rattle.std.proofs.Common.{None, Result, Ok, Err, IfOk, IsTrue, refl, sym, List}
 use Rattle.std.proofs.lemmas.Bool.{leb-true}
 use Rattle.toml.specs.Data.{Data, Members, as_integer, get_member}
+use Rattle.tm_base.specs.Limits.{image_version, most_harts}
+use Rattle.tm_topo.specs.declared.system.TheConstants.{DEFAULT_BIAS}
 use Rattle.tm_topo.specs.declared.system.Topology.{Topology}
 use Rattle.tm_topo.specs.declared.system.TopoKey.{TopoKey}
 use Rattle.tm_topo.specs.declared.system.TopoKey.TheVariants.{Cores, Threads, Line, Bias}
 use Rattle.tm_topo.specs.declared.system.TopoFault.{TopoFault}
 use Rattle.tm_topo.specs.declared.system.TopoFault.TheVariants.{TooManyHarts}
-use Rattle.tm_topo.specs.Reading.{allows, default_of, of_integer, of_value, of_entry, number_at, and_then, within_harts, numbers_in, of_members, of_document, unknown_key, key_text}
+use Rattle.tm_topo.specs.Reading.{allows, default_of, of_integer, of_value, of_entry, number_at, and_then, within_harts}
+use Rattle.tm_topo.specs.Reading.{numbers_in, of_members, of_document, unknown_key, key_text}
 use Rattle.tm_topo.specs.Limits.{IsInRange}
 
 -- the value that was read is the one that was tested
@@ -16,7 +20,7 @@ tested true m n e h = (refl, cc)
 tested false m n e h = absurd (cc)
 
 default_allowed : (key : TopoKey) (n : ℕ) → default_of key ≡ Ok n → IsTrue (allows key n)
-default_allowed Bias n h = let is : 40 ≡ n = cc in rw (sym is) refl
+default_allowed Bias n h = let is : DEFAULT_BIAS ≡ n = cc in rw (sym is) refl
 default_allowed Cores n h = absurd (cc)
 default_allowed Threads n h = absurd (cc)
 default_allowed Line n h = absurd (cc)
@@ -38,14 +42,17 @@ unfolding number_at
 allowed key ms n h = entry_allowed key (get_member (key_text key) ms) n h
 
 -- a number that was read, with what follows it
-took : {A B : Type 0} (r : Result A TopoFault) (f : A → Result B TopoFault) (y : B) → and_then r f ≡ Ok y → (x : A) × (r ≡ Ok x) × (f x ≡ Ok y)
+took : {A B : Type 0} (r : Result A TopoFault) (f : A → Result B TopoFault) (y : B) → and_then r f ≡ Ok y
+    → (x : A) × (r ≡ Ok x) × (f x ≡ Ok y)
 took (Ok x) f y h = (x, refl, h)
 took (Err e) f y h = absurd (cc)
 
-within : (s t : Topology) → within_harts s ≡ Ok t → (s.cores * s.threads ≤ 8) × (s ≡ t)
-within s t h = few (nat_le (s.cores * s.threads) 8) refl h where
-  few : (b : Bool) → nat_le (s.cores * s.threads) 8 ≡ b → (if b then Ok s else Err (TooManyHarts (s.cores * s.threads))) ≡ Ok t → (s.cores * s.threads ≤ 8) × (s ≡ t)
-  few true is got = (leb-true (s.cores * s.threads) 8 is, cc)
+within : (s t : Topology) → within_harts s ≡ Ok t → (s.cores * s.threads ≤ most_harts image_version) × (s ≡ t)
+within s t h = few (nat_le (s.cores * s.threads) (most_harts image_version)) refl h where
+  few : (b : Bool) → nat_le (s.cores * s.threads) (most_harts image_version) ≡ b
+      → (if b then Ok s else Err (TooManyHarts (s.cores * s.threads))) ≡ Ok t
+      → (s.cores * s.threads ≤ most_harts image_version) × (s ≡ t)
+  few true is got = (leb-true (s.cores * s.threads) (most_harts image_version) is, cc)
   few false is got = absurd (cc)
 
 numbers_range : (ms : Members) (t : Topology) → numbers_in ms ≡ Ok t → IsInRange t
@@ -73,6 +80,7 @@ document_range None t h = absurd (cc)
 document_range (Some ms) t h = members_range ms (unknown_key ms) t h
 
 -- what was read of a document lies within the limits
-pub range_of : (d : Option Members) (r : Result Topology TopoFault) → IfOk r (λ t. of_document d ≡ Ok t) → IfOk r IsInRange
+pub range_of : (d : Option Members) (r : Result Topology TopoFault) → IfOk r (λ t. of_document d ≡ Ok t)
+    → IfOk r IsInRange
 range_of d (Ok t) h = document_range d t h
 range_of d (Err e) h = tt

@@ -7,6 +7,8 @@ use Rattle.std.specs.Cmp.Lexicographic.{slice_cmp}
 use Rattle.toml.specs.Data.{Data, Members, no_members, member, get_member, as_integer}
 use Rattle.toml.specs.Parse.{parse_document}
 use Rattle.tm_base.specs.Limits.{image_version, most_harts}
+use Rattle.tm_base.specs.declared.limits.TheConstants.{SHORT_LINE, MIDDLE_LINE, LONG_LINE, MOST_BIAS}
+use Rattle.tm_topo.specs.declared.system.TheConstants.{DEFAULT_BIAS}
 use Rattle.tm_topo.specs.declared.system.Topology.{Topology}
 use Rattle.tm_topo.specs.declared.system.TopoKey.{TopoKey}
 use Rattle.tm_topo.specs.declared.system.TopoKey.TheVariants.{Cores, Threads, Line, Bias}
@@ -53,12 +55,12 @@ unknown_key ms = least (filter (λ k. not (is_known k)) (keys_of ms))
 abbrev pub allows : TopoKey → ℕ → Bool
 allows Cores n = nat_le 1 n && nat_le n (most_harts image_version)
 allows Threads n = nat_le 1 n && nat_le n (most_harts image_version)
-allows Line n = (n == 32 || n == 64) || n == 128
-allows Bias n = nat_le n 100
+allows Line n = (n == SHORT_LINE || n == MIDDLE_LINE) || n == LONG_LINE
+allows Bias n = nat_le n MOST_BIAS
 
 -- what holds where a key isn't there
 abbrev pub default_of : TopoKey → Result ℕ TopoFault
-default_of Bias = Ok 40
+default_of Bias = Ok DEFAULT_BIAS
 default_of key = Err (Missing key)
 
 -- what an integer at a key is read as

@@ -3,12 +3,14 @@ ghost use Rattle.std.specs.Prelude.{not};
 ghost use Rattle.std.specs.BTreeMap.{keys, IsOrdered};
 ghost use Rattle.std.specs.String.{string_cmp};
 ghost use Rattle.toml.specs.View.{table_view};
+ghost use Rattle.tm_base.specs.declared.limits.TheConstants.{LONG_LINE};
 ghost use Rattle.tm_topo.specs.Limits.{IsInRange};
 ghost use Rattle.tm_topo.specs.Reading as reading;
 
+use crate::system::DEFAULT_BIAS;
 use crate::{TopoFault, TopoKey, Topology};
 use std::alloc::Global;
-use tm_base::Text;
+use tm_base::{IMAGE_VERSION, Text, most_harts};
 use toml::Table;
 
 /// Reads a topology: the numbers that the document states, or its first fault. The least unknown key comes before all
@@ -51,7 +53,7 @@ fn numbers_in(table: &Table) -> Result<Topology, TopoFault>
     let line = number_at(table, TopoKey::Line)?;
     let bias = number_at(table, TopoKey::Bias)?;
     let product = cores * threads;
-    if product > 8 {
+    if product > most_harts(IMAGE_VERSION) {
         return Err(TopoFault::TooManyHarts { product });
     }
     Ok(Topology {
@@ -108,7 +110,7 @@ fn unknown(alloc: Global, key: &str) -> TopoFault
 // The number at a key.
 fn number_at(table: &Table, key: TopoKey) -> Result<u32, TopoFault>
     ensures number { result ≡ reading.number_at key (table_view table.now) }
-    ensures small { IfOk result (λ n. n ≤ 128) }
+    ensures small { IfOk result (λ n. n ≤ LONG_LINE) }
 {
     match table.get(key.as_str()) {
         Some(value) => match value.as_integer() {
@@ -122,10 +124,10 @@ fn number_at(table: &Table, key: TopoKey) -> Result<u32, TopoFault>
 // The number where a key isn't there.
 fn default_of(key: TopoKey) -> Result<u32, TopoFault>
     ensures number { result ≡ reading.default_of key }
-    ensures small { IfOk result (λ n. n ≤ 128) }
+    ensures small { IfOk result (λ n. n ≤ LONG_LINE) }
 {
     match key {
-        TopoKey::Bias => Ok(40),
+        TopoKey::Bias => Ok(DEFAULT_BIAS),
         _ => Err(TopoFault::Missing { key }),
     }
 }
@@ -133,7 +135,7 @@ fn default_of(key: TopoKey) -> Result<u32, TopoFault>
 // The number that an integer at a key states.
 fn of_integer(key: TopoKey, integer: i64) -> Result<u32, TopoFault>
     ensures number { result ≡ reading.of_integer key integer }
-    ensures small { IfOk result (λ n. n ≤ 128) }
+    ensures small { IfOk result (λ n. n ≤ LONG_LINE) }
 {
     match u64::try_from(integer) {
         Ok(number) => {

@@ -2,10 +2,13 @@ ghost use Rattle.std.specs.Prelude.{◌≡◌, Some};
 ghost use Rattle.tm_topo.specs.Reading as reading;
 
 use std::fmt;
-use tm_base::Text;
+use tm_base::{IMAGE_VERSION, LONG_LINE, MIDDLE_LINE, MOST_BIAS, SHORT_LINE, Text, most_harts};
 
-/// The system that a test is built for: 1 to 8 cores of 1 to 8 threads each, 8 harts at most, lines of 32, 64 or 128
-/// bytes, and how often, of a hundred times, an access goes to its case's hot line.
+/// How many of a hundred accesses go to the hot line where a topology doesn't say it.
+pub const DEFAULT_BIAS: u32 = 40;
+
+/// The system that a test is built for: cores of as many threads each, no more harts than an image may have, lines of
+/// 32, 64 or 128 bytes, and how often, of a hundred times, an access goes to its case's hot line.
 #[derive(Clone, Copy, Debug, PartialEq, Eq)]
 pub struct Topology {
     pub cores: u32,
@@ -53,9 +56,15 @@ impl TopoKey {
         ensures { result ≡ reading.allows self number }
     {
         match self {
-            TopoKey::Cores | TopoKey::Threads => 1 <= number && number <= 8,
-            TopoKey::Line => number == 32 || number == 64 || number == 128,
-            TopoKey::Bias => number <= 100,
+            TopoKey::Cores | TopoKey::Threads => {
+                1 <= number && number <= u64::from(most_harts(IMAGE_VERSION))
+            }
+            TopoKey::Line => {
+                number == u64::from(SHORT_LINE)
+                    || number == u64::from(MIDDLE_LINE)
+                    || number == u64::from(LONG_LINE)
+            }
+            TopoKey::Bias => number <= u64::from(MOST_BIAS),
         }
     }
 }

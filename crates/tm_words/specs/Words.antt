@@ -8,6 +8,7 @@ use Rattle.std.specs.declared.string.String.{String}
 use Rattle.std.specs.declared.alloc.Global.{Global}
 use Rattle.tm_base.specs.Numbers.{number_of}
 use Rattle.tm_base.specs.declared.numbers.NumberFault.{NumberFault}
+use Rattle.tm_base.specs.declared.limits.TheConstants.{DEFAULT_EVENTS, MOST_EVENTS}
 use Rattle.tm_words.specs.declared.command.BuildWords.{BuildWords}
 use Rattle.tm_words.specs.declared.command.RunWords.{RunWords}
 use Rattle.tm_words.specs.declared.command.CommandWords.{CommandWords}
@@ -69,11 +70,11 @@ list_behind image _ = None
 
 -- the most events of a run that doesn't say how many
 abbrev pub default_events : ℕ
-default_events = 4000000
+default_events = DEFAULT_EVENTS
 
 -- the most events that a run may say
 abbrev pub most_events : ℕ
-most_events = 100000000
+most_events = MOST_EVENTS
 
 -- what one option of a run says
 pub data RunOption : Type 0 where

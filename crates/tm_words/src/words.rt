@@ -5,13 +5,7 @@ ghost use Rattle.tm_base.specs.Numbers.{number_of};
 ghost use Rattle.tm_words.specs.Words as form;
 
 use crate::command::{BuildWords, CommandWords, RunWords};
-use tm_base::read_number;
-
-// The most events of a run that doesn't say how many.
-const DEFAULT_EVENTS: u64 = 4_000_000;
-
-// The most events that a run may say.
-const MOST_EVENTS: u64 = 100_000_000;
+use tm_base::{DEFAULT_EVENTS, MOST_EVENTS, read_number};
 
 // What one option of a run says.
 #[derive(Clone, Copy)]

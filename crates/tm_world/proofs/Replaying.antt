@@ -3,7 +3,7 @@ use Rattle.std.proofs.Common.{◌≡◌, ℕ, List, [], ◌∷◌, ◌++◌, ref
 use Rattle.std.specs.Prelude.{reverse}
 use Rattle.std.proofs.lemmas.List.{reverse-append, length-reverse}
 use Rattle.tm_plan_cases.specs.declared.program.Program.{Program}
-use Rattle.tm_plan_cases.specs.declared.journal.Event.{Event}
+use Rattle.tm_plan_cases.specs.declared.event.Event.{Event}
 use Rattle.tm_plan_script.specs.declared.faults.FaultLine.{FaultLine}
 use Rattle.tm_world.specs.Replay.{stepped, replay, steps_of}
 

@@ -9,10 +9,10 @@ returns-then-addr-first c =
     let first = c.window_base-first.ensures ∙ first_is in
     nowhere-below (sharing_of c.args.p.now) c.args.addr (sound-of c.args.p.now) (rw first at c.if-addr-first.true)
 
-pub returns-then-number-ge3 : goal.returns-then-number-ge3
-returns-then-number-ge3 c =
+pub returns-then-number : goal.returns-then-number
+returns-then-number c =
     let first = c.window_base-first.ensures ∙ first_is in
-    nowhere-above (sharing_of c.args.p.now) c.args.addr (sound-of c.args.p.now) (rw first at c.if-number-ge3.true)
+    nowhere-above (sharing_of c.args.p.now) c.args.addr (sound-of c.args.p.now) (rw first at c.if-number.true)
 
 pub returns-in-None : goal.returns-in-None
 returns-in-None c = let first = c.window_base-first.ensures ∙ first_is in

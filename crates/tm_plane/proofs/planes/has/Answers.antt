@@ -8,10 +8,10 @@ unfolding window_at
 returns-then-addr-base c = below-none c.args.plane.now c.args.addr c.window_base-base.result (omega arith)
     c.if-addr-base.true
 
-pub returns-then-q-ge6144 : goal.returns-then-q-ge6144
+pub returns-then-q-ge-WINDOWS_BYTES : goal.returns-then-q-ge-WINDOWS_BYTES
 unfolding window_at
-returns-then-q-ge6144 c = above-none c.args.plane.now c.args.addr c.window_base-base.result (omega arith) c.told-plane
-    c.if-q-ge6144.true
+returns-then-q-ge-WINDOWS_BYTES c = above-none c.args.plane.now c.args.addr c.window_base-base.result (omega arith) c.told-plane
+    c.if-q-ge-WINDOWS_BYTES.true
 
 pub returns : goal.returns
 unfolding window_at

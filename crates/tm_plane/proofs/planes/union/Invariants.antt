@@ -1,9 +1,10 @@
 use Rattle.std.proofs.Common.{◌≡◌, ◌<◌, ℕ, length, bit_or}
 use Rattle.std.specs.Prelude.{slice_index}
 use Rattle.tm_plane.proofs.planes.union.Given as goal
+use Rattle.tm_plane.specs.declared.planes.TheConstants.{PLANE_WORDS}
 
 abbrev pub invariant-loop-e : goal.invariant-loop-e
 invariant-loop-e l = record {
-  room : length l.out ≡ 96;
+  room : length l.out ≡ PLANE_WORDS;
   made : (k : ℕ) → k < l.e → slice_index l.out k ≡ bit_or (slice_index l.x k) (slice_index l.y k);
 }

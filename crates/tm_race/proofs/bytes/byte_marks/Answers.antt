@@ -1,4 +1,5 @@
 use Rattle.std.proofs.Common.{◌≡◌, ℕ, arith, subst}
+use Rattle.tm_plan_map.specs.declared.addresses.TheConstants.{WINDOWS_BYTES}
 use Rattle.tm_race.specs.Masks.{EachIs, mark_of}
 use Rattle.tm_race.proofs.Growing.{none-yet, one-more}
 use Rattle.tm_race.proofs.bytes.byte_marks.Goals as goal
@@ -12,6 +13,6 @@ loop-q-preserved c = one-more (λ q mark. mark ≡ mark_of c.args.cases.now c.ar
 
 pub returns : goal.returns
 returns c =
-    let end : c.loop-q.q ≡ 6144 = omega (arith, c.loop-q.auto, c.loop-q-test.false) in
+    let end : c.loop-q.q ≡ WINDOWS_BYTES = omega (arith, c.loop-q.auto, c.loop-q-test.false) in
     subst (λ (n : ℕ). EachIs (λ q mark. mark ≡ mark_of c.args.cases.now c.args.spoil.now q) n c.loop-q.marks) end
     c.loop-q.invariant

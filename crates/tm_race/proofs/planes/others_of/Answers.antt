@@ -5,6 +5,7 @@ use Rattle.std.proofs.lemmas.Bool.{false_from_ne_true}
 use Rattle.tm_base.specs.Lists.{any, count_from}
 use Rattle.tm_plan_cases.proofs.Counted.{counted}
 use Rattle.tm_world.specs.Writers.{some_store_to}
+use Rattle.tm_plane.specs.declared.planes.TheConstants.{PLANE_WORDS}
 use Rattle.tm_plane.specs.Plane.{in_plane}
 use Rattle.tm_race_walk.proofs.Moving.{none-zero, any-snoc}
 use Rattle.tm_race.proofs.planes.others_of.Goals as goal
@@ -16,7 +17,7 @@ next test k old new o e =
     e ∙ (ap (λ (t : Bool). t || test k) o ∙ (sym (any-snoc test (count_from 0 k) k) ∙ ap (any test) (sym more)))
 
 pub loop-g-init : goal.loop-g-init
-loop-g-init c = λ b. false_from_ne_true _ (none-zero 96 b)
+loop-g-init c = λ b. false_from_ne_true _ (none-zero PLANE_WORDS b)
 
 pub loop-g-preserved : goal.loop-g-preserved
 loop-g-preserved c = λ b. next (λ g. not (g == c.args.h) && some_store_to b (slice_get c.args.case.now.streams g))

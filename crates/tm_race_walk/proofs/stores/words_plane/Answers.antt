@@ -4,11 +4,12 @@ use Rattle.std.proofs.lemmas.List.{take_all}
 use Rattle.tm_base.specs.Lists.{any}
 use Rattle.tm_world.specs.Writers.{is_store_to}
 use Rattle.tm_plane.specs.Plane.{in_plane}
+use Rattle.tm_plane.specs.declared.planes.TheConstants.{PLANE_WORDS}
 use Rattle.tm_race_walk.proofs.Moving.{any-more, none-zero}
 use Rattle.tm_race_walk.proofs.stores.words_plane.Goals as goal
 
 pub loop-word-init : goal.loop-word-init
-loop-word-init c = λ b. false_from_ne_true _ (none-zero 96 b)
+loop-word-init c = λ b. false_from_ne_true _ (none-zero PLANE_WORDS b)
 
 pub loop-word-preserved : goal.loop-word-preserved
 loop-word-preserved c = λ b. any-more (is_store_to b) c.args.words.now c.loop-word.word-index

@@ -1,7 +1,7 @@
 use Rattle.std.proofs.Common.{ℕ, ◌+◌, ◌*◌, ◌<◌, ◌∙◌, length, ap₂, sym, arith}
 use Rattle.std.specs.Prelude.{unwrap_or, slice_index}
 use Rattle.tm_plan_map.specs.Map.{verdict_at}
-use Rattle.tm_plan_cases.specs.declared.journal.Event.{Event}
+use Rattle.tm_plan_cases.specs.declared.event.Event.{Event}
 use Rattle.tm_report_run.specs.Verdicts.{put_at}
 use Rattle.tm_report_run.proofs.Kept.{more-kept}
 use Rattle.tm_report_run.proofs.cells.keep_all.Goals as goal

@@ -1,6 +1,6 @@
 use Rattle.std.proofs.Common.{length, refl, ap, arith}
 use Rattle.std.proofs.lemmas.Option.{slice_get_read}
-use Rattle.tm_plan_cases.specs.declared.journal.Event.{Event}
+use Rattle.tm_plan_cases.specs.declared.event.Event.{Event}
 use Rattle.tm_turn.specs.Seats.{SeatState}
 use Rattle.tm_harts.specs.declared.held.Setup.{Setup}
 use Rattle.tm_thread_rows.proofs.Seats.{all_set}

@@ -1,6 +1,6 @@
 use Rattle.std.proofs.Common.{ℕ, refl, subst}
 use Rattle.tm_table.specs.State.{Hart, hart_of}
-use Rattle.tm_plan_cases.specs.declared.journal.Event.{Event}
+use Rattle.tm_plan_cases.specs.declared.event.Event.{Event}
 use Rattle.tm_guest.specs.Guested.{state}
 use Rattle.tm_guest.proofs.Stepping.{Acts, next-one}
 use Rattle.tm_guest.proofs.guest.Guest.next_access.Goals as goal

@@ -1,5 +1,5 @@
+use crate::elf::ElfFault;
 use crate::inputs::InputFault;
-use tm_elf_head::ElfFault;
 
 /// Why a file isn't opened as an image.
 #[derive(Drop)]

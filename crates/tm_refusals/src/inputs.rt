@@ -20,7 +20,7 @@ pub enum BuildFault {
 
 impl From<NoMemory> for BuildFault {
     ghost use Rattle.std.specs.Prelude.{◌≡◌};
-    ghost use Rattle.tm_faults.specs.declared.inputs.BuildFault.TheVariants as fault;
+    ghost use Rattle.tm_refusals.specs.declared.inputs.BuildFault.TheVariants as fault;
 
     ghost from_gives = { λ _ e. e ≡ fault.NoMemory };
 

@@ -2,11 +2,11 @@
 use Rattle.tm_lex.specs.declared.token.LexFault.TheVariants as lex
 use Rattle.tm_topo.specs.declared.system.TopoFault.TheVariants as topo_fault
 use Rattle.tm_tmpl_types.specs.declared.template.TmplFault.TheVariants as tmpl_fault
-use Rattle.tm_elf_head.specs.declared.fault.ElfFault.TheVariants as elf_fault
-use Rattle.tm_faults.specs.declared.inputs.InputFault.{InputFault}
-use Rattle.tm_faults.specs.declared.inputs.InputFault.TheVariants.{Topo, Tmpl}
-use Rattle.tm_faults.specs.declared.image.ImageFault.{ImageFault}
-use Rattle.tm_faults.specs.declared.image.ImageFault.TheVariants.{Elf, Inputs}
+use Rattle.tm_refusals.specs.declared.elf.ElfFault.TheVariants as elf_fault
+use Rattle.tm_refusals.specs.declared.inputs.InputFault.{InputFault}
+use Rattle.tm_refusals.specs.declared.inputs.InputFault.TheVariants.{Topo, Tmpl}
+use Rattle.tm_refusals.specs.declared.image.ImageFault.{ImageFault}
+use Rattle.tm_refusals.specs.declared.image.ImageFault.TheVariants.{Elf, Inputs}
 
 -- want of memory is no fault of an input (this project)
 abbrev pub IsNamed : InputFault → Type 0
