@@ -10,7 +10,7 @@ use Rattle.std.proofs.lemmas.Bool.{not-true, false≢true, true≢false, false_f
 use Rattle.std.proofs.lemmas.Nat.Bits.{shr_and_one}
 use Rattle.tm_plan_map.specs.Map.{windows_base, windows_size, within}
 use Rattle.tm_base.specs.Lists.{any, count_from}
-use Rattle.tm_plan_cases.proofs.Within.{within-parts, within-true}
+use Rattle.tm_plan_map.proofs.Within.{within-parts, within-true}
 use Rattle.tm_plane.proofs.WordLemmas.{bit-none, bit-and, bit-or}
 use Rattle.tm_plane.specs.Plane.{Bit, in_plane, IsNear, Spans, Overwritten}
 
