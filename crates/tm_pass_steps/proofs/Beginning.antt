@@ -82,7 +82,7 @@ module _ (p : Program) (formed : Formed p) (fit : MasksFit p.cases p.masks) (h :
         (λ u b.
         let pc : u.pc ≡ base h + 12 = omega (arith, b.pc, a.pc) in
         takes_map (λ v g. newest_map u.pc (u.pc + 44) text_base hi {A = IsQuiet} {B = IsCalm h}
-            (let r = rise h (omega arith) in
+        (let r = rise h (omega arith) in
         omega arith) (omega arith) calm v.log g)
         (λ v g. record {
           pc = omega (arith, g.pc, pc);

@@ -485,7 +485,7 @@ module _ (p : Program) (formed : Formed p) (fit : MasksFit p.cases p.masks) (h :
           (Within u.pc (u.pc + 4 * length (collect_all p.cases h)) (UsesMoves m))
           (HasDone (world_of p h) (collect_all p.cases h) m u) (97 + 4 * length dwords) u) moves-are law in
           takes_map (λ t g. newest_map lo hi lo hi {A = UsesMoves (collect_moves sources save)} {B = Takes-in}
-              (omega arith) (omega arith) uses-of t.log
+          (omega arith) (omega arith) uses-of t.log
           (widen lo (lo + 24) hi (UsesMoves (collect_moves sources save)) (omega arith) t.log g))
           (λ t g. record { mid = u; aimed = a; done = g })
           (subst (λ (x : ℕ). Takes (world_of p h) (Within x (x + 4 * length (collect_all p.cases h))

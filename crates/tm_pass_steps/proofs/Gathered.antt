@@ -102,4 +102,3 @@ widen lo mid hi A l (e ∷ es) h = record {
   most = h.most;
   access = h.access;
 }
-

@@ -127,7 +127,7 @@ module _ (p : Program) (formed : Formed p) (fit : MasksFit p.cases p.masks) (h :
             let law = save_registers_runs (world_of p h) s b hold.base usable changeable
             (subst (λ (a : ℕ). At (support_at p h) a save_registers) (sym hold.pc) code) in
             takes_map (λ t g. newest_map lo (lo + 120) lo (lo + 120) {A = Uses Nowhere (Among b 30)} {B = IsCalm h}
-                (omega arith) (omega arith) calm t.log g) (λ t g. g)
+            (omega arith) (omega arith) calm t.log g) (λ t g. g)
             (subst (λ (a : ℕ). Takes (world_of p h) (Within a (a + 120) (Uses Nowhere (Among b 30))) (HasSaved b s) 30
             s) hold.pc law)
 
