@@ -6,8 +6,8 @@ The images, listings, reports, surveys and pictures are left in FOLDER. Each exa
 --reader the second reading in scripts/derive builds, lists and runs in place of the program. It isn't part of the
 gate.
 
-It ends with status 0 where all went well and no case was reported, with 1 where not, and with 2 where nothing was tried.
-"""
+It ends with status 0 where all went well and no case was reported, with 1 where not, and with 2 where nothing could be
+tried."""
 
 import argparse
 import shutil
