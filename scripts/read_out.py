@@ -53,15 +53,15 @@ def words():
     parser.add_argument("--poll", type=float, metavar="S", help="look every S seconds; no breakpoints for halt")
     parser.add_argument("--loaded", action="store_true", help="text and tables are there already")
     parser.add_argument("--setup", action="append", default=[], metavar="COMMAND", help="a command for gdb beforehand")
-    parser.add_argument("--plant", nargs=6, metavar=("C", "H", "P", "SLOT", "REG", "BITS"), help="flip bits of x1 to x27")
+    fault = ("C", "H", "P", "SLOT", "REG", "BITS")
+    parser.add_argument("--plant", nargs=6, metavar=fault, help="flip bits of one of x1 to x27")
     return parser
 
 
 def progress(text):
     """A line that is written over by the next, on a terminal alone."""
-    if sys.stderr.isatty():
-        sys.stderr.write(f"\r\x1b[K{text}")
-        sys.stderr.flush()
+    if os.isatty(2):
+        os.write(2, f"\r\x1b[K{text}".encode())
 
 
 # Outside of gdb: find it, and let it run this file.
