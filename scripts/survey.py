@@ -13,25 +13,57 @@ shared, how many of its bytes are checked). A slot counts whether it is executed
   racing       a load of a byte to which another hart may store in the same case
   hot          the line on which drawn accesses meet; in an own window each hart has one of its own, and - stands there
 
---svg draws the lines by harts. It isn't part of the gate; the image is read by scripts/derive, and nothing is proved.
+--svg draws the lines by harts. It isn't part of the gate, and nothing is proved. Streams and masks are taken from the
+file as it is, by scripts/derive: that it is what is built of its plan, is looked at by `threadmill list`.
 
 It ends with status 0, or with 2 where the file is no image or the picture can't be written."""
 
 import argparse
+import struct
 import sys
+from functools import lru_cache
 from pathlib import Path
 
 sys.path.insert(0, str(Path(__file__).resolve().parent))
 
 from derive import memory_map as places
+from derive import races, table
 from derive.faults import Fault
-from derive.image import open_image
+from derive.elf import read_elf
+from derive.image import read_inputs
 from derive.placement import hot_line
+from derive.streams import Case, Cases
 from derive.races import bytes_of, may_writers
-from derive.table import BRANCHES, LOADS, STORES, decode
+from derive.table import BRANCHES, LOADS, STORES
 
 CLASSES = ("alu", "load", "store", "branch", "fence")
 KINDS = ("true", "false", "read", "alone")
+
+
+decode = races.decode = lru_cache(maxsize=None)(table.decode)
+
+
+class FileImage:
+    """What the file holds: the streams between their marks, and the masks of the tables. Nothing is built again."""
+
+    def __init__(self, file):
+        parts = read_elf(file)
+        test = read_inputs(parts.topology, parts.template)
+        harts, marks = test.shape.harts, dict(parts.symbols)
+        self.seed, self.masks, cases = parts.seed, [], []
+        for c, (name, _) in enumerate(test.cases):
+            words = []
+            for h in range(harts):
+                first, end = (marks[f"tm_{mark}_{h}_{c}".encode()] - places.TEXT for mark in "se")
+                words.append(struct.unpack_from(f"<{(end - first) // 4}I", parts.text, first))
+            at = places.table(harts, c) - places.TABLES
+            registers = [struct.unpack_from("<Q", parts.tables, at + 256 * h + 248)[0] for h in range(harts)]
+            masks = parts.tables[at + 256 * harts + 6144 :][:6144]
+            self.masks.append((registers, [byte == 255 for byte in masks]))
+            if any(decode(word) is None for stream in words for word in stream):
+                raise Fault("NotAnInstruction")
+            cases.append(Case(name, words, None, None))
+        self.cases = Cases(test.name, harts, test.shape.line, test.passes, test.shape, cases)
 
 
 def class_of(i):
@@ -245,7 +277,7 @@ def main():
     parser.add_argument("--case", type=int, metavar="C", help="of this case alone")
     parser.add_argument("--svg", metavar="FILE", help="write a picture of the lines by harts")
     asked = parser.parse_args()
-    image = open_image(Path(asked.image).read_bytes())
+    image = FileImage(Path(asked.image).read_bytes())
     count = len(image.cases.cases)
     if asked.case is not None and not 0 <= asked.case < count:
         raise OSError(f"the image has the cases 0 to {count - 1}")
@@ -267,6 +299,9 @@ def main():
 if __name__ == "__main__":
     try:
         sys.exit(main())
+    except (KeyError, struct.error):
+        print("survey.py: the file isn't as it was built", file=sys.stderr)
+        sys.exit(2)
     except (Fault, OSError) as why:
         print(f"survey.py: {why.told() if isinstance(why, Fault) else why}", file=sys.stderr)
         sys.exit(2)
