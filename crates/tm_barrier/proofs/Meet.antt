@@ -13,14 +13,16 @@ use Rattle.tm_runs.proofs.Compose.{keeps_after, keeps_map}
 use Rattle.tm_runs.proofs.Tables.{at_front, at_next}
 use Rattle.tm_blocks_base.specs.Laws.{accesses}
 use Rattle.tm_blocks_base.specs.Instrs.{fence, go_to}
+use Rattle.tm_blocks_base.proofs.Lists.{accesses-append}
 use Rattle.tm_barrier.specs.Words.{prepare, signal, wait, turn, waits, meet, barrier}
-use Rattle.tm_barrier.specs.Laws.{Meeting, Meets, Looks, Barred, HasMet, MeetRuns, FenceRuns}
+use Rattle.tm_barrier.specs.Laws.{Meeting, MeetUses, Looks, Barred, HasMet, MeetRuns, FenceRuns}
 use Rattle.tm_runs.specs.Phases.{signals_in, idles_in}
 use Rattle.tm_barrier.specs.Laws.{ReturnRuns}
 use Rattle.tm_runs.proofs.Steps.{step_fence, step_jalr}
+use Rattle.tm_runs.proofs.Story.{each-map}
 use Rattle.tm_barrier.proofs.Lists.{any-here, any-right, front-append}
 use Rattle.tm_barrier.proofs.Made.{Made, each-both, worked-append, worked-length}
-use Rattle.tm_barrier.proofs.Told.{accesses-append, accesses-each, each-map, does-map, looks-meets, late-silent}
+use Rattle.tm_barrier.proofs.Told.{accesses-each, does-map, looks-meets, late-silent}
 use Rattle.tm_barrier.proofs.Told.{late-story}
 use Rattle.tm_barrier.proofs.Signal.{Signalled, signal_takes}
 use Rattle.tm_barrier.proofs.Wait.{WaitedAll, waits_keep}
@@ -34,7 +36,7 @@ module _ (w : World) (lo hi h n c m : ℕ) (meeting : Meeting w h n c) where
       record {
         entries = made.entries ++ es;
         log = made.log ∙ (ap (λ (l : List Entry). made.entries ++ l) g.log ∙ sym (append_assoc made.entries es s.log));
-        each = each-both (Does lo hi (Meets h n c)) made.entries es
+        each = each-both (Does lo hi (MeetUses h n c)) made.entries es
             (each-map (does-map lo hi (looks-meets h n c)) made.entries made.each) g.each;
         story = late-story lo hi h n m made.entries es (any-here (signals_in h) g.last g.before g.signals) made.each
             g.story;

@@ -8,6 +8,7 @@ use Rattle.tm_table.specs.declared.state.Access.TheVariants.{Quiet, Read, Write}
 use Rattle.tm_table.specs.Words.{word_of}
 use Rattle.tm_plan_map.specs.Map.{flag_at}
 use Rattle.tm_base.specs.Lists.{any, count_from}
+use Rattle.tm_base.proofs.ListLemmas.{any-no-number}
 use Rattle.tm_world.specs.Lists.{front_to}
 use Rattle.tm_world.specs.Kinds.{writes_flag}
 use Rattle.tm_world.specs.Course.{is_write}
@@ -24,12 +25,13 @@ use Rattle.tm_blocks_base.specs.Laws.{Uses, RegistersFit, accesses}
 use Rattle.tm_blocks_base.proofs.Dwords.{fit_put}
 use Rattle.tm_blocks_base.specs.Instrs.{fence}
 use Rattle.tm_barrier.specs.Words.{prepare, signal}
-use Rattle.tm_barrier.specs.Laws.{Meeting, Meets, Keeps-in-step, Barred}
+use Rattle.tm_barrier.specs.Laws.{Meeting, MeetUses, KeepsInStep, Barred}
 use Rattle.tm_runs.specs.Phases.{signals_in, is_fence_in, idles_in}
 use Rattle.tm_runs.proofs.Steps.{step_fence}
-use Rattle.tm_barrier.proofs.Lists.{any-here, any-no-number}
+use Rattle.tm_runs.proofs.Story.{each-map}
+use Rattle.tm_barrier.proofs.Lists.{any-here}
 use Rattle.tm_barrier.proofs.Made.{worked-length}
-use Rattle.tm_barrier.proofs.Told.{Early, early-silent, early-story, early-barred, each-map, does-map, count-meets}
+use Rattle.tm_barrier.proofs.Told.{Early, early-silent, early-story, early-barred, does-map, count-meets}
 use Rattle.tm_barrier.proofs.Told.{count-silent, count-busy}
 
 -- the newest k entries
@@ -142,8 +144,8 @@ module _ (w : World) (lo hi h n c m : ℕ) (meeting : Meeting w h n c) where
     pub log : t.log ≡ last ∷ before ++ s.log
     pub few : length before ≡ 6
     pub signals : signals_in h last ≡ true
-    pub each : Each (Does lo hi (Meets h n c)) (last ∷ before)
-    pub story : Story (Keeps-in-step h n m) (last ∷ before)
+    pub each : Each (Does lo hi (MeetUses h n c)) (last ∷ before)
+    pub story : Story (KeepsInStep h n m) (last ∷ before)
     pub accesses : accesses t.log ≡ Write (flag_at h) 8 m ∷ Write c 8 m ∷ Read c 8 (s.mem c) ∷ accesses s.log
 
   signals-flag : (v : ℕ) → writes_flag h (Write (flag_at h) 8 v) ≡ true
@@ -171,7 +173,7 @@ module _ (w : World) (lo hi h n c m : ℕ) (meeting : Meeting w h n c) where
 
   -- the signal's entry
   in-step : (e last : Entry) (before : List Entry) → e.access ≡ Write (flag_at h) 8 m → last.word ≡ 0x0330000F
-      → last.access ≡ Quiet → any (signals_in h) (last ∷ before) ≡ false → Keeps-in-step h n m (last ∷ before) e
+      → last.access ≡ Quiet → any (signals_in h) (last ∷ before) ≡ false → KeepsInStep h n m (last ∷ before) e
   in-step e last before is word quiet none = record {
     value = λ _. is;
     once = λ _. none;

@@ -9,10 +9,11 @@ use Rattle.tm_table.specs.declared.state.Access.TheVariants.{Quiet, Read}
 use Rattle.tm_table.specs.Words.{word_of}
 use Rattle.tm_plan_map.specs.Map.{flag_at}
 use Rattle.tm_base.specs.Lists.{any, count_from}
+use Rattle.tm_base.proofs.ListLemmas.{any-number}
 use Rattle.tm_world.specs.Course.{gets}
 use Rattle.tm_world.specs.Work.{gets_less}
 use Rattle.tm_runs.specs.Machine.{World, State, Entry, get, loaded, MayAccess}
-use Rattle.tm_runs.specs.Runs.{Takes, Now, Keeps, At, Does}
+use Rattle.tm_runs.specs.Runs.{Takes, Now, KeepsUntil, At, Does}
 use Rattle.tm_runs.proofs.Compose.{keeps_then, keeps_map, keeps_now, keeps_spin, Turned}
 use Rattle.tm_runs.proofs.Steps.{step_ld, branched}
 use Rattle.tm_runs.proofs.Tables.{get_put_other}
@@ -24,7 +25,7 @@ use Rattle.tm_barrier.specs.Words.{wait, waits}
 use Rattle.tm_barrier.specs.Laws.{Looks}
 use Rattle.tm_runs.specs.Phases.{idles_in}
 use Rattle.tm_runs.proofs.Steps.{step_bltu}
-use Rattle.tm_barrier.proofs.Lists.{any-here, any-later, any-left, any-right, any-number}
+use Rattle.tm_barrier.proofs.Lists.{any-here, any-later, any-left, any-right}
 use Rattle.tm_barrier.proofs.Made.{Made, made_none, made_one, made_then, made_more, made_idle}
 
 -- a read of another hart's flag that gets less than m is idle
@@ -74,7 +75,7 @@ module _ (w : World) (lo hi h n m : ℕ) where
       pub saw : any (λ e. gets (flag_at g) m e.access) made.entries ≡ true
 
     pub wait_keep : (s : State) → lo ≤ s.pc → s.pc + 8 ≤ hi → lo < s.pc → Ready s → At w.text s.pc (wait g)
-        → Keeps w (Made E test 2 s) (Waited s) s
+        → KeepsUntil w (Made E test 2 s) (Waited s) s
     unfolding flag_at made_more made_then made_one
     wait_keep s x y z ready at =
         keeps_spin {n = 2} turn s (record {
@@ -257,12 +258,12 @@ module _ (w : World) (lo hi h n m : ℕ) where
   -- what the words of the flags behind one do
   abbrev Later : ℕ → ℕ → Type 0
   Later a k = (u : State) → lo < u.pc → u.pc + 4 * length (waits h (count_from a k)) ≤ hi → Ready u
-      → At w.text u.pc (waits h (count_from a k)) → Keeps w (Made E test (2 * k) u) (WaitedAll a k u) u
+      → At w.text u.pc (waits h (count_from a k)) → KeepsUntil w (Made E test (2 * k) u) (WaitedAll a k u) u
 
   one_more : (few : n ≤ 16) (may : (g : ℕ) → g < n → MayAccess w (flag_at g)) (b : Bool) (a k : ℕ) → (a == h) ≡ b
       → a < n → (s : State) → lo < s.pc → s.pc + 4 * length (waits h (count_from a (suc k))) ≤ hi → Ready s
       → At w.text s.pc (waits h (count_from a (suc k))) → Later (suc a) k
-      → Keeps w (Made E test (2 * suc k) s) (WaitedAll a (suc k) s) s
+      → KeepsUntil w (Made E test (2 * suc k) s) (WaitedAll a (suc k) s) s
   one_more few may true a k own below s x y ready at later =
       let step = waits_step a k true own in
       let len : length (waits h (count_from a (suc k))) ≡ length (waits h (count_from (suc a) k)) = ap length step in

@@ -9,15 +9,16 @@ use Rattle.tm_plan_map.specs.Map.{flag_at}
 use Rattle.tm_world.specs.Place.{harts, exit_of}
 use Rattle.tm_world.specs.Marks.{Mark, Exit}
 use Rattle.tm_runs.specs.Machine.{World, State, Entry, put, get}
-use Rattle.tm_runs.specs.Runs.{Keeps, At, Each, Does}
+use Rattle.tm_runs.specs.Runs.{KeepsUntil, At, Each, Does}
 use Rattle.tm_runs.specs.Course.{trail, Story, Sofar, Good}
 use Rattle.tm_runs.proofs.Compose.{keeps_after, keeps_then, keeps_map, keeps_now, takes_map}
 use Rattle.tm_runs.proofs.Tables.{get_put_zero, at_front, at_next}
 use Rattle.tm_blocks_base.specs.Instrs.{fence, go_to}
 use Rattle.tm_barrier.specs.Words.{meet, barrier}
-use Rattle.tm_barrier.specs.Laws.{Meeting, Meets, Barred, HasMet, after_fence, after_return}
+use Rattle.tm_barrier.specs.Laws.{Meeting, MeetUses, Barred, HasMet, after_fence, after_return}
 use Rattle.tm_barrier.specs.Course.{work_at, Comes, PassesBarrier}
 use Rattle.tm_runs.specs.Phases.{Keeping}
+use Rattle.tm_runs.proofs.Story.{each-map, story-map}
 use Rattle.tm_barrier.proofs.Meet.{meet_runs, fence_runs, return_runs}
 use Rattle.tm_barrier.proofs.Passing.{barriers_keep}
 
@@ -28,20 +29,11 @@ work-step p h e log = by _
     by true = omega arith
     by false = omega arith
 
-story-map : (F G : List Entry → Entry → Type 0) → ((past : List Entry) (e : Entry) → F past e → G past e)
-    → (log : List Entry) → Story F log → Story G log
-story-map F G f [] h = tt
-story-map F G f (e ∷ log) h = (f log e h.0, story-map F G f log h.1)
-
 story-join : (E : Entry → Type 0) (F G : List Entry → Entry → Type 0)
     → ((past : List Entry) (e : Entry) → E e → F past e → G past e) → (es base : List Entry) → Each E es
     → Story F (es ++ base) → Story G base → Story G (es ++ base)
 story-join E F G f [] base a b c = c
 story-join E F G f (e ∷ es) base a b c = (f (es ++ base) e a.0 b.0, story-join E F G f es base a.1 b.1 c)
-
-each-map : (E F : Entry → Type 0) → ((e : Entry) → E e → F e) → (es : List Entry) → Each E es → Each F es
-each-map E F f [] h = tt
-each-map E F f (e ∷ es) h = (f e h.0, each-map E F f es h.1)
 
 module _ (w : World) (p : Program) (h c q link : ℕ) (arrive : ℕ → ℕ → List Mark) (F : List Entry → Entry
     → Type 0) (keeps : (past : List Entry) (e : Entry) → F past e → Keeping p h past e) (way ms rest : List Mark)
@@ -52,7 +44,8 @@ module _ (w : World) (p : Program) (h c q link : ℕ) (arrive : ℕ → ℕ → 
     (none : (from to : ℕ) → s.pc ≤ from → from < s.pc + 4 * length (meet h (harts p)) → s.pc < to
     → to ≤ s.pc + 4 * length (meet h (harts p)) → arrive from to ≡ [])
     (leaves : arrive (exit_of p h) link ≡ []) (comes : (from : ℕ) → arrive from (exit_of p h) ≡ Exit ∷ [])
-    (inside : (past : List Entry) (e : Entry) → Does s.pc (s.pc + 4 * length (meet h (harts p))) (Meets h (harts p) c) e
+    (inside : (past : List Entry) (e : Entry)
+    → Does s.pc (s.pc + 4 * length (meet h (harts p))) (MeetUses h (harts p) c) e
     → Keeping p h past e → F past e)
     (quiet : (past : List Entry) (e : Entry) → e.access ≡ Quiet → (e.next ≡ exit_of p h) ⊎ (e.next ≡ link)
     → Keeping p h past e → F past e)
@@ -73,28 +66,31 @@ module _ (w : World) (p : Program) (h c q link : ℕ) (arrive : ℕ → ℕ → 
     abbrev Told : State → Type 0
     Told t = Good arrive F size way most t.log
 
-    trail-same : (es log : List Entry) → Each (Does lo hi (Meets h n c)) es → trail arrive (es ++ log) ≡ trail arrive log
+    trail-same : (es log : List Entry) → Each (Does lo hi (MeetUses h n c)) es → trail arrive (es ++ log)
+        ≡ trail arrive log
     trail-same [] log d = refl
     trail-same (e ∷ es) log d = ap₂ (λ (x y : List Mark). x ++ y) (trail-same es log d.1)
         (none e.pc e.next d.0.from d.0.below d.0.least d.0.most) ∙ append-nil (trail arrive log)
 
-    off : (e : Entry) → Does lo hi (Meets h n c) e → e.pc ≢ exit_of p h
+    off : (e : Entry) → Does lo hi (MeetUses h n c) e → e.pc ≢ exit_of p h
     off e d = λ z. omega (arith, d.below, exit)
 
     passes : Comes p h q s.log → Story F s.log → (t : State) (g : Barred lo hi h n c (q + 1) s t)
         → PassesBarrier p h q s.log g.entries
     passes coming story t g =
         barriers_keep p h q s.log g.entries meeting.mine coming (story-map F (Keeping p h) keeps s.log story) g.story
-        (each-map (Does lo hi (Meets h n c)) (λ (e : Entry). e.pc ≢ exit_of p h) off g.entries g.each)
+        (each-map off g.entries g.each)
 
     -- up to the last fence
-    unfoldable so-far : Comes p h q s.log → Sofar arrive F size ms k s.log → (t : State) → Barred lo hi h n c (q + 1) s t
+    unfoldable so-far : Comes p h q s.log → Sofar arrive F size ms k s.log → (t : State)
+        → Barred lo hi h n c (q + 1) s t
         → Sofar arrive F size ms (k + (7 + 2 * n)) t.log
     so-far coming so t g =
         let pass = passes coming so.story t g in
         let here : Sofar arrive F size ms (k + (7 + 2 * n)) (g.entries ++ s.log) = record {
           way = trail-same g.entries s.log g.each ∙ so.way;
-          story = story-join (Does lo hi (Meets h n c)) (Keeping p h) F inside g.entries s.log g.each pass.story so.story;
+          story = story-join (Does lo hi (MeetUses h n c))
+              (Keeping p h) F inside g.entries s.log g.each pass.story so.story;
           few = omega (arith, pass.work, g.work, so.few);
         } in
         subst (λ (log : List Entry). Sofar arrive F size ms (k + (7 + 2 * n)) log) (sym g.log) here
@@ -114,13 +110,13 @@ module _ (w : World) (p : Program) (h c q link : ℕ) (arrive : ℕ → ℕ → 
       pub regs : (r : ℕ) → r ≢ 2 → r ≢ 3 → r ≢ 4 → get t.regs r ≡ get s.regs r
       pub mem : t.mem ≡ put (put s.mem c (q + 1)) (flag_at h) (q + 1)
 
-    met-runs : Keeps w (Barred lo hi h n c (q + 1) s) (HasMet lo hi h n c (q + 1) s) s
+    met-runs : KeepsUntil w (Barred lo hi h n c (q + 1) s) (HasMet lo hi h n c (q + 1) s) s
     unfolding barrier
     met-runs =
         let code = at_front w.text s.pc (meet h n) (fence ∷ [])
         (at_front w.text s.pc (meet h n ++ (fence ∷ [])) (go_to 1 ∷ []) at) in
         let m : s.mem c + 1 ≡ q + 1 = omega (arith, count) in
-        subst (λ (x : ℕ). Keeps w (Barred lo hi h n c x s) (HasMet lo hi h n c x s) s) m
+        subst (λ (x : ℕ). KeepsUntil w (Barred lo hi h n c x s) (HasMet lo hi h n c x s) s) m
         (meet_runs h n w s c meeting base (omega arith) code)
 
     -- from the last fence on
@@ -180,20 +176,20 @@ module _ (w : World) (p : Program) (h c q link : ℕ) (arrive : ℕ → ℕ → 
         mem = m.mem ∙ ap (λ (x : ℕ). put (put s.mem c (q + 1)) (flag_at h) x) refl;
       }
 
-      returns : At w.text f.pc (go_to 1 ∷ []) → Keeps w Told Through f
+      returns : At w.text f.pc (go_to 1 ∷ []) → KeepsUntil w Told Through f
       returns code =
           keeps_after (takes_map (λ x e. subst Told (sym e)
           (good (ms ++ Exit ∷ []) rest (k + 9 + 2 * n) r.log behind bound so3)) (λ x e. e)
           (return_runs w f link code (m.regs 1 (omega arith) (omega arith) (omega arith) ∙ back) even near))
           (λ x e. keeps_now (subst Through (sym e) through))
 
-      pub from-fence : At w.text u.pc (fence ∷ []) → At w.text f.pc (go_to 1 ∷ []) → Keeps w Told Through u
+      pub from-fence : At w.text u.pc (fence ∷ []) → At w.text f.pc (go_to 1 ∷ []) → KeepsUntil w Told Through u
       from-fence code next =
           keeps_after (takes_map (λ x e. subst Told (sym e) (good (ms ++ Exit ∷ []) rest (k + 8 + 2 * n) f.log behind
           (omega arith) so2)) (λ x e. e) (fence_runs w u code))
-          (λ x e. subst (Keeps w Told Through) (sym e) (returns next))
+          (λ x e. subst (KeepsUntil w Told Through) (sym e) (returns next))
 
-    pub barrier_way : Comes p h q s.log → Sofar arrive F size ms k s.log → Keeps w Told Through s
+    pub barrier_way : Comes p h q s.log → Sofar arrive F size ms k s.log → KeepsUntil w Told Through s
     unfolding barrier
     barrier_way coming so =
         let body = meet h n in

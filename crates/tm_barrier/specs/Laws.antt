@@ -1,16 +1,14 @@
 -- What every run of a barrier's words does, over all values that the flags return (this project's own).
 use Rattle.std.specs.Prelude.{◌≡◌, ◌≢◌, ℕ, zero, suc, ◌+◌, ◌*◌, ◌%◌, ◌^◌, ◌<◌, ◌≤◌, ◌⊎◌, List, [], ◌∷◌, ◌++◌, length}
-use Rattle.std.specs.Prelude.{Bool, true, false, not, ◌&&◌, ◌||◌, ◌==◌, if◌then◌else◌, IsTrue}
+use Rattle.std.specs.Prelude.{Bool, true, false, ◌||◌, if◌then◌else◌, IsTrue}
 use Rattle.tm_table.specs.declared.state.Access.{Access}
 use Rattle.tm_table.specs.declared.state.Access.TheVariants.{Quiet, Read, Write}
 use Rattle.tm_plan_map.specs.Map.{flag_at}
-use Rattle.tm_base.specs.Lists.{any, count_from}
+use Rattle.tm_base.specs.Lists.{any}
 use Rattle.tm_world.specs.Lists.{front_to}
-use Rattle.tm_world.specs.Kinds.{writes_flag}
 use Rattle.tm_world.specs.Course.{is_write, gets}
-use Rattle.tm_world.specs.Work.{gets_less}
 use Rattle.tm_runs.specs.Machine.{Entry, State, World, put, get, moved}
-use Rattle.tm_runs.specs.Runs.{Takes, Keeps, At, Each, Does}
+use Rattle.tm_runs.specs.Runs.{Takes, KeepsUntil, At, Each, Does}
 use Rattle.tm_runs.specs.Course.{Story}
 use Rattle.tm_runs.specs.Phases.{signals_in, is_fence_in, idles_in}
 use Rattle.tm_blocks_base.specs.Laws.{Uses, EachAccess, accesses, RegistersFit}
@@ -27,8 +25,8 @@ pub record IsOtherFlag (h n a : ℕ) : Type 0 where
   pub is : a ≡ flag_at hart
 
 -- The count at c is read and written, hart h's flag written, and the others' flags read.
-abbrev pub Meets : (h n c : ℕ) → Access → Type 0
-Meets h n c = Uses (λ a. (a ≡ c) ⊎ IsOtherFlag h n a) (λ a. (a ≡ c) ⊎ (a ≡ flag_at h))
+abbrev pub MeetUses : (h n c : ℕ) → Access → Type 0
+MeetUses h n c = Uses (λ a. (a ≡ c) ⊎ IsOtherFlag h n a) (λ a. (a ≡ c) ⊎ (a ≡ flag_at h))
 
 -- no access, or a read of another hart's flag
 abbrev pub Looks : (h n : ℕ) → Access → Type 0
@@ -52,7 +50,7 @@ worked test (e ∷ es) = if lately test 4 (e ∷ es) then worked test es else su
 -- An entry of a barrier in which hart h of n signals m, and those before it in the same barrier. Its signal writes m
 -- to the flag with width 8, for the first time, and behind a fence that stands after all writes; behind the signal it
 -- only looks at other flags, and it waits for them only there.
-pub record Keeps-in-step (h n m : ℕ) (before : List Entry) (e : Entry) : Type 0 where
+pub record KeepsInStep (h n m : ℕ) (before : List Entry) (e : Entry) : Type 0 where
   pub value : IsTrue (signals_in h e) → e.access ≡ Write (flag_at h) 8 m
   pub once : IsTrue (signals_in h e) → any (signals_in h) before ≡ false
   pub fence : IsTrue (signals_in h e) → any is_fence_in (front_to (λ t. is_write t.access) before) ≡ true
@@ -63,8 +61,8 @@ pub record Keeps-in-step (h n m : ℕ) (before : List Entry) (e : Entry) : Type 
 pub record Barred (lo hi h n c m : ℕ) (s t : State) : Type 0 where
   pub entries : List Entry
   pub log : t.log ≡ entries ++ s.log
-  pub each : Each (Does lo hi (Meets h n c)) entries
-  pub story : Story (Keeps-in-step h n m) entries
+  pub each : Each (Does lo hi (MeetUses h n c)) entries
+  pub story : Story (KeepsInStep h n m) entries
   pub work : worked (idles_in h n m) entries ≤ 7 + 2 * n
 
 -- ---- the law
@@ -100,7 +98,7 @@ pub record HasMet (lo hi h n c m : ℕ) (s t : State) : Type 0 where
 abbrev pub MeetRuns : (h n : ℕ) → Type 0
 MeetRuns h n = (w : World) (s : State) (c : ℕ) → Meeting w h n c → get s.regs 31 + 256 ≡ c → s.mem c + 1 < 2 ^ 64
     → At w.text s.pc (meet h n)
-    → Keeps w (Barred s.pc (s.pc + 4 * length (meet h n)) h n c (s.mem c + 1) s)
+    → KeepsUntil w (Barred s.pc (s.pc + 4 * length (meet h n)) h n c (s.mem c + 1) s)
     (HasMet s.pc (s.pc + 4 * length (meet h n)) h n c (s.mem c + 1) s) s
 
 -- the state after a step that only goes on

@@ -53,7 +53,7 @@ pub const MOST_WEIGHTS: u32 = 1_000_000;
 /// The most bytes of a word of a text that is read.
 pub const WORD_BYTES: usize = 64;
 
-/// The most bytes of a name of a body or a case.
+/// The most bytes of a template's or a case's name.
 pub const NAME_BYTES: usize = 16;
 
 /// The most words of a program's text.
@@ -76,12 +76,6 @@ pub const TEMPLATE_BYTES: u64 = 1_048_576;
 
 /// The most bytes of an image's file.
 pub const IMAGE_BYTES: u64 = 16_777_216;
-
-/// The most bytes of a fault script's file.
-pub const SCRIPT_BYTES: u64 = 65_536;
-
-/// The most bytes of a trace's file that is read.
-pub const TRACE_BYTES: u64 = 268_435_456;
 
 /// The most events that a run may ask for.
 pub const MOST_EVENTS: u64 = 100_000_000;

@@ -7,7 +7,7 @@ use Rattle.std.proofs.lemmas.Bool.{cases_lt, eqb-true, eqb-false}
 use Rattle.std.proofs.lemmas.Nat.{and_shr, xor_shr, and_mod, xor_mod, and_mask, and_le_l, and_le_r}
 use Rattle.tm_world.specs.Place.{byte_of}
 use Rattle.tm_runs.proofs.Bytes.{byte-shift, byte-lt, same_dword}
-use Rattle.tm_blocks_base.specs.Verdict.{differs, verdict_number, Agrees, IsMask, NamesLeast}
+use Rattle.tm_blocks_base.specs.Verdict.{differs, verdict_number, Agrees, IsMaskDword, NamesLeast}
 use Rattle.tm_blocks_base.proofs.Verdicts.{dword_same, dword_other, register_unchecked, register_same, register_other}
 use Rattle.tm_blocks_base.proofs.Verdicts.{unset, set, number_map, verdict_is}
 
@@ -56,7 +56,7 @@ bytes_of_masked a b m none l full =
     same_of_xor (byte_of a l) (byte_of b l) (omega arith)
 
 -- and back, for masks of whole bytes
-pub masked_of_bytes : (a b m : ℕ) → IsMask m → ((l : ℕ) → l < 8 → byte_of m l ≡ 255 → byte_of a l ≡ byte_of b l)
+pub masked_of_bytes : (a b m : ℕ) → IsMaskDword m → ((l : ℕ) → l < 8 → byte_of m l ≡ 255 → byte_of a l ≡ byte_of b l)
     → bit_and (bit_xor a b) m ≡ 0
 masked_of_bytes a b m is h =
     let le = and_le_r (bit_xor a b) m in
@@ -96,7 +96,7 @@ module _ (M : ℕ) (mask a b : ℕ → ℕ) where
           absurd (true≢false (sym (ap (differs M mask a b) is ∙ other) ∙ same))
 
   -- and back, where the masks are of whole bytes
-  pub agrees_not : (i : ℕ) → ((j : ℕ) → i ≡ 30 + j → IsMask (mask j)) → Agrees M mask a b i → differs M mask a b i
+  pub agrees_not : (i : ℕ) → ((j : ℕ) → i ≡ 30 + j → IsMaskDword (mask j)) → Agrees M mask a b i → differs M mask a b i
       ≡ false
   agrees_not i masks h = by (cases_lt i 30)
     where

@@ -40,10 +40,10 @@ pub record Agrees (registers : ℕ) (mask a b : ℕ → ℕ) (i : ℕ) : Type 0 
   pub bytes : (j l : ℕ) → i ≡ 30 + j → l < 8 → byte_of (mask j) l ≡ 255 → byte_of (a i) l ≡ byte_of (b i) l
 
 -- each byte of a dword is 0 or 255
-abbrev pub IsMask : ℕ → Type 0
-IsMask m = (m < 2 ^ 64) × ((l : ℕ) → l < 8 → (byte_of m l ≡ 0) ⊎ (byte_of m l ≡ 255))
+abbrev pub IsMaskDword : ℕ → Type 0
+IsMaskDword m = (m < 2 ^ 64) × ((l : ℕ) → l < 8 → (byte_of m l ≡ 0) ⊎ (byte_of m l ≡ 255))
 
 -- the number of any two saved states is the verdict on them, by registers and bytes
 abbrev pub NamesLeast : (k n : ℕ) → Type 0
-NamesLeast k n = (registers : ℕ) (mask a b : ℕ → ℕ) → ((j : ℕ) → j < n → IsMask (mask j))
+NamesLeast k n = (registers : ℕ) (mask a b : ℕ → ℕ) → ((j : ℕ) → j < n → IsMaskDword (mask j))
     → IsNumber (Agrees registers mask a b) k (30 + n) (verdict_number registers mask a b k n)

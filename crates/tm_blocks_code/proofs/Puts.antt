@@ -8,7 +8,7 @@ use Rattle.tm_table.specs.declared.instr.Instr.{Instr}
 use Rattle.tm_base.specs.Lists.{count_from}
 use Rattle.tm_asm.specs.Sheet.{Sheet, puts}
 use Rattle.tm_asm.proofs.Append.{puts-none, puts-then}
-use Rattle.tm_blocks_base.proofs.Lists.{count_from-suc}
+use Rattle.tm_base.proofs.ListLemmas.{count_from-suc}
 
 -- no instruction, and one before all others
 pub puts_none : (s : Sheet) (l : List Instr) → length l < 1 → s ≡ puts s l

@@ -9,7 +9,8 @@ use Rattle.tm_plan_cases.specs.declared.cases.Cases.{Cases}
 use Rattle.tm_plan_map.specs.Map.{windows_base}
 use Rattle.tm_plan_cases.specs.Collected.{owned}
 use Rattle.tm_runs.specs.Machine.{Table}
-use Rattle.tm_blocks_base.specs.Verdict.{differs, first_from, above, verdict_number, IsNumber, agree, differ, IsMask}
+use Rattle.tm_blocks_base.specs.Verdict.{differs, first_from, above, verdict_number, IsNumber, agree, differ}
+use Rattle.tm_blocks_base.specs.Verdict.{IsMaskDword}
 use Rattle.tm_blocks_base.specs.Verdict.{Agrees}
 use Rattle.tm_blocks_base.proofs.Masks.{verdict_agrees}
 use Rattle.tm_blocks_compare.specs.Numbers.{either, first_register, first_dword, first_of_pass, verdict_from}
@@ -118,7 +119,7 @@ above-is k zero = refl
 above-is k (suc f) = ap (λ (c : Bool). if c then 0 else k * 2 ^ 32 + suc f) (ne_eqb (suc f) 0 (λ e. omega arith))
 
 module _ (mem : Table) (M p : ℕ) (rs : List ℕ) (K : ℕ) (fine : (j : ℕ) → j < length rs
-    → IsMask (mem (slice_index rs j))) where
+    → IsMaskDword (mem (slice_index rs j))) where
   abbrev Same : ℕ → ℕ → Type 0
   Same k i = Agrees M (λ j. mem (slice_index rs j)) (λ l. mem (p + 8 * l)) (λ l. mem (p + 8192 * k + 8 * l)) i
 

@@ -1,25 +1,19 @@
 -- What a comparison takes stands in the hart's private area and in the tables.
-use Rattle.std.proofs.Common.{◌≡◌, ℕ, zero, suc, ◌+◌, ◌-◌, ◌*◌, ◌%◌, ◌<◌, ◌≤◌, List, [], ◌∷◌, length, map, Bool, true}
-use Rattle.std.proofs.Common.{false, ◌||◌, refl, ap, arith}
+use Rattle.std.proofs.Common.{◌≡◌, ℕ, zero, suc, ◌+◌, ◌-◌, ◌*◌, ◌%◌, ◌<◌, ◌≤◌, List, [], ◌∷◌, length, map, Bool}
+use Rattle.std.proofs.Common.{◌||◌, ap, arith}
 use Rattle.std.specs.Prelude.{slice_index}
-use Rattle.std.proofs.lemmas.Bool.Decides.{nat_tests}
 use Rattle.std.proofs.Math.Nat.{mul-le-mul_left}
+use Rattle.std.proofs.lemmas.Bool.{or_right}
 use Rattle.tm_plan_cases.specs.declared.program.Program.{Program}
 use Rattle.tm_plan_map.specs.Map.{guest_base, guest_end, text_base, tables_base, windows_base, private_at}
 use Rattle.tm_plan_map.specs.Map.{private_size, save_at, table_at}
 use Rattle.tm_plan_cases.specs.Collected.{owned}
 use Rattle.tm_runs.specs.World.{world_of, holds, is_fixed_dword, is_private_dword}
 use Rattle.tm_runs.proofs.Places.{guest-true}
-use Rattle.tm_blocks_move.proofs.Places.{IsDword, Dwords, owned-dwords, owned-short}
+use Rattle.tm_runs.proofs.Worlds.{holds-is}
+use Rattle.tm_plan_owned.proofs.Collected.{IsDword, Dwords, owned-dwords, owned-short}
 use Rattle.tm_blocks_compare.specs.Words.{case_masks, case_bytes}
 use Rattle.tm_blocks_compare.specs.Runs.{IsKept, ComparingIn}
-
-or-right : (a b : Bool) → b ≡ true → (a || b) ≡ true
-or-right true b e = refl
-or-right false b e = e
-
-holds-at : (base n a : ℕ) → base ≤ a → a + 8 ≤ base + n → holds base n a ≡ true
-holds-at base n a x y = grind (arith, nat_tests)
 
 module _ (p : Program) (h : ℕ) (low : h < 16) where
   kept-private : (a : ℕ) → a % 8 ≡ 0 → private_at h ≤ a → a + 8 ≤ private_at h + private_size → IsKept (world_of p h) a
@@ -27,7 +21,7 @@ module _ (p : Program) (h : ℕ) (low : h < 16) where
   kept-private a al x y = record {
     may = (al, guest-true a (omega arith) (omega arith));
     low = omega arith;
-    own = ap (λ (b : Bool). b || is_fixed_dword p a) (holds-at (private_at h) private_size a x y);
+    own = ap (λ (b : Bool). b || is_fixed_dword p a) (holds-is (private_at h) private_size a x y);
   }
 
   kept-table : (a : ℕ) → length p.tables ≤ 4194304 → a % 8 ≡ 0 → tables_base ≤ a → a + 8 ≤ tables_base + length p.tables
@@ -36,8 +30,8 @@ module _ (p : Program) (h : ℕ) (low : h < 16) where
   kept-table a few al x y = record {
     may = (al, guest-true a (omega arith) (omega arith));
     low = omega arith;
-    own = or-right (is_private_dword h a) _ (or-right (holds text_base (4 * length p.text) a) _
-        (holds-at tables_base (length p.tables) a x y));
+    own = or_right (is_private_dword h a) _ (or_right (holds text_base (4 * length p.text) a) _
+        (holds-is tables_base (length p.tables) a x y));
   }
 
 -- the masks of dwords of the windows

@@ -10,7 +10,7 @@ use Rattle.tm_runs.specs.Runs.{Takes, At, Within}
 use Rattle.tm_runs.specs.World.{Sizes, world_of}
 use Rattle.tm_blocks_base.specs.Laws.{Uses, Nowhere, RegistersFit}
 use Rattle.tm_blocks_compare.specs.Words.{compare_all_but_last, case_masks, case_bytes}
-use Rattle.tm_blocks_base.specs.Verdict.{Agrees, IsMask}
+use Rattle.tm_blocks_base.specs.Verdict.{Agrees, IsMaskDword}
 use Rattle.tm_blocks_compare.specs.Numbers.{verdict_from, IsNumberOfAll}
 
 -- where the masks of the dwords stand that hart h collects
@@ -63,7 +63,7 @@ SameIn mem cases h first masks bytes k i = Agrees (mem masks) (λ j. mem (slice_
 -- the verdict names the least pass, and in it the least dword, that differs
 abbrev pub NamesLeastOfAll : Cases → (h first masks bytes : ℕ) → Type 0
 NamesLeastOfAll cases h first masks bytes = (mem : Table) → 2 ≤ cases.passes → ((j : ℕ) → j < length (owned cases h)
-    → IsMask (mem (slice_index (mask_addresses cases h bytes) j)))
+    → IsMaskDword (mem (slice_index (mask_addresses cases h bytes) j)))
     → IsNumberOfAll (SameIn mem cases h first masks bytes) cases.passes (30 + length (owned cases h))
     (verdict_of_all mem cases h first masks bytes)
 

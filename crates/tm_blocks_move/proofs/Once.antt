@@ -2,9 +2,9 @@
 use Rattle.std.specs.Prelude.{filter, cond, map}
 use Rattle.std.proofs.lemmas.List.{append_cancel_right}
 use Rattle.std.proofs.Common.{◌==◌, ◌≡◌, ℕ, zero, suc, ◌+◌, ◌*◌, ◌%◌, ◌≤◌, List, [], ◌∷◌, ◌++◌, Bool, true, false}
-use Rattle.std.proofs.Common.{true≢false, ◌&&◌, ◌||◌, nat_lt, inl, inr, refl, sym, ap, ap₂, ◌∙◌, subst, arith}
+use Rattle.std.proofs.Common.{true≢false, ◌&&◌, ◌||◌, inl, inr, refl, sym, ap, ap₂, ◌∙◌, subst, arith}
 use Rattle.std.proofs.Common.{append_assoc}
-use Rattle.std.proofs.lemmas.Bool.{and_parts, ltb-true, lt-ltb, le-ltb}
+use Rattle.std.proofs.lemmas.Bool.{lt-ltb, le-ltb}
 use Rattle.tm_table.specs.declared.state.Access.{Access}
 use Rattle.tm_table.specs.declared.state.Access.TheVariants.{Quiet, Read, Write}
 use Rattle.tm_plan_cases.specs.declared.cases.Cases.{Cases}
@@ -12,10 +12,12 @@ use Rattle.tm_plan_map.specs.Map.{windows_base}
 use Rattle.tm_plan_cases.specs.Collected.{is_declared, collector, window_dwords, owned}
 use Rattle.tm_base.specs.Lists.{any, count_from}
 use Rattle.tm_world.specs.Course.{reads_in}
+use Rattle.tm_world.proofs.Accesses.{one-dword}
 use Rattle.tm_runs.specs.Machine.{World, State, Entry, Table}
 use Rattle.tm_runs.proofs.Ahead.{takes_told}
 use Rattle.tm_runs.proofs.Compose.{takes_map}
 use Rattle.tm_blocks_base.specs.Laws.{with_access, accesses}
+use Rattle.tm_blocks_base.proofs.Lists.{accesses-append}
 use Rattle.tm_blocks_move.specs.Laws.{Among, Move, Moves, moved_accesses}
 use Rattle.tm_blocks_move.specs.Lines.{collect_moves}
 use Rattle.tm_blocks_move.specs.Runs.{all_collected}
@@ -29,14 +31,6 @@ past-append R base (x ∷ xs) ys f g = (
   subst (λ (l : List Access). R l x) (sym (append_assoc xs ys base)) f.0,
   past-append R base xs ys f.1 g,
 )
-
--- dwords of 8 bytes that overlap are the same
-overlap : (a b v : ℕ) → a % 8 ≡ 0 → b % 8 ≡ 0 → reads_in a 8 (Read b 8 v) ≡ true → b ≡ a
-overlap a b v x y h =
-    let p = and_parts (nat_lt b (a + 8)) (nat_lt a (b + 8)) h in
-    let q = ltb-true b (a + 8) p.0 in
-    let r = ltb-true a (b + 8) p.1 in
-    omega arith
 
 abbrev Aligned : List ℕ → Type 0
 Aligned dwords = (a : ℕ) → Among a dwords → a % 8 ≡ 0
@@ -59,7 +53,7 @@ moves-once w dwords al (m ∷ ms) (v ∷ vs) mem base h f =
       (λ a i r. absurd (true≢false (sym r))),
       (
         (λ a i r.
-            let same : m.0 ≡ a = overlap a m.0 v (al a i) f.0 r in (
+            let same : m.0 ≡ a = one-dword a m.0 v (al a i) f.0 r in (
               (v, ap (λ (x : ℕ). Read x 8 v) same),
               subst (λ (x : ℕ). any (reads_in x 8) base
                   ≡ false) same (f.1 (subst (λ (x : ℕ). Among x dwords) (sym same) i)),
@@ -126,16 +120,6 @@ rising-both zero j b save q x z xs al l m h =
     subst (Rising x) (sym (sources-collect xs q)) (rising-low x z xs (omega arith) h)
 rising-both (suc n) j b save q x z xs al l m h =
     (omega arith, l, rising-both n (suc j) b save q (b + 8 * j + 8) z xs al (omega arith) (omega arith) h)
-
-accesses-append : (xs ys : List Entry) → accesses (xs ++ ys) ≡ accesses xs ++ accesses ys
-accesses-append [] ys = refl
-accesses-append (x ∷ xs) ys = by x.access (accesses-append xs ys)
-  where
-    by : (a : Access) → accesses (xs ++ ys) ≡ accesses xs ++ accesses ys → with_access a (accesses (xs ++ ys))
-        ≡ with_access a (accesses xs) ++ accesses ys
-    by Quiet e = e
-    by (Read a n v) e = ap (λ (l : List Access). Read a n v ∷ l) e
-    by (Write a n v) e = ap (λ (l : List Access). Write a n v ∷ l) e
 
 once-tail : (cases : Cases) (h : ℕ) (s : State) (e : Entry) (log : List Entry) → ReadOnce cases h s (e ∷ log)
     → ReadOnce cases h s log

@@ -1,47 +1,16 @@
 -- The moves may be made in the world of each hart.
-use Rattle.std.proofs.Common.{◌≡◌, ℕ, zero, suc, ◌+◌, ◌-◌, ◌*◌, ◌%◌, ◌&&◌, ◌==◌, ◌≤◌, List, [], ◌∷◌, ◌++◌, length}
+use Rattle.std.proofs.Common.{◌≡◌, ℕ, zero, suc, ◌+◌, ◌-◌, ◌*◌, ◌%◌, ◌≤◌, List, [], ◌∷◌, ◌++◌, length}
 use Rattle.std.proofs.Common.{map, Bool, true, false, refl, arith}
-use Rattle.std.specs.Prelude.{filter, cond}
 use Rattle.tm_plan_cases.specs.declared.program.Program.{Program}
 use Rattle.tm_plan_map.specs.Map.{guest_base, guest_end, windows_base, windows_size, private_at, save_at}
-use Rattle.tm_plan_cases.specs.Collected.{is_declared, collector, window_dwords, owned}
+use Rattle.tm_plan_cases.specs.Collected.{owned}
 use Rattle.tm_base.specs.Lists.{count_from}
+use Rattle.tm_plan_owned.proofs.Collected.{Dwords, owned-dwords, owned-short}
 use Rattle.tm_runs.specs.World.{Sizes, world_of, is_fixed_dword}
 use Rattle.tm_runs.proofs.Places.{fixed-place, guest-true}
 use Rattle.tm_blocks_move.specs.Laws.{Move, Movable, EachMove, line_moves}
 use Rattle.tm_blocks_move.specs.Lines.{set_moves, collect_moves}
 use Rattle.tm_blocks_move.specs.Runs.{FitsIn}
-
--- a dword of the windows
-pub record IsDword (a : ℕ) : Type 0 where
-  pub low : 2162688000 ≤ a
-  pub high : a + 8 ≤ 2162694144
-  pub aligned : a % 8 ≡ 0
-
-abbrev pub Dwords : List ℕ → Type 0
-Dwords [] = Unit {0}
-Dwords (a ∷ rest) = IsDword a × Dwords rest
-
-dwords-filter : (test : ℕ → Bool) (xs : List ℕ) → Dwords xs → Dwords (filter test xs)
-dwords-filter test [] h = tt
-dwords-filter test (x ∷ xs) h = by (test x) (dwords-filter test xs h.1)
-  where
-    by : (b : Bool) → Dwords (filter test xs) → Dwords (cond b (x ∷ filter test xs) (filter test xs))
-    by true r = (h.0, r)
-    by false r = r
-
-dwords-from : (n a : ℕ) → a + n ≤ 768 → Dwords (map (λ q. windows_base + 8 * q) (count_from a n))
-unfolding windows_base
-dwords-from zero a l = tt
-dwords-from (suc n) a l = (
-  record { low = omega arith; high = omega arith; aligned = omega arith },
-  dwords-from n (suc a) (omega arith),
-)
-
-pub owned-dwords : (p : Program) (h : ℕ) → Dwords (owned p.cases h)
-unfolding owned window_dwords
-owned-dwords p h = dwords-filter (λ a. is_declared p.cases a && (collector p.cases a == h))
-    (map (λ q. windows_base + 8 * q) (count_from 0 768)) (dwords-from 768 0 (omega arith))
 
 free-at : (p : Program) (a : ℕ) → Sizes p → 2160066560 ≤ a → is_fixed_dword p a ≡ false
 free-at p a s l = by (is_fixed_dword p a) refl
@@ -94,29 +63,6 @@ module _ (p : Program) (h : ℕ) (s : Sizes p) where
 both : (P' : Move → Type 0) (xs ys : List Move) → EachMove P' xs → EachMove P' ys → EachMove P' (xs ++ ys)
 both P' [] ys a b = b
 both P' (x ∷ xs) ys a b = (a.0, both P' xs ys a.1 b)
-
-filter-short : (test : ℕ → Bool) (xs : List ℕ) → length (filter test xs) ≤ length xs
-filter-short test [] = omega arith
-filter-short test (x ∷ xs) = by (test x) (filter-short test xs)
-  where
-    by : (b : Bool) → length (filter test xs) ≤ length xs → length (cond b (x ∷ filter test xs) (filter test xs))
-        ≤ suc (length xs)
-    by true l = omega arith
-    by false l = omega arith
-
-length-from : (f : ℕ → ℕ) (n a : ℕ) → length (map f (count_from a n)) ≤ n
-length-from f zero a = omega arith
-length-from f (suc n) a = let l = length-from f n (suc a) in omega arith
-
-pub owned-short : (p : Program) (h : ℕ) → length (owned p.cases h) ≤ 768
-unfolding owned window_dwords
-owned-short p h =
-    omega (
-      arith,
-      filter-short (λ a. is_declared p.cases a && (collector p.cases a == h))
-          (map (λ q. windows_base + 8 * q) (count_from 0 768)),
-      length-from (λ q. windows_base + 8 * q) 768 0,
-    )
 
 pub fits_in : (p : Program) (h : ℕ) → FitsIn p h
 unfolding private_at save_at guest_base guest_end

@@ -7,7 +7,7 @@ use Rattle.tm_plan_cases.specs.declared.program.Program.{Program}
 use Rattle.tm_plan_map.specs.Map.{guest_base, text_base, tables_base}
 use Rattle.tm_plan_cases.specs.Shaped.{IsProgram}
 use Rattle.tm_ram.specs.Region.{Region}
-use Rattle.tm_runs.proofs.Bytes.{within-true, within-false}
+use Rattle.tm_plan_map.proofs.Within.{within-true, within-false}
 use Rattle.tm_world.specs.Place.{byte_of, image_byte, is_text, is_table}
 use Rattle.tm_guest.specs.Memory.{IsGuestRegion, byte_at}
 use Rattle.tm_guest.specs.Fields.{IsMemory}

@@ -13,7 +13,7 @@ use Rattle.tm_world.specs.Work.{NeverStuck}
 use Rattle.tm_guest.specs.declared.decoded.Decoded.{Decoded}
 use Rattle.tm_guest.specs.declared.hart.HartState.{HartState}
 use Rattle.tm_world.specs.Replay.{opening, steps_of}
-use Rattle.tm_guest.specs.Fields.{AreDecoded, IsMemory, Keeps}
+use Rattle.tm_guest.specs.Fields.{AreDecoded, IsMemory, KeepsReplay}
 use Rattle.tm_guest.specs.Start.{AreOpened}
 
 opening-fits : (h r : ℕ) → h < 2 ^ 64 → get_or (set (replicate 32 0) 10 h) r 0 < 2 ^ 64
@@ -35,7 +35,7 @@ is-opening h l = record { count = refl; fits = λ r. opening-fits h r l; zero = 
 pub keeps-fresh : (p : Program) (lines : List FaultLine) (limit : ℕ) (decodes : List Decoded) (states : List HartState)
     (r : Region) → IsProgram p → lines ≡ [] → NeverStuck p lines → limit ≤ 100000000 → AreDecoded p.text decodes
     → AreOpened p.cases.harts states → IsMemory p [] r
-    → Keeps p lines limit decodes states r (record { events = []; room = limit })
+    → KeepsReplay p lines limit decodes states r (record { events = []; room = limit })
 unfolding steps_of
 keeps-fresh p lines limit decodes states r shaped none never few rows opened memory = record {
   program = shaped;

@@ -11,7 +11,7 @@ use Rattle.tm_table.specs.Row.{row, row_word}
 use Rattle.tm_plan_map.specs.Map.{text_base}
 use Rattle.tm_plan_map.specs.Slots.{instr_of}
 use Rattle.tm_plan_cases.specs.declared.program.Program.{Program}
-use Rattle.tm_runs.proofs.Places.{within-parts}
+use Rattle.tm_plan_map.proofs.Within.{within-parts}
 use Rattle.tm_runs.proofs.Rows.{row-decoded, decoded-row}
 use Rattle.tm_world.specs.Place.{is_text, word_at}
 use Rattle.tm_world.specs.Kinds.{IsPossible}

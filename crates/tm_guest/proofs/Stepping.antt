@@ -21,7 +21,7 @@ use Rattle.tm_guest.specs.Guested.{Guested, run, steps, state, IsHalted}
 use Rattle.tm_guest.specs.Turns.{IsNextEvent}
 use Rattle.tm_guest.specs.Waiting.{phase_after, signalled_after}
 use Rattle.tm_guest.specs.Memory.{owed_of, IsWritten}
-use Rattle.tm_guest.specs.Fields.{IsRow, IsState, AreStates, IsMemory, Keeps}
+use Rattle.tm_guest.specs.Fields.{IsRow, IsState, AreStates, IsMemory, KeepsReplay}
 use Rattle.tm_memory.proofs.Keeping.{no-lines}
 use Rattle.tm_memory.proofs.NoLines.{plain-where, by_row, stepped-row, opened, plain-more}
 use Rattle.tm_world.proofs.Replaying.{steps-more, length-steps}
@@ -91,7 +91,7 @@ shown p lines limit j = record { program = p; faults = lines; limit = limit; jou
 -- its journal is a plain run
 pub plain-shown : (v : Guested) (p : Program) (lines : List FaultLine) (limit : ℕ) (decodes : List Decoded)
     (states : List HartState) (r : Region) (j : Journaled) → shown p lines limit j ≡ v
-    → Keeps p lines limit decodes states r j → v.faults ≡ [] → Plain v.program (run v)
+    → KeepsReplay p lines limit decodes states r j → v.faults ≡ [] → Plain v.program (run v)
 plain-shown v p lines limit decodes states r j is k none =
     plain-where v.program v.faults (run v)
     (subst (λ (g : Guested). FaultedRun g.program g.faults (run g)) is k.goes_on) none
@@ -101,7 +101,7 @@ abbrev pub longer : Journaled → Event → Journaled
 longer j e = record { events = j.events ++ e ∷ []; room = j.room }
 
 module _ (p : Program) (limit h : ℕ) (decodes : List Decoded) (states : List HartState) (r : Region) (j : Journaled)
-    (k : Keeps p [] limit decodes states r j) (l : h < harts p) (off : ¬ IsHalted (shown p [] limit j) h)
+    (k : KeepsReplay p [] limit decodes states r j) (l : h < harts p) (off : ¬ IsHalted (shown p [] limit j) h)
     (at : Decoded) (e : Event) (next : Hart) (f : IsRow p (state (shown p [] limit j) h) at)
     (a : Acts h (state (shown p [] limit j) h) at r e next) where
   abbrev Past : List Step
@@ -125,7 +125,7 @@ module _ (p : Program) (limit h : ℕ) (decodes : List Decoded) (states : List H
 
   more : (old new : HartState) (t : Region) → length j.events < limit → old ≡ get_or states h old
       → next ≡ hart_in new.cpu → Leaves p h old r e new t
-      → Keeps p [] limit decodes (set states h new) t (longer j e)
+      → KeepsReplay p [] limit decodes (set states h new) t (longer j e)
   more old new t room was is left = record {
     program = k.program;
     none = k.none;
@@ -147,7 +147,7 @@ module _ (p : Program) (limit h : ℕ) (decodes : List Decoded) (states : List H
 -- What a guest keeps of a hart is what its journal tells.
 pub state-shown : (v : Guested) (p : Program) (lines : List FaultLine) (limit h : ℕ) (decodes : List Decoded)
     (states : List HartState) (r : Region) (j : Journaled) (old : HartState) → shown p lines limit j ≡ v
-    → Keeps p lines limit decodes states r j → h < harts v.program → old ≡ get_or states h old
+    → KeepsReplay p lines limit decodes states r j → h < harts v.program → old ≡ get_or states h old
     → IsState v.program (steps v) h old
 state-shown v p lines limit h decodes states r j old is k below was =
     let l : h < harts p = subst (λ (g : Guested). h < harts g.program) (sym is) below in
@@ -157,7 +157,7 @@ state-shown v p lines limit h decodes states r j old is k below was =
 -- Its phase can be counted.
 pub phase-shown : (v : Guested) (p : Program) (lines : List FaultLine) (limit h : ℕ) (decodes : List Decoded)
     (states : List HartState) (r : Region) (j : Journaled) (old : HartState) → shown p lines limit j ≡ v
-    → Keeps p lines limit decodes states r j → h < harts v.program → old ≡ get_or states h old
+    → KeepsReplay p lines limit decodes states r j → h < harts v.program → old ≡ get_or states h old
     → old.phase + 1 < 2 ^ 64
 phase-shown v p lines limit h decodes states r j old is k below was =
     let l : h < harts p = subst (λ (g : Guested). h < harts g.program) (sym is) below in
@@ -169,7 +169,7 @@ phase-shown v p lines limit h decodes states r j old is k below was =
 -- A hart that isn't at halt finds its row.
 pub finds-row : (v : Guested) (p : Program) (lines : List FaultLine) (limit h : ℕ) (decodes : List Decoded)
     (states : List HartState) (r : Region) (j : Journaled) (old : HartState) → shown p lines limit j ≡ v
-    → Keeps p lines limit decodes states r j → h < harts v.program → old ≡ get_or states h old → (¬ IsHalted v h)
+    → KeepsReplay p lines limit decodes states r j → h < harts v.program → old ≡ get_or states h old → (¬ IsHalted v h)
     → Finds v.program (hart_in old.cpu) decodes
 finds-row v p lines limit h decodes states r j old is k below was off =
     let l : h < harts p = subst (λ (g : Guested). h < harts g.program) (sym is) below in
@@ -183,7 +183,7 @@ finds-row v p lines limit h decodes states r j old is k below was off =
 
 module _ (v : Guested) (p : Program) (lines : List FaultLine) (limit h : ℕ) (decodes : List Decoded)
     (states : List HartState) (r : Region) (j : Journaled) (is : shown p lines limit j ≡ v)
-    (k : Keeps p lines limit decodes states r j) (below : h < harts v.program) (off : ¬ IsHalted v h) (at : Decoded)
+    (k : KeepsReplay p lines limit decodes states r j) (below : h < harts v.program) (off : ¬ IsHalted v h) (at : Decoded)
     (row : IsRow v.program (state v h) at) (e : Event) (next : Hart) (a : Acts h (state v h) at r e next) where
   in-harts : h < harts p
   in-harts = subst (λ (g : Guested). h < harts g.program) (sym is) below
@@ -192,8 +192,8 @@ module _ (v : Guested) (p : Program) (lines : List FaultLine) (limit h : ℕ) (d
   without : (P : Guested → Type 0) → P v → P (shown p [] limit j)
   without P given = subst (λ (ls : List FaultLine). P (shown p ls limit j)) k.none (subst P (sym is) given)
 
-  keeps-none : Keeps p [] limit decodes states r j
-  keeps-none = subst (λ (ls : List FaultLine). Keeps p ls limit decodes states r j) k.none k
+  keeps-none : KeepsReplay p [] limit decodes states r j
+  keeps-none = subst (λ (ls : List FaultLine). KeepsReplay p ls limit decodes states r j) k.none k
 
   off-halt : ¬ IsHalted (shown p [] limit j) h
   off-halt = without (λ g. ¬ IsHalted g h) off
@@ -216,9 +216,9 @@ module _ (v : Guested) (p : Program) (lines : List FaultLine) (limit h : ℕ) (d
   -- What a guest keeps after it.
   pub turned : (old new : HartState) (t : Region) → length v.journal < v.limit → old ≡ get_or states h old
       → next ≡ hart_in new.cpu → Leaves p h old r e new t
-      → Keeps p lines limit decodes (set states h new) t (longer j e)
+      → KeepsReplay p lines limit decodes (set states h new) t (longer j e)
   turned old new t room was same left =
       let few = subst (λ (g : Guested). length g.journal < g.limit) (sym is) room in
-      subst (λ (ls : List FaultLine). Keeps p ls limit decodes (set states h new) t (longer j e)) (sym k.none)
+      subst (λ (ls : List FaultLine). KeepsReplay p ls limit decodes (set states h new) t (longer j e)) (sym k.none)
       (more p limit h decodes states r j keeps-none in-harts off-halt at e next is-row acts old new t few was same
       left)

@@ -1,8 +1,7 @@
 -- Which hart waits.
-use Rattle.std.proofs.Common.{◌≡◌, ℕ, zero, suc, ◌+◌, ◌<◌, ◌≤◌, Bool, true, false, ◌&&◌, ◌||◌, ◌==◌, not, ◌⊎◌, inl}
-use Rattle.std.proofs.Common.{inr, sym, ap, ◌∙◌, subst, arith}
+use Rattle.std.proofs.Common.{◌≡◌, ℕ, ◌+◌, Bool, true, ◌&&◌, ◌==◌, not}
+use Rattle.std.proofs.Common.{sym, ap, ◌∙◌, subst}
 use Rattle.std.specs.Prelude.{◌↔◌, IsTrue}
-use Rattle.std.proofs.lemmas.Bool.{cases_eq}
 use Rattle.tm_base.specs.Lists.{any, count_from}
 use Rattle.tm_table.specs.declared.state.Access.{Access}
 use Rattle.tm_plan_map.specs.Map.{flag_at}
@@ -16,21 +15,6 @@ use Rattle.tm_guest.specs.Guested.{Guested, steps, IsHalted}
 use Rattle.tm_guest.specs.Turns.{IsNextEvent}
 use Rattle.tm_guest.specs.Waiting.{IsIdle, Waits}
 use Rattle.tm_guest.proofs.Unique.{one-next}
-
-or-true : (b : Bool) → (b || true) ≡ true
-or-true true = λ i. true
-or-true false = λ i. true
-
--- one of the numbers passes the test
-pub any-some : (test : ℕ → Bool) (n a g : ℕ) → a ≤ g → g < a + n → test g ≡ true
-    → any test (count_from a n) ≡ true
-any-some test zero a g l m t = absurd (omega arith)
-any-some test (suc n) a g l m t = by (cases_eq a g) (λ k. any-some test n (suc a) g k (omega arith) t)
-  where
-    by : (a ≡ g) ⊎ (a ≡ g → ⊥) → (suc a ≤ g → any test (count_from (suc a) n) ≡ true)
-        → (test a || any test (count_from (suc a) n)) ≡ true
-    by (inl e) more = ap (λ (b : Bool). b || any test (count_from (suc a) n)) (ap test e ∙ t)
-    by (inr ne) more = ap (λ (b : Bool). test a || b) (more (omega arith)) ∙ or-true (test a)
 
 -- The access reads the flag of one of n harts but h, and finds less than most.
 abbrev pub finds_low : ℕ → ℕ → ℕ → Access → Bool

@@ -60,7 +60,7 @@ pub record IsMemory (p : Program) (steps : List Step) (r : Region) : Type 0 wher
 
 -- The fields of a guest: its state is what replaying its journal gives, and its journal is a run that the script has
 -- changed. So far the script has no lines.
-pub record Keeps (p : Program) (lines : List FaultLine) (limit : ℕ) (decodes : List Decoded) (states : List HartState)
+pub record KeepsReplay (p : Program) (lines : List FaultLine) (limit : ℕ) (decodes : List Decoded) (states : List HartState)
     (ram : Region) (journal : Journaled) : Type 0 where
   pub program : IsProgram p
   pub none : lines ≡ []

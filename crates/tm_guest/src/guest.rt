@@ -46,7 +46,7 @@ pub struct Guest<'a> {
 
 impl<'a> Model for Guest<'a> {
     ghost use Rattle.tm_guest.specs.Guested.{Guested};
-    ghost use Rattle.tm_guest.specs.Fields.{Keeps};
+    ghost use Rattle.tm_guest.specs.Fields.{KeepsReplay};
 
     ghost Value = { Guested };
 
@@ -58,7 +58,7 @@ impl<'a> Model for Guest<'a> {
     } };
 
     ghost invariant = { λ g.
-        Keeps g.program.now g.faults g.limit g.decodes.items g.harts.items g.ram g.journal };
+        KeepsReplay g.program.now g.faults g.limit g.decodes.items g.harts.items g.ram g.journal };
 }
 
 impl<'a> Guest<'a> {

@@ -18,7 +18,7 @@ use Rattle.tm_world.specs.Sound.{Sound}
 use Rattle.tm_gen.specs.Gen.{gen_of}
 use Rattle.tm_gen.proofs.ShapedLemmas.{gen-shaped}
 use Rattle.tm_race.specs.Exact.{masks_of}
-use Rattle.tm_pass_steps.specs.Hart.{IsBuilt, blocks_of}
+use Rattle.tm_pass_text.specs.Hart.{IsBuilt, blocks_of}
 use Rattle.tm_pass_place.specs.Built.{built, marks_in}
 use Rattle.tm_pass_place.specs.Range.{HaveWords, IsInRange}
 use Rattle.tm_pass_place.proofs.Built.{cases-built}

@@ -7,24 +7,18 @@ use Rattle.std.proofs.lemmas.Bool.{true≢false, cases_lt, or_cases, or_from, or
 use Rattle.tm_plan_cases.specs.declared.program.Program.{Program}
 use Rattle.tm_plan_map.specs.Map.{text_base, tables_base, flag_at, verdict_at, private_at, private_size, windows_base}
 use Rattle.tm_plan_map.specs.Map.{windows_size, within}
-use Rattle.tm_base.specs.Lists.{any, count_from}
+use Rattle.tm_base.specs.Lists.{count_from}
+use Rattle.tm_base.proofs.ListLemmas.{any-no-number}
 use Rattle.tm_world.specs.Lists.{those}
 use Rattle.tm_world.specs.Place.{harts, case_count, is_text, is_table, is_flag, is_verdict, is_private, image_byte}
 use Rattle.tm_world.specs.Place.{byte_of}
 use Rattle.tm_world.specs.Writers.{may_write, may_write_window, writers}
 use Rattle.tm_runs.specs.World.{Sizes}
-use Rattle.tm_runs.proofs.Bytes.{within-false}
-use Rattle.tm_runs.proofs.Places.{within-parts}
+use Rattle.tm_plan_map.proofs.Within.{within-parts, within-false}
 use Rattle.tm_legal.specs.Tame.{Formed}
 use Rattle.tm_legal.proofs.Formed.{formed-sizes}
 
 -- ---- lists of harts and cases
-
-pub any-none : (test : ℕ → Bool) (n a : ℕ) → ((c : ℕ) → a ≤ c → c < a + n → test c ≡ false) → any test (count_from a n)
-    ≡ false
-any-none test zero a h = refl
-any-none test (suc n) a h = or_from (test a) (any test (count_from (suc a) n)) (h a (omega arith) (omega arith))
-    (any-none test n (suc a) (λ c l m. h c (omega arith) (omega arith)))
 
 pub those-none : (test : ℕ → Bool) (n a : ℕ) → ((c : ℕ) → a ≤ c → c < a + n → test c ≡ false)
     → those test (count_from a n) ≡ []
@@ -67,7 +61,7 @@ behind : (p : Program) (q g b : ℕ) → b < 0x80C00000 → may_write p q g b �
 unfolding flag_at verdict_at private_at windows_base
 behind p q g b l =
     or_from (is_flag g b) _ (within-false (flag_at g) 8 b (inl (omega arith)))
-    (or_from (is_verdict p g b) _ (any-none (λ c. within (verdict_at c g) 8 b) (case_count p) 0
+    (or_from (is_verdict p g b) _ (any-no-number (λ c. within (verdict_at c g) 8 b) (case_count p) 0
     (λ c _ _. within-false (verdict_at c g) 8 b (inl (omega arith))))
     (or_from (is_private g b) _ (within-false (private_at g) private_size b (inl (omega arith)))
     (ap (λ (t : Bool). t && may_write_window p q g b) (within-false windows_base windows_size b (inl (omega arith))))))
@@ -99,7 +93,7 @@ others-not p q h g b formed l m n e =
     let place = private-place h b l e in
     let few = formed.program.cases.count in
     or_from (is_flag g b) _ (within-false (flag_at g) 8 b (inr (omega (arith, place))))
-    (or_from (is_verdict p g b) _ (any-none (λ c. within (verdict_at c g) 8 b) (case_count p) 0
+    (or_from (is_verdict p g b) _ (any-no-number (λ c. within (verdict_at c g) 8 b) (case_count p) 0
     (λ c _ y. within-false (verdict_at c g) 8 b (inr (omega (arith, place, few)))))
     (or_from (is_private g b) _ (within-false (private_at g) private_size b (apart place))
     (ap (λ (t : Bool). t && may_write_window p q g b)

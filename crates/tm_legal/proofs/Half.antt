@@ -16,13 +16,13 @@ use Rattle.tm_world.specs.Kinds.{IsOpening, Path, Follows, Legal, HalfPath, Half
 use Rattle.tm_world.specs.Kinds.{legal_owed, phase_of}
 use Rattle.tm_world.specs.Course.{OnHalf, KeepsOrder, EntersFresh}
 use Rattle.tm_world.proofs.Prefix.{earlier, Legal-earlier}
+use Rattle.tm_world.proofs.Streams.{stream-of}
 use Rattle.tm_runs.specs.World.{Sizes}
-use Rattle.tm_runs.proofs.Places.{within-parts}
+use Rattle.tm_plan_map.proofs.Within.{within-parts}
 use Rattle.tm_legal.specs.Tame.{Formed, Tame, SparesImage, OutsideSpares}
 use Rattle.tm_legal.specs.Laws.{OnLegal, LegalRunsAreHalf, LegalStepsAreHalf}
 use Rattle.tm_legal.proofs.Own.{own-here, own-there, owns, of-half}
 use Rattle.tm_legal.proofs.Rows.{IsMachine}
-use Rattle.tm_legal.proofs.Streams.{stream-of}
 use Rattle.tm_legal.proofs.Inside.{follows-machine, Moves, moves}
 use Rattle.tm_legal.proofs.Order.{NoStray, order-no_stray, no_stray-before, based, stream-some}
 use Rattle.tm_legal.proofs.Areas.{image-place}

@@ -24,7 +24,7 @@ use Rattle.tm_world.specs.Run.{Step, access_of, HasShape, Writes, read_value}
 use Rattle.tm_plan_cases.specs.Streams.{stream_in}
 use Rattle.tm_world.specs.Kinds.{Follows, Free}
 use Rattle.tm_runs.proofs.Rows.{row-decoded}
-use Rattle.tm_runs.proofs.Bytes.{within-true}
+use Rattle.tm_plan_map.proofs.Within.{within-true}
 use Rattle.tm_legal.specs.Tame.{Formed}
 use Rattle.tm_legal.proofs.Rows.{IsOfKind, of-kind, IsMachine, after-machine, after-others}
 use Rattle.tm_legal.proofs.Streams.{Slot, slot-at, IsBased, Onward, next, goes-on, declared-window, window-declared}

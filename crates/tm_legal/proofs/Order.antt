@@ -14,9 +14,10 @@ use Rattle.tm_world.specs.Run.{Step, now, first_state}
 use Rattle.tm_world.specs.Kinds.{HalfPath, HalfStep, stream_at}
 use Rattle.tm_world.specs.Marks.{Mark, Exit, Enter, End, Halt, Stray, comes_to, arrivals, visited, pass_way, whole_way}
 use Rattle.tm_world.specs.Course.{KeepsOrder, EntersFresh}
+use Rattle.tm_world.proofs.Streams.{shaped-stream, stream-of}
 use Rattle.tm_legal.specs.Tame.{Formed}
 use Rattle.tm_legal.proofs.Weights.{weight, weight-append, weight-front, weight-way, weight-arrivals, met-weight}
-use Rattle.tm_legal.proofs.Streams.{IsBased, shaped-stream, stream-of}
+use Rattle.tm_legal.proofs.Streams.{IsBased}
 
 -- ---- sums
 

@@ -5,6 +5,7 @@ use Rattle.std.specs.Prelude.{slice_index, if◌then◌else◌}
 use Rattle.std.proofs.Math.ListN.{set}
 use Rattle.std.proofs.lemmas.Bool.{cases_eq, cases_lt}
 use Rattle.std.proofs.lemmas.List.{get_or-set_same, get_or-set_other, length-set, set_past}
+use Rattle.tm_runs.proofs.Registers.{width-fits}
 use Rattle.tm_table.specs.declared.instr.Op.{Op}
 use Rattle.tm_table.specs.declared.instr.Op.TheVariants.{Jal, Jalr, Beq, Bne, Blt, Bge, Bltu, Bgeu, Lb, Lh, Lw, Ld}
 use Rattle.tm_table.specs.declared.instr.Op.TheVariants.{Lbu, Lhu, Lwu, Sb, Sh, Sw, Sd, Fence, Ecall, Ebreak}
@@ -97,18 +98,6 @@ pub record IsMachine (hart : Hart) : Type 0 where
   pub fits : (r : ℕ) → slice_index hart.x r < 2 ^ 64
   pub zero : slice_index hart.x 0 ≡ 0
   pub counter : hart.pc < 2 ^ 64
-
-width-fits : (width value : ℕ) → IsFitting width value → value < 2 ^ 64
-width-fits width value f = by f.0
-  where
-    at : (w : ℕ) → width ≡ w → 256 ^ w ≤ 2 ^ 64 → value < 2 ^ 64
-    at w e l = let b : value < 256 ^ w = subst (λ (n : ℕ). value < 256 ^ n) e f.1 in omega arith
-
-    by : (width ≡ 1) ⊎ ((width ≡ 2) ⊎ ((width ≡ 4) ⊎ (width ≡ 8))) → value < 2 ^ 64
-    by (inl e) = at 1 e (omega arith)
-    by (inr (inl e)) = at 2 e (omega arith)
-    by (inr (inr (inl e))) = at 4 e (omega arith)
-    by (inr (inr (inr e))) = at 8 e (omega arith)
 
 loaded-fits : (with_sign : Bool) (width value : ℕ) → IsFitting width value → loaded with_sign width value < 2 ^ 64
 loaded-fits false width value f = width-fits width value f

@@ -1,80 +1,33 @@
 -- The streams of a formed program: where a slot stands, and what a legal step of it does.
 use Rattle.std.proofs.Common.{◌≡◌, ℕ, ◌+◌, ◌-◌, ◌*◌, ◌/◌, ◌%◌, ◌^◌, ◌<◌, ◌≤◌, List, [], ◌∷◌, zero, suc, length, Bool}
-use Rattle.std.proofs.Common.{true, false, ◌&&◌, ◌==◌, Option, None, Some, ◌⊎◌, inl, inr, refl, sym, ap, ◌∙◌, subst}
+use Rattle.std.proofs.Common.{true, false, ◌&&◌, ◌==◌, None, Some, refl, sym, ap, ◌∙◌}
 use Rattle.std.proofs.Common.{arith, eqb-true, get_or}
-use Rattle.std.specs.Prelude.{All, Contains, slice_index, slice_get, if◌then◌else◌}
+use Rattle.std.specs.Prelude.{Contains, slice_index, slice_get, if◌then◌else◌}
 use Rattle.std.proofs.lemmas.Bool.{and_parts, or_left, or_right, leb-true, ltb-true}
-use Rattle.std.proofs.lemmas.Option.{slice_get_cases, slice_get_within, get_or_from_slice_get, slice_get-get_or}
+use Rattle.std.proofs.lemmas.Option.{slice_get-get_or}
 use Rattle.tm_table.specs.declared.instr.Instr.{Instr}
 use Rattle.tm_table.specs.State.{Hart}
 use Rattle.tm_table.specs.Row.{word64}
 use Rattle.tm_plan_cases.specs.declared.program.Program.{Program}
 use Rattle.tm_plan_cases.specs.declared.cases.Cases.{Cases}
-use Rattle.tm_plan_cases.specs.declared.cases.Case.{Case}
 use Rattle.tm_plan_cases.specs.declared.cases.Stream.{Stream}
 use Rattle.tm_plan_map.specs.declared.windows.Window.{Window}
 use Rattle.tm_plan_map.specs.Map.{text_base, window_at, windows_base, windows_size}
 use Rattle.tm_plan_map.specs.Slots.{instr_of}
 use Rattle.tm_plan_cases.specs.Collected.{is_declared, declares}
 use Rattle.tm_base.specs.Lists.{any}
-use Rattle.tm_plan_cases.specs.Shaped.{IsShapedSlot, IsShapedStream, IsShapedCase, IsShapedWindow, AreShaped}
+use Rattle.tm_plan_cases.specs.Shaped.{IsShapedSlot, IsShapedWindow}
 use Rattle.tm_world.specs.Place.{harts, start_of, end_of, inside, is_text, is_window, word_at}
 use Rattle.tm_plan_cases.specs.Streams.{stream_in}
-use Rattle.tm_runs.proofs.Places.{within-parts, word-place}
-use Rattle.tm_runs.proofs.Bytes.{within-true}
+use Rattle.tm_world.proofs.Streams.{shaped-stream}
+use Rattle.tm_runs.proofs.Places.{word-place}
+use Rattle.tm_plan_map.proofs.Within.{within-parts, within-true}
 use Rattle.tm_legal.specs.Tame.{Formed}
 use Rattle.tm_legal.proofs.Formed.{formed-sizes}
 
 -- ---- lists
 
-pub all-at : {A : Type 0} (P : A → Type 0) (xs : List A) (k : ℕ) (x : A) → All P xs → slice_get xs k ≡ Some x → P x
-all-at P xs k x a e = subst P (get_or_from_slice_get xs k x x e) (a k x (slice_get_within xs k x e))
-
-pub none-past : {A : Type 0} (xs : List A) (k : ℕ) → k < length xs → slice_get xs k ≡ None → ⊥
-none-past {A = A} xs k l e = by (slice_get_cases xs k)
-  where
-    by : (slice_get xs k ≡ slice_get xs k)
-        × (((x : A) × (k < length xs) × (slice_get xs k ≡ Some x) × (get_or xs k x ≡ x))
-        ⊎ ((length xs ≤ k) × (slice_get xs k ≡ None))) → ⊥
-    by (q, inl r) = let f = r.2 in cc
-    by (q, inr r) = omega (arith, r.0)
-
 -- ---- streams
-
-pub stream-case : (cases : Cases) (c h : ℕ) (case : Case) → slice_get cases.cases c ≡ Some case
-    → stream_in cases c h ≡ slice_get case.streams h
-stream-case cases c h case e = rw e
-
-pub case-of : (cases : Cases) (c h : ℕ) (stream : Stream) → stream_in cases c h ≡ Some stream → (case : Case)
-    × (slice_get cases.cases c ≡ Some case) × (slice_get case.streams h ≡ Some stream)
-case-of cases c h stream e = by (slice_get cases.cases c) refl
-  where
-    by : (o : Option Case) → slice_get cases.cases c ≡ o → (case : Case) × (slice_get cases.cases c ≡ Some case)
-        × (slice_get case.streams h ≡ Some stream)
-    by (Some case) q = (case, q, sym (stream-case cases c h case q) ∙ e)
-    by None q = let f = rw q at e in cc
-
-pub shaped-stream : (cases : Cases) (c h : ℕ) (stream : Stream) → AreShaped cases → stream_in cases c h ≡ Some stream
-    → IsShapedStream cases h stream
-shaped-stream cases c h stream a e =
-    let (case, f, g) = case-of cases c h stream e in
-    (all-at (IsShapedCase cases) cases.cases c case a.each f).each h stream g
-
--- each hart has a stream in each case
-pub stream-of : (cases : Cases) (c h : ℕ) → AreShaped cases → c < length cases.cases → h < cases.harts
-    → (stream : Stream) × (stream_in cases c h ≡ Some stream)
-stream-of cases c h a l m = by (slice_get cases.cases c) refl
-  where
-    of : (case : Case) → slice_get cases.cases c ≡ Some case → (o : Option Stream) → slice_get case.streams h ≡ o
-        → (stream : Stream) × (stream_in cases c h ≡ Some stream)
-    of case q (Some stream) r = (stream, stream-case cases c h case q ∙ r)
-    of case q None r =
-        let n = (all-at (IsShapedCase cases) cases.cases c case a.each q).streams in
-        absurd (none-past case.streams h (omega arith) r)
-
-    by : (o : Option Case) → slice_get cases.cases c ≡ o → (stream : Stream) × (stream_in cases c h ≡ Some stream)
-    by (Some case) q = of case q (slice_get case.streams h) refl
-    by None q = absurd (none-past cases.cases c l q)
 
 -- ---- where a slot stands
 

@@ -61,10 +61,6 @@ weight-way f p e =
 
 -- ---- arrivals
 
--- those of a case
-abbrev three : ℕ → List Mark
-three c = Enter c ∷ End c ∷ Stray c ∷ []
-
 pub weight-those : (f : Mark → ℕ) (met : Mark → Bool) (m : Mark) (ms : List Mark) → weight f (those met (m ∷ ms))
     ≡ (if met m then f m else 0) + weight f (those met ms)
 weight-those f met m ms = by (met m)

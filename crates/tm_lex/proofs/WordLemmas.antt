@@ -25,17 +25,6 @@ words-gap i (suc g) (b ∷ bs) h =
           rw (other, next) (words-gap (i + 1) g bs (omega arith))
     ]
 
-pub words-none : (i : ℕ) (bs : List ℕ) → length bs ≤ prefix_len (λ b. not (is_word b)) bs → words i bs ≡ []
-unfolding words
-words-none i [] h = refl
-words-none i (b ∷ bs) h =
-    elim (cases_Bool (is_word b)) [
-      | inl here ↦ let none : length (b ∷ bs) ≤ 0 = rw here at h in absurd (omega arith)
-      | inr other ↦
-          let more : length (b ∷ bs) ≤ 1 + prefix_len (λ b. not (is_word b)) bs = rw other at h in
-          rw other (words-none (i + 1) bs (omega arith))
-    ]
-
 -- a word byte never joins a word that begins further on
 apart_from : (i j : ℕ) (ss : List (ℕ × ℕ)) → i + 1 < j → word_byte i (word_byte j ss) ≡ (i, i + 1) ∷ word_byte j ss
 apart_from i j [] h = let other : eqb j (i + 1) ≡ false = grind (arith, nat_tests) in rw other

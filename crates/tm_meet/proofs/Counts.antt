@@ -14,8 +14,8 @@ use Rattle.tm_legal.proofs.Phases.{phase-exit, phase-other, in_phase-here, in_ph
 use Rattle.tm_memory.proofs.Accesses.{still-flags}
 
 -- the hart keeps the barrier
-abbrev pub Keeps : Program → ℕ → List Step → Type 0
-Keeps p h = Always (λ past s. Barrier p h (phase (exit_of p h) past) past s)
+abbrev pub BarrierKept : Program → ℕ → List Step → Type 0
+BarrierKept p h = Always (λ past s. Barrier p h (phase (exit_of p h) past) past s)
 
 -- it has signalled in this phase
 abbrev pub signalled : Program → ℕ → List Step → Bool
@@ -62,7 +62,7 @@ this_phase-other p h s past e =
 abbrev due : Program → ℕ → List Step → ℕ
 due p h own = phase (exit_of p h) own + one (signalled p h own)
 
-pub counted : (p : Program) (h : ℕ) (own : List Step) → Keeps p h own → flag_writes h own ≡ due p h own
+pub counted : (p : Program) (h : ℕ) (own : List Step) → BarrierKept p h own → flag_writes h own ≡ due p h own
 counted p h [] k = omega arith
 counted p h (s ∷ past) k =
     let x = exit_of p h in
@@ -96,12 +96,12 @@ counted p h (s ∷ past) k =
     ]
 
 -- Before it signals in its phase it has written its flag as often as it has left phases.
-pub quiet-count : (p : Program) (h : ℕ) (own : List Step) → Keeps p h own → signalled p h own ≡ false
+pub quiet-count : (p : Program) (h : ℕ) (own : List Step) → BarrierKept p h own → signalled p h own ≡ false
     → flag_writes h own ≡ phase (exit_of p h) own
 quiet-count p h own k f = let z : one (signalled p h own) ≡ 0 = ap one f in let d = counted p h own k in omega arith
 
 -- Whoever signals in phase q has then written its flag q + 1 times.
-pub signal-count : (p : Program) (h : ℕ) (s : Step) (past : List Step) → Keeps p h (s ∷ past) → signals h s ≡ true
+pub signal-count : (p : Program) (h : ℕ) (s : Step) (past : List Step) → BarrierKept p h (s ∷ past) → signals h s ≡ true
     → flag_writes h (s ∷ past) ≡ phase (exit_of p h) past + 1
 signal-count p h s past k t = let z = quiet-count p h past k.1 (k.0.signal t).once in
     omega (arith, writes-more h s past t)
@@ -109,7 +109,7 @@ signal-count p h s past k t = let z = quiet-count p h past k.1 (k.0.signal t).on
 -- ---- phases that are left
 
 -- In each phase that it has left it has signalled.
-pub left-signalled : (p : Program) (h q : ℕ) (own : List Step) → Keeps p h own → q < phase (exit_of p h) own
+pub left-signalled : (p : Program) (h q : ℕ) (own : List Step) → BarrierKept p h own → q < phase (exit_of p h) own
     → any (signals h) (in_phase (exit_of p h) q own) ≡ true
 left-signalled p h q [] k l = absurd (omega arith)
 left-signalled p h q (s ∷ past) k l =
@@ -146,7 +146,7 @@ left-signalled p h q (s ∷ past) k l =
 -- ---- the last phase
 
 -- no signal stands in the last phase
-pub signals-more : (p : Program) (h q : ℕ) (own : List Step) → Keeps p h own
+pub signals-more : (p : Program) (h q : ℕ) (own : List Step) → BarrierKept p h own
     → any (signals h) (in_phase (exit_of p h) q own) ≡ true → q ≢ last_phase p
 signals-more p h q [] k e z = cc
 signals-more p h q (s ∷ past) k e z = elim (cases_eq (phase (exit_of p h) past) q) [
@@ -161,7 +161,7 @@ signals-more p h q (s ∷ past) k e z = elim (cases_eq (phase (exit_of p h) past
 ]
 
 -- so it is never left
-pub phase-most : (p : Program) (h : ℕ) (own : List Step) → Keeps p h own → phase (exit_of p h) own ≤ last_phase p
+pub phase-most : (p : Program) (h : ℕ) (own : List Step) → BarrierKept p h own → phase (exit_of p h) own ≤ last_phase p
 phase-most p h [] k = omega arith
 phase-most p h (s ∷ past) k =
     let before = phase-most p h past k.1 in

@@ -16,7 +16,8 @@ use Rattle.tm_world.specs.Course.{this_phase}
 use Rattle.tm_world.specs.Whole.{first_byte}
 use Rattle.tm_legal.specs.Tame.{Formed}
 use Rattle.tm_stays.proofs.Dwords.{lies, dword_of, dword-place, of-owned}
-use Rattle.tm_meet.specs.First.{SetsBeforeSignal, SetsDwords}
+use Rattle.tm_meet.specs.First.{SetsBeforeSignal}
+use Rattle.tm_stays.specs.First.{SetsDwords}
 use Rattle.tm_meet.specs.Laws.{DwordsSet}
 
 -- a line holds whole dwords

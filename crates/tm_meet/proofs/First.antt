@@ -30,10 +30,11 @@ use Rattle.tm_legal.proofs.Phases.{phase-other, in_phase-here, in_phase-there}
 use Rattle.tm_legal.proofs.Half.{half-path, on-legal}
 use Rattle.tm_stays.proofs.Turns.{exits-inside, exits-phase, not-at-exit, at_exit}
 use Rattle.tm_memory.specs.Meet.{AllMeet}
-use Rattle.tm_meet.specs.First.{SetsFirst, SetsBeforeSignal, EntersBehindExit}
+use Rattle.tm_meet.specs.First.{SetsFirst, SetsBeforeSignal}
+use Rattle.tm_stays.specs.First.{EntersBehindExit}
 use Rattle.tm_meet.specs.Laws.{FirstBytesSettle, CourseKept}
 use Rattle.tm_memory.proofs.Accesses.{still-writes, flag-misses}
-use Rattle.tm_meet.proofs.Counts.{Keeps, signalled, counted, one, left-signalled}
+use Rattle.tm_meet.proofs.Counts.{BarrierKept, signalled, counted, one, left-signalled}
 use Rattle.tm_memory.proofs.Owners.{shared-window, window-flag, collector-less, shared-writers}
 use Rattle.tm_meet.proofs.Told.{legal-keeps}
 use Rattle.tm_memory.proofs.Meets.{tame, course-meets, writes-right}
@@ -52,7 +53,8 @@ module _ (p : Program) (h c b : ℕ) (case : Case) (is : slice_get p.cases.cases
       → last_write b (in_phase (exit_of p h) q own) ≡ Some (first_byte case.first b)
 
   -- a step of the phase: the signal, or a still step behind it
-  set-here : (first : Hart) (s : Step) (past : List Step) → Keeps p h (s ∷ past) → SetsBeforeSignal p h first (s ∷ past)
+  set-here : (first : Hart) (s : Step) (past : List Step) → BarrierKept p h (s ∷ past)
+      → SetsBeforeSignal p h first (s ∷ past)
       → HasSet (phase (exit_of p h) past) past → HasSet (phase (exit_of p h) past) (s ∷ past)
   set-here first s past k z before run e =
       let there : in_phase (exit_of p h) (phase (exit_of p h) past) (s ∷ past) ≡ s ∷ this_phase p h past =
@@ -71,7 +73,8 @@ module _ (p : Program) (h c b : ℕ) (case : Case) (is : slice_get p.cases.cases
           ap (λ (a : Option ℕ). or_else a (last_write b (this_phase p h past)))
           (still-writes p h b (access_of s) (k.0.still sig)) ∙ before run sig
 
-  has-set : (first : Hart) (q : ℕ) (own : List Step) → Keeps p h own → SetsBeforeSignal p h first own → HasSet q own
+  has-set : (first : Hart) (q : ℕ) (own : List Step) → BarrierKept p h own → SetsBeforeSignal p h first own
+      → HasSet q own
   has-set first q [] k z run e = cc
   has-set first q (s ∷ past) k z run e = elim (cases_eq (phase (exit_of p h) past) q) [
     | inl f ↦ subst (λ (n : ℕ). HasSet n (s ∷ past)) f
@@ -83,7 +86,7 @@ module _ (p : Program) (h c b : ℕ) (case : Case) (is : slice_get p.cases.cases
   ]
 
 -- Who has written its flag more than n times has signalled in phase n.
-signalled-by : (p : Program) (g n : ℕ) (own : List Step) → Keeps p g own → n < flag_writes g own
+signalled-by : (p : Program) (g n : ℕ) (own : List Step) → BarrierKept p g own → n < flag_writes g own
     → any (signals g) (in_phase (exit_of p g) n own) ≡ true
 signalled-by p g n own k l = elim (cases_lt n (phase (exit_of p g) own)) [
   | inl m ↦ left-signalled p g n own k m

@@ -16,13 +16,15 @@ use Rattle.tm_world.specs.Place.{harts, exit_of, is_window, image_byte, byte_of}
 use Rattle.tm_world.specs.Run.{Step, own, hart_of, pc_of, access_of, phase, Reads, written, last_write, HasShape}
 use Rattle.tm_world.specs.Kinds.{flag_writes, phase_of, plain_owed}
 use Rattle.tm_world.specs.Course.{signals, gets}
-use Rattle.tm_runs.proofs.Bytes.{same_dword, within-true}
+use Rattle.tm_world.proofs.Accesses.{writes-may}
+use Rattle.tm_runs.proofs.Bytes.{same_dword}
+use Rattle.tm_plan_map.proofs.Within.{within-true}
 use Rattle.tm_legal.specs.Tame.{Formed}
 use Rattle.tm_legal.proofs.Own.{own-here, own-there}
 use Rattle.tm_legal.proofs.Phases.{phase-exit, phase-other}
 use Rattle.tm_memory.specs.Memory.{ReadsOf}
-use Rattle.tm_memory.proofs.Accesses.{writes-may, flag-byte, flag-apart, flag-whole}
-use Rattle.tm_meet.proofs.Counts.{Keeps, writes-le, writes-same, signal-count}
+use Rattle.tm_memory.proofs.Accesses.{flag-byte, flag-apart, flag-whole}
+use Rattle.tm_meet.proofs.Counts.{BarrierKept, writes-le, writes-same, signal-count}
 use Rattle.tm_memory.proofs.Owners.{MayKeep, flag-keeper, flag-zero, window-flag}
 use Rattle.tm_meet.proofs.Told.{Told, told-before}
 use Rattle.tm_legal.proofs.Formed.{formed-sizes}
@@ -75,7 +77,7 @@ signals-whole : (p : Program) → Formed p → (g : ℕ) → g < harts p → (s 
     → (access_of s ≡ Write (flag_at g) 8 (phase_of p past g + 1)) × (flags g (s ∷ past) ≡ phase_of p past g + 1)
 signals-whole p formed g l s past t e =
     let mine = own-here g s past (signals-own p formed g l s past t e) in
-    let k : Keeps p g (s ∷ own g past) = subst (Keeps p g) mine (t.keep g l) in
+    let k : BarrierKept p g (s ∷ own g past) = subst (BarrierKept p g) mine (t.keep g l) in
     ((k.0.signal e).value, ap (flag_writes g) mine ∙ signal-count p g s (own g past) k e)
 
 -- byte by byte
@@ -216,7 +218,7 @@ phases-le p formed h g l m ne (s ∷ past) t =
         | inr f ↦ let n = phase-other x s (own h past) f in subst goal (sym (own-here h s past q)) (omega arith)
         | inl f ↦
             let n = phase-exit x s (own h past) f in
-            let k : Keeps p h (s ∷ own h past) = subst (Keeps p h) (own-here h s past q) (t.keep h l) in
+            let k : BarrierKept p h (s ∷ own h past) = subst (BarrierKept p h) (own-here h s past q) (t.keep h l) in
             let met = (k.0.leave (eqb-true _ _ f)).met g m ne in
             let seen = any-front (λ u. gets (flag_at g) (phase x (own h past) + 1) (access_of u)) (signals h)
             (own h past) met in

@@ -14,11 +14,12 @@ use Rattle.tm_world.specs.Run.{Step, Always, own, hart_of, access_of, phase, Rea
 use Rattle.tm_world.specs.Writers.{may_write, writers, wrote, settle, settled}
 use Rattle.tm_world.specs.Kinds.{phase_of, legal_owed, plain_owed, another}
 use Rattle.tm_world.specs.Course.{IsStill}
+use Rattle.tm_world.proofs.Accesses.{writes-may}
 use Rattle.tm_legal.specs.Tame.{Formed}
 use Rattle.tm_legal.proofs.Own.{own-here, own-there}
 use Rattle.tm_legal.proofs.Phases.{phase-le}
-use Rattle.tm_memory.proofs.Accesses.{writes-may, still-writes}
-use Rattle.tm_meet.proofs.Counts.{Keeps, signalled, quiet-count}
+use Rattle.tm_memory.proofs.Accesses.{still-writes}
+use Rattle.tm_meet.proofs.Counts.{BarrierKept, signalled, quiet-count}
 use Rattle.tm_memory.proofs.Owners.{Among, among-least, among-writers, writers-rise, flag-owner, flag-mine}
 use Rattle.tm_memory.proofs.Owners.{private-owner}
 use Rattle.tm_meet.proofs.Told.{Told, told-before}
@@ -74,7 +75,7 @@ ordered p formed b [] t r = tt
 ordered p formed b (s ∷ past) t r =
     let h = hart_of s in
     let before = told-before p s past t in
-    let k : Keeps p h (s ∷ own h past) = subst (Keeps p h) (own-here h s past refl) (t.keep h t.only.0) in (
+    let k : BarrierKept p h (s ∷ own h past) = subst (BarrierKept p h) (own-here h s past refl) (t.keep h t.only.0) in (
       record {
         may = may-right p s past r b;
         sorted = λ w e. elim (cases_Bool (signalled p h (own h past))) [

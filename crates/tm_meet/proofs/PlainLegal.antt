@@ -8,7 +8,7 @@ use Rattle.tm_world.proofs.Prefix.{earlier, Plain-earlier}
 use Rattle.tm_legal.proofs.Own.{own-here}
 use Rattle.tm_memory.specs.Meet.{AllMeet}
 use Rattle.tm_meet.specs.Laws.{PlainIsLegal}
-use Rattle.tm_meet.proofs.Counts.{Keeps}
+use Rattle.tm_meet.proofs.Counts.{BarrierKept}
 use Rattle.tm_memory.proofs.Meets.{writes-right}
 use Rattle.tm_memory.proofs.PlainMemory.{plain-memory, plain-half}
 use Rattle.tm_meet.proofs.Told.{told}
@@ -23,8 +23,8 @@ one-more p m o s past plain before =
     let t = told p m (earlier o past) (plain-memory p m (earlier o past) (Plain-earlier p o (s ∷ []) past plain)) in
     let right = writes-right p m (earlier o past) before in
     let half = plain-half p m (earlier o (s ∷ past)) plain in
-    let k : Keeps p h (s ∷ own h past) =
-    subst (Keeps p h) (own-here h s past refl) ((m.each h l).barrier (earlier o (s ∷ past)) half) in
+    let k : BarrierKept p h (s ∷ own h past) =
+    subst (BarrierKept p h) (own-here h s past refl) ((m.each h l).barrier (earlier o (s ∷ past)) half) in
     record {
       paths = plain.paths;
       met = (λ g few n. phases-le p m.formed h g l few n past t, before.met);

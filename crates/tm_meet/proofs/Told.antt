@@ -12,18 +12,18 @@ use Rattle.tm_legal.proofs.Own.{own-here, own-there}
 use Rattle.tm_legal.proofs.Half.{on-legal}
 use Rattle.tm_memory.specs.Meet.{AllMeet}
 use Rattle.tm_memory.specs.Memory.{ReadsOf, MemoryStep, OneMemory}
-use Rattle.tm_meet.proofs.Counts.{Keeps}
+use Rattle.tm_meet.proofs.Counts.{BarrierKept}
 use Rattle.tm_memory.proofs.Meets.{tame}
 use Rattle.tm_memory.proofs.Memory.{AreKept, half-kept, memory-half}
 
 -- each hart keeps the barrier on its own steps
 abbrev pub AllKeep : Program → List Step → Type 0
-AllKeep p steps = (h : ℕ) → h < harts p → Keeps p h (own h steps)
+AllKeep p steps = (h : ℕ) → h < harts p → BarrierKept p h (own h steps)
 
 pub keep-before : (p : Program) (s : Step) (past : List Step) → AllKeep p (s ∷ past) → AllKeep p past
 keep-before p s past k h l = elim (cases_eq (hart_of s) h) [
-  | inl e ↦ let z : Keeps p h (s ∷ own h past) = subst (Keeps p h) (own-here h s past e) (k h l) in z.1
-  | inr n ↦ subst (Keeps p h) (own-there h s past n) (k h l)
+  | inl e ↦ let z : BarrierKept p h (s ∷ own h past) = subst (BarrierKept p h) (own-here h s past e) (k h l) in z.1
+  | inr n ↦ subst (BarrierKept p h) (own-there h s past n) (k h l)
 ]
 
 pub legal-keeps : (p : Program) → AllMeet p → (r : Run) → Legal p r → AllKeep p r.steps

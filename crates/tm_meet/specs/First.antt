@@ -1,16 +1,15 @@
 -- What each hart sets before it signals, so that streams begin with their first bytes (this project's own).
-use Rattle.std.specs.Prelude.{◌≡◌, ◌≢◌, ℕ, suc, ◌+◌, ◌-◌, ◌/◌, ◌<◌, List, slice_get, slice_index, Some, IsTrue, All}
+use Rattle.std.specs.Prelude.{◌≡◌, ℕ, suc, List, slice_get, Some, IsTrue}
 use Rattle.tm_table.specs.State.{Hart}
 use Rattle.tm_plan_cases.specs.declared.program.Program.{Program}
 use Rattle.tm_plan_cases.specs.declared.cases.Case.{Case}
-use Rattle.tm_plan_map.specs.Map.{windows_base}
-use Rattle.tm_plan_cases.specs.Collected.{is_declared, collector, owned}
-use Rattle.tm_world.specs.Place.{case_count, case_of_round, first_dwords, exit_of, byte_of}
-use Rattle.tm_world.specs.Run.{Step, Always, now, pc_of, phase, last_write}
+use Rattle.tm_plan_cases.specs.Collected.{is_declared, collector}
+use Rattle.tm_world.specs.Place.{case_of_round, first_dwords, exit_of}
+use Rattle.tm_world.specs.Run.{Step, Always, phase, last_write}
 use Rattle.tm_world.specs.Writers.{round_of_phase}
-use Rattle.tm_world.specs.Marks.{Enter, comes_to}
 use Rattle.tm_world.specs.Course.{OnHalf, signals, this_phase}
 use Rattle.tm_world.specs.Whole.{first_byte}
+use Rattle.tm_stays.specs.First.{EntersBehindExit}
 
 -- Where hart h signals in the phase before a run phase of a round case, what it wrote last in this phase at each
 -- shared byte that it collects is the round case's first byte.
@@ -20,20 +19,6 @@ SetsBeforeSignal p h first = Always (λ past s. IsTrue (signals h s) → (e b : 
     → slice_get p.cases.cases (case_of_round p e) ≡ Some case
     → IsTrue (is_declared p.cases b) → collector p.cases b ≡ h
     → last_write b (this_phase p h past) ≡ Some (first_byte (first_dwords p e case) b))
-
--- The same by dwords: each byte of each dword that it collects.
-abbrev pub SetsDwords : Program → ℕ → Hart → List Step → Type 0
-SetsDwords p h first = Always (λ past s. IsTrue (signals h s) → (e : ℕ) (case : Case)
-    → round_of_phase p (suc (phase (exit_of p h) past)) ≡ Some e
-    → slice_get p.cases.cases (case_of_round p e) ≡ Some case
-    → All (λ a. (i : ℕ) → i < 8 → last_write (a + i) (this_phase p h past)
-    ≡ Some (byte_of (slice_index (first_dwords p e case) ((a - windows_base) / 8)) i)) (owned p.cases h))
-
--- The step with which hart h comes into a stream isn't the one at its exit mark. (Such a step would still be one of
--- the phase before, of which a legal run says less.)
-abbrev pub EntersBehindExit : Program → ℕ → Hart → List Step → Type 0
-EntersBehindExit p h first = Always (λ past s. (c : ℕ) → c < case_count p
-    → IsTrue (comes_to p h (Enter c) (now first past).pc s.after.pc) → pc_of s ≢ exit_of p h)
 
 -- So on half runs.
 pub record SetsFirst (p : Program) (h : ℕ) : Type 0 where

@@ -12,7 +12,8 @@ use Rattle.tm_world.specs.Whole.{SettlesFirst, Course}
 use Rattle.tm_world.specs.Work.{is_idle_read}
 use Rattle.tm_legal.specs.Tame.{Formed}
 use Rattle.tm_memory.specs.Meet.{AllMeet}
-use Rattle.tm_meet.specs.First.{SetsBeforeSignal, SetsDwords, SetsFirst}
+use Rattle.tm_meet.specs.First.{SetsBeforeSignal, SetsFirst}
+use Rattle.tm_stays.specs.First.{SetsDwords}
 use Rattle.tm_memory.specs.Memory.{OneMemory}
 use Rattle.tm_meet.specs.Waits.{Waits, IsHalted}
 

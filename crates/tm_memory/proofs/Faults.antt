@@ -21,9 +21,10 @@ use Rattle.tm_world.specs.Run.{Step, own, hart_of, access_of, now, first_state, 
 use Rattle.tm_world.specs.Kinds.{Half, stream_at, plain_owed}
 use Rattle.tm_world.specs.Course.{KeepsOrder, EntersFresh}
 use Rattle.tm_world.proofs.Prefix.{earlier}
+use Rattle.tm_world.proofs.Streams.{stream-of}
 use Rattle.tm_legal.specs.Tame.{Formed}
 use Rattle.tm_legal.proofs.Rows.{put-zero, put-other, put-length, put-fits}
-use Rattle.tm_legal.proofs.Streams.{stream-of, Slot, Onward, next, goes-on}
+use Rattle.tm_legal.proofs.Streams.{Slot, Onward, next, goes-on}
 use Rattle.tm_legal.proofs.Inside.{Moves, moves}
 use Rattle.tm_legal.proofs.Order.{order-no_stray, based, stream-some}
 use Rattle.tm_memory.specs.Meet.{AllMeet}

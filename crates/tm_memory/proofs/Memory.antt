@@ -16,6 +16,7 @@ use Rattle.tm_world.specs.Writers.{may_write}
 use Rattle.tm_world.specs.Kinds.{Half, HalfPath, HalfStep, half_owed, plain_owed, phase_of, stream_at}
 use Rattle.tm_world.specs.Course.{OnHalf, KeepsWrites, OutsideWrites}
 use Rattle.tm_world.proofs.Prefix.{earlier, Half-earlier}
+use Rattle.tm_world.proofs.Accesses.{writes-may}
 use Rattle.tm_legal.specs.Tame.{Formed}
 use Rattle.tm_legal.proofs.Own.{own-here, own-there}
 use Rattle.tm_legal.proofs.Inside.{writes-map}
@@ -23,7 +24,6 @@ use Rattle.tm_legal.proofs.Areas.{private-zero}
 use Rattle.tm_legal.proofs.Half.{written-none}
 use Rattle.tm_memory.specs.Memory.{MemoryStep, OneMemory}
 use Rattle.tm_memory.specs.Laws.{MemoryIsHalf}
-use Rattle.tm_memory.proofs.Accesses.{writes-may}
 use Rattle.tm_memory.proofs.Owners.{MayKeep, private-keeper, keeps-image}
 
 -- ---- each write keeps to its place

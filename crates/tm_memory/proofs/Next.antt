@@ -19,11 +19,12 @@ use Rattle.tm_world.specs.Run.{Step, own, now, first_state}
 use Rattle.tm_world.specs.Kinds.{IsOpening, IsReachable, IsPossible, HalfPath, HalfStep, stream_at}
 use Rattle.tm_world.specs.Course.{KeepsOrder, EntersFresh}
 use Rattle.tm_world.specs.Work.{HasNext, GoesOn}
-use Rattle.tm_runs.proofs.Bytes.{within-true}
-use Rattle.tm_runs.proofs.Places.{within-parts}
+use Rattle.tm_world.proofs.Streams.{shaped-stream, stream-of}
+use Rattle.tm_plan_map.proofs.Within.{within-true}
+use Rattle.tm_plan_map.proofs.Within.{within-parts}
 use Rattle.tm_legal.specs.Tame.{Formed}
 use Rattle.tm_legal.proofs.Rows.{IsOfKind, of-kind}
-use Rattle.tm_legal.proofs.Streams.{stream-of, shaped-stream, inside-parts, word-aligned, Slot, slot-at, IsBased}
+use Rattle.tm_legal.proofs.Streams.{inside-parts, word-aligned, Slot, slot-at, IsBased}
 use Rattle.tm_legal.proofs.Streams.{declared-window}
 use Rattle.tm_legal.proofs.Inside.{address}
 use Rattle.tm_legal.proofs.Order.{NoStray, order-no_stray, stream-none, stream-some, entered, based}

@@ -30,7 +30,7 @@ same-read Quiet = refl
 same-read (Write addr width value) = refl
 same-read (Read addr width value) = ap (λ (v : ℕ). Read addr width v) (xor_zero_r value)
 
-put-same : (x : List ℕ) (rd : ℕ) → put x rd (bit_xor (slice_index x rd) 0) ≡ x
+pub put-same : (x : List ℕ) (rd : ℕ) → put x rd (bit_xor (slice_index x rd) 0) ≡ x
 unfolding put
 put-same x zero = refl
 put-same x (suc r) = ap (λ (v : ℕ). put x (suc r) v) (xor_zero_r (slice_index x (suc r))) ∙ set-get_or x (suc r) 0

@@ -13,16 +13,16 @@ use Rattle.tm_plan_map.specs.Map.{text_base, tables_base, flag_at, verdict_at, p
 use Rattle.tm_plan_map.specs.Map.{windows_size, within}
 use Rattle.tm_plan_cases.specs.Collected.{is_declared, declares, collector}
 use Rattle.tm_base.specs.Lists.{any, count_from}
+use Rattle.tm_base.proofs.ListLemmas.{any-no-number}
 use Rattle.tm_plan_cases.specs.Shaped.{IsShapedWindow}
 use Rattle.tm_world.specs.Lists.{those}
 use Rattle.tm_world.specs.Place.{harts, case_count, is_flag, is_verdict, is_private, is_window, is_text, is_table}
 use Rattle.tm_world.specs.Place.{image_byte, byte_of}
 use Rattle.tm_world.specs.Writers.{may_write, may_write_window, may_write_running, case_of_phase, writers}
-use Rattle.tm_runs.proofs.Bytes.{within-false}
-use Rattle.tm_runs.proofs.Places.{within-parts}
+use Rattle.tm_plan_map.proofs.Within.{within-parts, within-false}
 use Rattle.tm_legal.specs.Tame.{Formed}
 use Rattle.tm_legal.proofs.Streams.{declared-window}
-use Rattle.tm_legal.proofs.Areas.{those-one, private-writers, may-spares, image-place, any-none}
+use Rattle.tm_legal.proofs.Areas.{those-one, private-writers, may-spares, image-place}
 use Rattle.tm_legal.proofs.Formed.{formed-sizes}
 
 -- ---- lists of harts
@@ -113,7 +113,7 @@ unfolding flag_at verdict_at private_at windows_base
 flag-others p q h g b l m n e =
     let place = flag-place h b l e in
     or_from (is_flag g b) _ (within-false (flag_at g) 8 b (apart place))
-    (or_from (is_verdict p g b) _ (any-none (λ c. within (verdict_at c g) 8 b) (case_count p) 0
+    (or_from (is_verdict p g b) _ (any-no-number (λ c. within (verdict_at c g) 8 b) (case_count p) 0
     (λ c _ _. within-false (verdict_at c g) 8 b (inl (omega (arith, place)))))
     (or_from (is_private g b) _ (within-false (private_at g) private_size b (inl (omega (arith, place))))
     (ap (λ (t : Bool). t && may_write_window p q g b)
@@ -226,7 +226,7 @@ window-may p q h b formed l e =
     let place = window-place b e in
     let few = formed.program.cases.count in
     let a : is_flag h b ≡ false = window-flag h b l e in
-    let v : is_verdict p h b ≡ false = any-none (λ c. within (verdict_at c h) 8 b) (case_count p) 0
+    let v : is_verdict p h b ≡ false = any-no-number (λ c. within (verdict_at c h) 8 b) (case_count p) 0
     (λ c _ m. within-false (verdict_at c h) 8 b (inr (omega (arith, few)))) in
     let w : is_private h b ≡ false = window-private h b l e in
     ap (λ (t : Bool). t || (is_verdict p h b || (is_private h b || (is_window b && may_write_window p q h b)))) a

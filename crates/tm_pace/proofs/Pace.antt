@@ -22,7 +22,8 @@ use Rattle.tm_stays.proofs.Stays.{Forward, short-by, works-little, work-parts as
 use Rattle.tm_legal.proofs.Own.{own-here, own-there}
 use Rattle.tm_legal.proofs.Streams.{Onward}
 use Rattle.tm_memory.specs.Meet.{AllMeet}
-use Rattle.tm_pace.specs.Pace.{phase_work, Pace, KeepsPace, PaceFits}
+use Rattle.tm_stays.specs.Pace.{phase_work, Pace, KeepsPace}
+use Rattle.tm_pace.specs.Pace.{PaceFits}
 use Rattle.tm_memory.specs.Memory.{MemoryStep}
 use Rattle.tm_pace.specs.Laws.{PhasesEnd, PhasesAddUp, PaceBounds, PaceHolds, FaultedPaceHolds}
 use Rattle.tm_memory.proofs.Memory.{memory-half}
@@ -30,7 +31,7 @@ use Rattle.tm_memory.proofs.Faults.{faulted-memory, faulted-half}
 use Rattle.tm_memory.proofs.Next.{none-stuck}
 use Rattle.tm_memory.proofs.Numbers.{accepted-results}
 use Rattle.tm_meet.proofs.Told.{StepsBy}
-use Rattle.tm_meet.proofs.Counts.{Keeps, phase-most}
+use Rattle.tm_meet.proofs.Counts.{BarrierKept, phase-most}
 use Rattle.tm_memory.proofs.Meets.{tame}
 use Rattle.tm_pace.proofs.Sums.{sum-le, sum-same, sum-grew, paced}
 
@@ -48,7 +49,7 @@ stepped p h first past t o q =
     else (if phase (exit_of p h) past == q then one_outside o (phase_work p h first q past)
     else phase_work p h first q past)
 
-work-sum : (p : Program) (h : ℕ) (first : Hart) (own : List Step) → Keeps p h own → outside_work p h first own
+work-sum : (p : Program) (h : ℕ) (first : Hart) (own : List Step) → BarrierKept p h own → outside_work p h first own
     ≡ sum_of (λ q. phase_work p h first q own) (count_from 0 (suc (last_phase p)))
 work-sum p h first [] k =
     sym (sum-zero (λ q. phase_work p h first q []) (count_from 0 (suc (last_phase p))) (λ q. refl))
@@ -103,7 +104,7 @@ work-parts cases h [] = omega arith
 work-parts cases h (case ∷ more) = let e = work-parts cases h more in omega arith
 
 paced-work : (p : Program) → AllMeet p → (h : ℕ) → h < harts p → (pace : Pace) (first : Hart) (own : List Step)
-    → Keeps p h own → KeepsPace p h pace first own
+    → BarrierKept p h own → KeepsPace p h pace first own
     → outside_work p h first own ≤ 64 + case_count p * (passes p * (pace.sets + pace.runs + pace.ends) + pace.compares)
 paced-work p m h l pace first own k keeps =
     let few = m.formed.program.cases.count in

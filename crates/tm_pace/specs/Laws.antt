@@ -12,7 +12,8 @@ use Rattle.tm_stays.specs.Stays.{words_in}
 use Rattle.tm_memory.specs.Meet.{Meets, AllMeet}
 use Rattle.tm_memory.specs.Memory.{OneMemory}
 use Rattle.tm_world.specs.Faulted.{Change, Faulted}
-use Rattle.tm_pace.specs.Pace.{phase_work, Pace, KeepsPace, PaceFits}
+use Rattle.tm_pace.specs.Pace.{PaceFits}
+use Rattle.tm_stays.specs.Pace.{phase_work, Pace, KeepsPace}
 
 -- On half runs a hart that keeps the barrier never leaves the last phase.
 abbrev pub PhasesEnd : Program → Type 0

@@ -5,13 +5,13 @@ use Rattle.std.specs.Prelude.{slice_get, Some}
 use Rattle.std.proofs.lemmas.List.{drop_all, get_or-map}
 use Rattle.std.proofs.lemmas.Option.{slice_get_read}
 use Rattle.tm_base.specs.Lists.{count_from}
+use Rattle.tm_base.proofs.ListLemmas.{all-at}
 use Rattle.tm_plan_cases.specs.declared.cases.Case.{Case}
 use Rattle.tm_plan_cases.specs.declared.cases.Cases.{Cases}
 use Rattle.tm_plan_cases.specs.declared.cases.Stream.{Stream}
 use Rattle.tm_plan_cases.specs.Shaped.{AreShaped, IsShapedCase}
-use Rattle.tm_legal.proofs.Streams.{all-at}
 use Rattle.tm_pass_text.specs.Words.{Blocks, case_size, case_words, cases_words, streams_of, words_at}
-use Rattle.tm_pass_steps.specs.Hart.{blocks_of}
+use Rattle.tm_pass_text.specs.Hart.{blocks_of}
 use Rattle.tm_pass_place.proofs.Heads.{stream}
 use Rattle.tm_pass_place.proofs.Sizes.{count}
 

@@ -2,14 +2,12 @@
 use Rattle.std.proofs.Common.{◌≡◌, inl, inr, ℕ, zero, suc, ◌+◌, ◌-◌, ◌*◌, ◌^◌, ◌<◌, List, [], ◌∷◌, ◌++◌, length, map}
 use Rattle.std.proofs.Common.{refl, sym, ap, ap₂, ◌∙◌, arith, append_assoc}
 use Rattle.std.specs.Prelude.{slice_get, Some}
-use Rattle.tm_table.specs.declared.instr.Instr.{Instr}
-use Rattle.tm_table.specs.Words.{Fits, word_of, words_of}
-use Rattle.tm_table.proofs.Decoding.{decoded-word}
+use Rattle.tm_table.specs.Words.{word_of, words_of}
 use Rattle.tm_base.specs.Lists.{count_from}
 use Rattle.tm_plan_cases.specs.declared.cases.Cases.{Cases}
 use Rattle.tm_plan_cases.specs.Shaped.{AreShaped}
 use Rattle.tm_plan_map.specs.Map.{private_at}
-use Rattle.tm_plan_map.specs.Slots.{instr_of}
+use Rattle.tm_plan_map.proofs.Words.{instr-word}
 use Rattle.tm_runs.specs.Machine.{put}
 use Rattle.tm_runs.specs.Runs.{Now}
 use Rattle.tm_runs.proofs.Steps.{step_addi, step_beq_on, step_jal}
@@ -20,17 +18,12 @@ use Rattle.tm_blocks_base.proofs.Fitting.{addi_fits, beq_fits, jump_fits}
 use Rattle.tm_barrier.specs.Words.{barrier}
 use Rattle.tm_pass_text.specs.Words.{cases_words, gate, hart_size, hart_words, opening_size, skip, streams_of}
 use Rattle.tm_pass_text.proofs.Stands.{length-hart}
-use Rattle.tm_pass_steps.specs.Hart.{blocks_of, words_of_hart}
+use Rattle.tm_pass_text.specs.Hart.{blocks_of, words_of_hart}
 use Rattle.tm_pass_place.specs.Built.{start_at, end_at, halt_at, exit_at}
 use Rattle.tm_pass_place.proofs.Heads.{ends-low}
 use Rattle.tm_pass_place.proofs.Sizes.{count, short-hart}
 use Rattle.tm_pass.specs.declared.hart.HartCode.{HartCode}
-use Rattle.tm_pass.specs.Gate.{IsPlain, ShutsOut}
-
--- an instruction that fits is that of its word
-pub word-instr : (i : Instr) → Fits i → instr_of (word_of i) ≡ Some i
-unfolding instr_of
-word-instr i fits = decoded-word i fits
+use Rattle.tm_pass.specs.Gate.{IsUnmarked, ShutsOut}
 
 -- a number of a list by number
 of-count : (f : ℕ → ℕ) (a n c x : ℕ) → slice_get (map f (count_from a n)) c ≡ Some x → (c < n) × (x ≡ f (a + c))
@@ -107,7 +100,7 @@ module _ (cases : Cases) (shaped : AreShaped cases) (h : ℕ) (number : h < case
         (r.0, r.1 ∙ ap (end_at cases h base) z)
 
     -- before the first case no mark is
-    before : (a : ℕ) → a < base + 56 → IsPlain code a
+    before : (a : ℕ) → a < base + 56 → IsUnmarked code a
     before a l = record {
       streams = λ c start end b e. let s = start-is c start b in inl (omega (arith, s.1));
       exit = λ z. omega (arith, z, exit);
@@ -115,7 +108,7 @@ module _ (cases : Cases) (shaped : AreShaped cases) (h : ℕ) (number : h < case
     }
 
     -- and none is behind the last word
-    behind : (a : ℕ) → a ≡ base + 4 * size → IsPlain code a
+    behind : (a : ℕ) → a ≡ base + 4 * size → IsUnmarked code a
     behind a e = record {
       streams = λ c start end b f. let s = end-is c end f in
           inr (omega (arith, s.1, ends-low cases shaped h number base c s.0, behind-all));
@@ -136,11 +129,11 @@ module _ (cases : Cases) (shaped : AreShaped cases) (h : ℕ) (number : h < case
         let a1 : s.pc ≡ base + 4 * 0 = omega (arith, pc) in
         let a2 : s.pc + 4 ≡ base + 4 * 1 = omega (arith, pc) in
         let a3 : s.pc + 4 + 4 ≡ base + 4 * 2 = omega (arith, pc) in
-        let t1 = ap w.text a1 ∙ (has 0 (word_of (addi 1 0 h)) (omega arith) (word 0 _ first-word) ∙ word-instr
+        let t1 = ap w.text a1 ∙ (has 0 (word_of (addi 1 0 h)) (omega arith) (word 0 _ first-word) ∙ instr-word
         (addi 1 0 h) (addi_fits 1 0 h (omega arith) (omega arith) (omega arith))) in
-        let t2 = ap w.text a2 ∙ (has 1 (word_of (beq 1 10 8)) (omega arith) (word 1 _ second-word) ∙ word-instr
+        let t2 = ap w.text a2 ∙ (has 1 (word_of (beq 1 10 8)) (omega arith) (word 1 _ second-word) ∙ instr-word
         (beq 1 10 8) (beq_fits 1 10 8 (omega arith) (omega arith) (omega arith) (omega arith))) in
-        let t3 = ap w.text a3 ∙ (has 2 (word_of (jump n)) (omega arith) (word 2 _ third-word) ∙ word-instr (jump n)
+        let t3 = ap w.text a3 ∙ (has 2 (word_of (jump n)) (omega arith) (word 2 _ third-word) ∙ instr-word (jump n)
         (jump_fits n (omega arith) (omega arith))) in
         let small : h < 2 ^ 11 = omega arith in
         step_addi h refl t1 (omega arith) (record {

@@ -7,9 +7,9 @@ use Rattle.tm_plan_cases.specs.declared.cases.Cases.{Cases}
 use Rattle.tm_plan_cases.specs.declared.program.Marks.{Marks}
 use Rattle.tm_plan_cases.specs.Shaped.{AreShaped}
 use Rattle.tm_plan_map.specs.Map.{text_base}
-use Rattle.tm_blocks_base.proofs.Lists.{count_from-suc}
+use Rattle.tm_base.proofs.ListLemmas.{count_from-suc}
 use Rattle.tm_pass_text.specs.Words.{Blocks, base_of, hart_size, streams_of, text_words}
-use Rattle.tm_pass_steps.specs.Hart.{blocks_of, words_of_hart}
+use Rattle.tm_pass_text.specs.Hart.{blocks_of, words_of_hart}
 
 -- a row of numbers more
 pub rows-on : (row : ℕ → List ℕ) (n m : ℕ) → m ≡ suc n → flat_map row (count_from 0 m) ≡ flat_map row (count_from 0 n)

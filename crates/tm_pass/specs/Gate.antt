@@ -7,7 +7,7 @@ use Rattle.tm_pass.specs.declared.hart.HartCode.{HartCode}
 
 -- An address that is no mark of a hart's text: it lies before each stream's start or behind its end, and is neither
 -- the exit mark nor the halt mark.
-pub record IsPlain (code : HartCode) (a : ℕ) : Type 0 where
+pub record IsUnmarked (code : HartCode) (a : ℕ) : Type 0 where
   pub streams : (c start end : ℕ) → slice_get code.starts c ≡ Some start → slice_get code.ends c ≡ Some end
       → (a < start) ⊎ (end < a)
   pub exit : a ≢ code.exit
@@ -21,7 +21,7 @@ HasGate w base words = (k word : ℕ) → k < 3 → slice_get words k ≡ Some w
 -- mark.
 pub record GoesBy (code : HartCode) (base : ℕ) (t : State) : Type 0 where
   pub within : Within base (base + 4 * length code.words) IsQuiet t
-  pub plain : IsPlain code t.pc
+  pub plain : IsUnmarked code t.pc
 
 -- A hart has come to the word behind the last one, with all registers but x1 as they were, and memory too.
 pub record PassedBy (code : HartCode) (base : ℕ) (s t : State) : Type 0 where

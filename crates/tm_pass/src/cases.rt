@@ -2,7 +2,7 @@
 ghost use Rattle.std.specs.Prelude.{◌≡◌, ◌+◌, ◌*◌, ◌%◌, ◌^◌, ◌<◌, ◌≤◌, [], ◌++◌, length, slice_index_or, OnOk, IfOk};
 ghost use Rattle.tm_plan_cases.specs.Shaped.{AreShaped};
 ghost use Rattle.tm_pass_text.specs.Words.{case_size, cases_words, streams_of};
-ghost use Rattle.tm_pass_steps.specs.Hart.{blocks_of};
+ghost use Rattle.tm_pass_text.specs.Hart.{blocks_of};
 ghost use Rattle.tm_pass_code.specs.Plain.{words_of_case};
 
 use crate::streams::{case_count, stream_of};

@@ -4,7 +4,7 @@ ghost use Rattle.tm_base.specs.Lists.{count_from};
 ghost use Rattle.tm_plan_map.specs.Map.{text_base, tables_base};
 ghost use Rattle.tm_plan_cases.specs.Shaped.{AreShaped};
 ghost use Rattle.tm_barrier.specs.Words.{barrier};
-ghost use Rattle.tm_pass_steps.specs.Hart.{words_of_hart};
+ghost use Rattle.tm_pass_text.specs.Hart.{words_of_hart};
 ghost use Rattle.tm_pass_place.specs.Built.{start_at, end_at, exit_at, halt_at};
 ghost use Rattle.tm_pass.specs.Gate.{ShutsOut};
 

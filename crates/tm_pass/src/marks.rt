@@ -4,7 +4,7 @@ ghost use Rattle.std.specs.Prelude.{IfOk};
 ghost use Rattle.tm_base.specs.Lists.{count_from};
 ghost use Rattle.tm_plan_cases.specs.Shaped.{AreShaped};
 ghost use Rattle.tm_pass_text.specs.Words.{before_size, case_size, streams_of};
-ghost use Rattle.tm_pass_steps.specs.Hart.{blocks_of};
+ghost use Rattle.tm_pass_text.specs.Hart.{blocks_of};
 ghost use Rattle.tm_pass_place.specs.Built.{start_at, end_at, halt_at};
 
 use crate::streams::{case_count, stream_of};

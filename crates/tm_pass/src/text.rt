@@ -3,7 +3,7 @@ ghost use Rattle.std.specs.Prelude.{◌≡◌, ◌∷◌, [], ◌++◌, IfOk, On
 ghost use Rattle.tm_plan_map.specs.Map.{text_base};
 ghost use Rattle.tm_plan_cases.specs.Shaped.{AreShaped};
 ghost use Rattle.tm_pass_text.specs.Words.{text_words};
-ghost use Rattle.tm_pass_steps.specs.Hart.{blocks_of};
+ghost use Rattle.tm_pass_text.specs.Hart.{blocks_of};
 ghost use Rattle.tm_pass_place.specs.Built.{marks_in};
 
 use crate::hart::{HartCode, hart_code};

@@ -5,7 +5,7 @@ use Rattle.tm_asm.specs.Sheet.{Sheet, puts}
 use Rattle.tm_table.specs.Words.{words_of}
 use Rattle.tm_plan_cases.specs.declared.cases.Cases.{Cases}
 use Rattle.tm_pass_text.specs.Words.{case_words}
-use Rattle.tm_pass_steps.specs.Hart.{blocks_of}
+use Rattle.tm_pass_text.specs.Hart.{blocks_of}
 
 -- code without words and labels
 abbrev pub blank : Sheet

@@ -3,7 +3,7 @@ ghost use Rattle.std.specs.Prelude.{◌≡◌, ◌+◌, ◌*◌, ◌%◌, ◌^�
 ghost use Rattle.tm_plan_cases.specs.Shaped.{AreShaped};
 ghost use Rattle.tm_table.specs.Words.{words_of};
 ghost use Rattle.tm_pass_text.specs.Words.{case_before, case_behind};
-ghost use Rattle.tm_pass_steps.specs.Hart.{blocks_of, first_at};
+ghost use Rattle.tm_pass_text.specs.Hart.{blocks_of, first_at};
 ghost use Rattle.tm_blocks_move.specs.Lines.{first_bytes, collect_all};
 ghost use Rattle.tm_blocks_compare.specs.Words.{compare_case};
 

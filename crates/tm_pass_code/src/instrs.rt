@@ -7,7 +7,7 @@ ghost use Rattle.tm_pass_text.specs.Words.{call};
 use tm_table::{Instr, Op};
 
 /// Goes `n` bytes on, an even number up to 1,048,574, with the address behind in x1.
-#[tactic(auto, using(crate::proofs::Fitting::call_fits))]
+#[tactic(auto, using(tm_pass_text::proofs::Fitting::call_fits))]
 pub fn call(n: u32) -> Instr
     requires even { n % 2 ≡ 0 }
     requires near { n ≤ 1048574 }

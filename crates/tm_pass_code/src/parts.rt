@@ -6,7 +6,7 @@ ghost use Rattle.tm_asm.specs.Sheet.{puts};
 ghost use Rattle.tm_blocks_base.specs.Blocks.{constant};
 ghost use Rattle.tm_pass_text.specs.Words.{aim, case_before, case_behind, gate, turn};
 ghost use Rattle.tm_pass_text.specs.Words.{call, reset};
-ghost use Rattle.tm_pass_steps.specs.Hart.{blocks_of, first_at, registers_at};
+ghost use Rattle.tm_pass_text.specs.Hart.{blocks_of, first_at, registers_at};
 ghost use Rattle.std.specs.Prelude.{[], ◌∷◌};
 
 use crate::instrs::{call, jump_back};

@@ -2,7 +2,7 @@
 ghost use Rattle.std.specs.Prelude.{◌≡◌, ◌+◌, ◌<◌, ◌≤◌, IfOk};
 ghost use Rattle.tm_plan_cases.specs.Shaped.{AreShaped};
 ghost use Rattle.tm_pass_text.specs.Words.{before_size, behind_size};
-ghost use Rattle.tm_pass_steps.specs.Hart.{blocks_of};
+ghost use Rattle.tm_pass_text.specs.Hart.{blocks_of};
 
 use crate::cases::{collect_size, compare_size, first_size};
 use std::alloc::Global;

@@ -15,7 +15,7 @@ use Rattle.tm_plan_owned.proofs.Reach.{length-line}
 use Rattle.tm_barrier.specs.Words.{prepare, meet, barrier}
 use Rattle.tm_pass_text.specs.Words.{hart_size, hart_words, streams_of, text_words}
 use Rattle.tm_pass_text.proofs.Stands.{length-hart}
-use Rattle.tm_pass_steps.specs.Hart.{blocks_of, IsBuilt}
+use Rattle.tm_pass_text.specs.Hart.{blocks_of, IsBuilt}
 use Rattle.tm_pass_place.specs.Built.{start_in, end_in, halt_in, exit_in, marks_in, built, CasesAreBuilt}
 use Rattle.tm_pass_place.proofs.Sizes.{short-hart}
 

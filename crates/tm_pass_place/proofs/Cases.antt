@@ -18,7 +18,7 @@ use Rattle.tm_pass_text.specs.Words.{call, reset, aim, turn, case_before, case_b
 use Rattle.tm_pass_text.proofs.Laying.{barrier, far-before, far-behind}
 use Rattle.tm_pass_way.specs.Calm.{Clear, StreamClear}
 use Rattle.tm_pass_way.proofs.Clears.{stream-clear}
-use Rattle.tm_pass_steps.specs.Hart.{IsBuilt, registers_at, first_at}
+use Rattle.tm_pass_text.specs.Hart.{IsBuilt, registers_at, first_at}
 use Rattle.tm_pass_steps.specs.Sites.{CallSite}
 use Rattle.tm_pass_steps.specs.Turning.{Plain}
 use Rattle.tm_pass_steps.specs.Placed.{ResetPlaced, SavePlaced, CollectPlaced, TurnPlaced}

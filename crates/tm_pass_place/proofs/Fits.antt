@@ -1,8 +1,7 @@
 -- The instructions of support code fit into their words.
 use Rattle.std.proofs.Common.{◌≡◌, ℕ, zero, suc, ◌+◌, ◌-◌, ◌*◌, ◌/◌, ◌%◌, ◌^◌, ◌<◌, ◌≤◌, Bool, true, false, ◌==◌}
-use Rattle.std.proofs.Common.{List, [], ◌∷◌, ◌++◌, map, flat_map, arith, rules}
+use Rattle.std.proofs.Common.{List, [], ◌∷◌, ◌++◌, map, flat_map, arith}
 use Rattle.std.specs.Prelude.{if◌then◌else◌}
-use Rattle.std.proofs.lemmas.Int.{ints}
 use Rattle.tm_table.specs.declared.instr.Instr.{Instr}
 use Rattle.tm_table.specs.Words.{Fits}
 use Rattle.tm_base.specs.Lists.{count_from}
@@ -22,6 +21,7 @@ use Rattle.tm_blocks_move.specs.Lines.{half_stride, first_window, first_bytes, c
 use Rattle.tm_blocks_move.specs.Lines.{collect_all}
 use Rattle.tm_barrier.specs.Words.{prepare, signal, wait, turn, waits, meet, barrier}
 use Rattle.tm_pass_text.specs.Words.{call, gate, reset, aim, turn as pass_turn}
+use Rattle.tm_pass_text.proofs.Fitting.{call_fits}
 
 -- each instruction fits
 pub data Fitting : List Instr → Type 0 where
@@ -168,12 +168,8 @@ fit-barrier h n l m =
 
 -- ---- the words between blocks
 
-call-fits : (n : ℕ) → n % 2 ≡ 0 → n ≤ 1048574 → Fits (call n)
-unfolding Fits
-call-fits n e h = search (rules, ints)
-
 pub fit-call : (n : ℕ) → n % 2 ≡ 0 → n ≤ 1048574 → Fitting (call n ∷ [])
-fit-call n e h = Fit (call-fits n e h) Nil
+fit-call n e h = Fit (call_fits n e h) Nil
 
 pub fit-reset : Fitting (reset ∷ [])
 fit-reset = Fit (sd_fits 0 264 31 (omega arith) (omega arith) (omega arith)) Nil

@@ -6,7 +6,7 @@ use Rattle.tm_plan_cases.specs.Shaped.{AreShaped}
 use Rattle.tm_plan_map.specs.Map.{text_base}
 use Rattle.tm_pass_text.specs.Words.{Blocks, base_of, case_size, hart_size, skip, streams_of}
 use Rattle.tm_pass_text.proofs.Laying.{skip-next}
-use Rattle.tm_pass_steps.specs.Hart.{blocks_of}
+use Rattle.tm_pass_text.specs.Hart.{blocks_of}
 use Rattle.tm_pass_place.specs.Built.{head_at, end_at, halt_at}
 use Rattle.tm_pass_place.proofs.Sizes.{count, stream-size, short-case, short-hart}
 

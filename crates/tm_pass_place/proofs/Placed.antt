@@ -1,8 +1,9 @@
 -- A built text has each part of each hart's program in its place.
 use Rattle.std.proofs.Common.{◌≡◌, ◌⊎◌, inl, inr, ℕ, zero, suc, ◌+◌, ◌-◌, ◌*◌, ◌<◌, ◌≤◌, Bool, true, false, ◌==◌}
-use Rattle.std.proofs.Common.{eqb-true, List, [], ◌∷◌, ◌++◌, length, Option, Some, refl, sym, ap, ◌∙◌, subst, arith}
+use Rattle.std.proofs.Common.{eqb-true, [], ◌∷◌, ◌++◌, length, Option, Some, refl, sym, ap, ◌∙◌, subst, arith}
 use Rattle.std.specs.Prelude.{slice_get, if◌then◌else◌}
 use Rattle.std.proofs.lemmas.Bool.{cases_lt, eqb-false}
+use Rattle.tm_base.proofs.ListLemmas.{get-some}
 use Rattle.tm_table.specs.declared.instr.Instr.{Instr}
 use Rattle.tm_plan_cases.specs.declared.masks.CaseMask.{CaseMask}
 use Rattle.tm_plan_cases.specs.declared.cases.Case.{Case}
@@ -27,7 +28,7 @@ use Rattle.tm_pass_text.proofs.Laying.{opening-at}
 use Rattle.tm_pass_way.specs.Calm.{Clear}
 use Rattle.tm_pass_way.specs.Meets.{Halts}
 use Rattle.tm_pass_way.proofs.Clears.{clear-opening, halts}
-use Rattle.tm_pass_steps.specs.Hart.{IsBuilt, registers_at, first_at}
+use Rattle.tm_pass_text.specs.Hart.{IsBuilt, registers_at, first_at}
 use Rattle.tm_pass_steps.specs.Beginning.{GateSite}
 use Rattle.tm_pass_steps.specs.Judging.{mark_behind}
 use Rattle.tm_pass_steps.specs.Placed.{HartPlaced, BeginPlaced, ComparePlaced}
@@ -53,11 +54,6 @@ place-up blocks cases g (suc h) l = by (cases_lt g (suc h)) (λ k. place-up bloc
         → place_of blocks cases g ≤ place_of blocks cases (suc h)
     by (inl x) k = let a = k (omega arith) in omega arith
     by (inr x) k = let e : g ≡ suc h = omega arith in omega (arith, ap (place_of blocks cases) e)
-
-get-some : {A : Type 0} (xs : List A) (k : ℕ) → k < length xs → (x : A) × (slice_get xs k ≡ Some x)
-get-some [] k l = absurd (omega arith)
-get-some (x ∷ xs) zero l = (x, refl)
-get-some (x ∷ xs) (suc k) l = get-some xs k (omega arith)
 
 module _ (p : Program) (program : IsProgram p) (typed : IsTyped p) (is : IsBuilt p) (tables : p.tables
     ≡ table_bytes p.cases p.masks) (h : ℕ) (number : h < harts p) where

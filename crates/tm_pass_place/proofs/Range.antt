@@ -3,6 +3,8 @@ use Rattle.std.proofs.Common.{◌≡◌, ℕ, zero, suc, ◌+◌, ◌-◌, ◌*�
 use Rattle.std.proofs.Common.{drop, sym, subst, arith, drop-cons}
 use Rattle.std.specs.Prelude.{slice_index, slice_index_or}
 use Rattle.std.proofs.lemmas.List.{drop_all}
+use Rattle.tm_barrier.proofs.Meet.{length-barrier}
+use Rattle.tm_world.proofs.Streams.{case-of, stream-of}
 use Rattle.tm_table.specs.declared.instr.Instr.{Instr}
 use Rattle.tm_table.proofs.Decoding.{word-lt}
 use Rattle.tm_base.specs.Lists.{count_from}
@@ -10,7 +12,6 @@ use Rattle.tm_plan_cases.specs.declared.cases.Cases.{Cases}
 use Rattle.tm_plan_cases.specs.declared.masks.Masks.{Masks}
 use Rattle.tm_plan_cases.specs.Shaped.{AreShaped}
 use Rattle.tm_plan_map.specs.Map.{text_base, private_at}
-use Rattle.tm_legal.proofs.Streams.{case-of, stream-of}
 use Rattle.tm_table.specs.Words.{words_of}
 use Rattle.tm_blocks_base.specs.Blocks.{constant}
 use Rattle.tm_pass_text.specs.Words.{Blocks, back_words, base_of, before_size, case_before, case_behind, case_size}
@@ -18,11 +19,11 @@ use Rattle.tm_pass_text.specs.Words.{case_words, cases_words, gate, hart_size, h
 use Rattle.tm_pass_text.specs.Words.{streams_of, text_words}
 use Rattle.tm_pass_text.proofs.Laying.{stream-words}
 use Rattle.tm_pass_text.proofs.Pairs.{Each, each-all, each-append, each-flat}
-use Rattle.tm_pass_steps.specs.Hart.{blocks_of}
+use Rattle.tm_pass_text.specs.Hart.{blocks_of}
 use Rattle.tm_pass_place.specs.Built.{by_case, start_in, end_in, exit_in, halt_in, marks_in, built}
 use Rattle.tm_pass_place.specs.Range.{HaveWords, IsInRange, BuiltIsInRange}
 use Rattle.tm_pass_place.proofs.Fits.{Fitting, Fit}
-use Rattle.tm_pass_place.proofs.Sizes.{barrier-short, count, fits-barrier, fits-before, fits-behind, fits-opening}
+use Rattle.tm_pass_place.proofs.Sizes.{count, fits-barrier, fits-before, fits-behind, fits-opening}
 use Rattle.tm_pass_place.proofs.Sizes.{short-hart}
 use Rattle.tm_pass_place.proofs.Heads.{base-low, ends-low, few-words, heads-low}
 
@@ -139,7 +140,7 @@ module _ (cases : Cases) (shaped : AreShaped cases) (typed : HaveWords cases) wh
       )
 
   exit-low : (h : ℕ) → h < cases.harts → exit_in cases h < 2 ^ 64
-  exit-low h l = let harts = shaped.harts in omega (arith, halt-low h l, barrier-short h cases.harts)
+  exit-low h l = let harts = shaped.harts in omega (arith, halt-low h l, length-barrier h cases.harts)
 
   end-low : (h c : ℕ) → h < cases.harts → c < C → end_in cases h c < 2 ^ 64
   end-low h c l m = omega (arith, ends-low cases shaped h l (base_of B cases h) c m, halt-low h l)

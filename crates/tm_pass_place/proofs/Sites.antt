@@ -19,7 +19,7 @@ use Rattle.tm_pass_text.proofs.Spreads.{head-up}
 use Rattle.tm_pass_text.proofs.Stands.{length-before, length-behind}
 use Rattle.tm_pass_way.specs.Calm.{Clear}
 use Rattle.tm_pass_way.proofs.Clears.{clear-before, clear-behind}
-use Rattle.tm_pass_steps.specs.Hart.{blocks_of, IsBuilt, registers_at}
+use Rattle.tm_pass_text.specs.Hart.{blocks_of, IsBuilt, registers_at}
 use Rattle.tm_pass_steps.proofs.Placing.{stands-code}
 use Rattle.tm_pass_place.specs.Places.{first_long}
 use Rattle.tm_pass_place.proofs.Fits.{all-fit}

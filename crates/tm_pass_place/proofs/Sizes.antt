@@ -1,46 +1,28 @@
 -- How many words each part of a hart's program has, and that all of them fit.
-use Rattle.std.proofs.Common.{◌≡◌, ℕ, zero, suc, ◌+◌, ◌-◌, ◌*◌, ◌%◌, ◌^◌, ◌<◌, ◌≤◌, Bool, true, false, ◌==◌, List, []}
-use Rattle.std.proofs.Common.{◌∷◌, ◌++◌, length, flat_map, ap, arith, length-append}
-use Rattle.std.specs.Prelude.{slice_get, slice_index_or, if◌then◌else◌}
+use Rattle.std.proofs.Common.{◌≡◌, ℕ, ◌+◌, ◌-◌, ◌*◌, ◌%◌, ◌^◌, ◌<◌, ◌≤◌, List, []}
+use Rattle.std.proofs.Common.{◌++◌, length, ap, arith}
+use Rattle.std.specs.Prelude.{slice_get, slice_index_or}
 use Rattle.std.proofs.lemmas.List.{length-map}
 use Rattle.std.proofs.Math.Nat.{mul-le-mul_left}
+use Rattle.tm_world.proofs.Streams.{shaped-stream, stream-of}
 use Rattle.tm_plan_cases.specs.declared.cases.Case.{Case}
 use Rattle.tm_plan_cases.specs.declared.cases.Cases.{Cases}
 use Rattle.tm_plan_cases.specs.Shaped.{AreShaped}
 use Rattle.tm_plan_map.specs.Map.{tables_base, table_at, private_at, save_at, verdict_at}
-use Rattle.tm_base.specs.Lists.{count_from}
-use Rattle.tm_legal.proofs.Streams.{stream-of, shaped-stream}
-use Rattle.tm_blocks_base.specs.Instrs.{fence, go_to}
 use Rattle.tm_blocks_base.specs.Blocks.{constant}
 use Rattle.tm_blocks_base.proofs.Lengths.{length-load_registers, length-save_registers}
 use Rattle.tm_blocks_move.proofs.Sizes.{length-first, length-collect}
 use Rattle.tm_blocks_compare.specs.Words.{case_masks, case_bytes}
-use Rattle.tm_barrier.specs.Words.{prepare, wait, turn, waits, meet, barrier}
+use Rattle.tm_barrier.specs.Words.{barrier}
+use Rattle.tm_barrier.proofs.Meet.{length-barrier}
 use Rattle.tm_pass_text.specs.Words.{Blocks, gate, case_size, case_before, case_behind, back_words, hart_size}
 use Rattle.tm_pass_text.specs.Words.{words_at, streams_of}
 use Rattle.tm_pass_text.proofs.Laying.{stream-words}
 use Rattle.tm_pass_text.proofs.Room.{hart-fits}
-use Rattle.tm_pass_steps.specs.Hart.{registers_at, first_at, blocks_of}
+use Rattle.tm_pass_text.specs.Hart.{registers_at, first_at, blocks_of}
 use Rattle.tm_pass_place.proofs.Fits.{Fitting, fit-append, fit-constant, fit-loads, fit-saves, fit-first, fit-collect}
 use Rattle.tm_pass_place.proofs.Fits.{fit-barrier, fit-call, fit-reset, fit-aim, fit-pass, fit-gate}
 use Rattle.tm_pass_place.proofs.Comparing.{fit-compare, compare-short}
-
-waits-short : (h a n : ℕ) → length (flat_map (turn h) (count_from a n)) ≤ 2 * n
-waits-short h a zero = omega arith
-waits-short h a (suc n) =
-    let rest = waits-short h (suc a) n in
-    let one = by (a == h) in
-    omega (arith, length-append (turn h a) (flat_map (turn h) (count_from (suc a) n)))
-  where
-    by : (t : Bool) → length (if t then [] else wait a) ≤ 2
-    by true = omega arith
-    by false = omega arith
-
-pub barrier-short : (h n : ℕ) → length (barrier h n) ≤ 9 + 2 * n
-unfolding barrier meet prepare waits
-barrier-short h n =
-    let w = flat_map (turn h) (count_from 0 n) in
-    omega (arith, waits-short h 0 n, length-append (w ++ (fence ∷ [])) (go_to 1 ∷ []), length-append w (fence ∷ []))
 
 module _ (cases : Cases) (shaped : AreShaped cases) where
   abbrev C : ℕ
@@ -151,7 +133,7 @@ module _ (cases : Cases) (shaped : AreShaped cases) where
   short-hart h l =
       let a = shaped.harts in
       let b = shaped.count in
-      let whole = hart-fits (B h) (ss h) (omega (arith, barrier-short h N))
+      let whole = hart-fits (B h) (ss h) (omega (arith, length-barrier h N))
       (λ d s m e. let few : d < C = omega (arith, count h) in
       short-case h d l few (length s) (omega (arith, ap length e, (stream-size h d l few).1))) in
       omega (arith, count h)

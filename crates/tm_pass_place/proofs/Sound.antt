@@ -1,37 +1,30 @@
 -- Built programs keep what makes them sound.
-use Rattle.std.proofs.Common.{◌≡◌, ℕ, ◌+◌, ◌*◌, ◌<◌, ◌≤◌, List, length, arith}
-use Rattle.tm_table.specs.State.{Hart}
+use Rattle.std.proofs.Common.{◌≡◌, ℕ, ◌+◌, ◌*◌, ◌<◌, ◌≤◌, length, arith}
 use Rattle.tm_plan_cases.specs.declared.program.Program.{Program}
 use Rattle.tm_plan_cases.specs.Collected.{owned}
 use Rattle.tm_plan_cases.specs.Shaped.{IsProgram, IsTyped}
 use Rattle.tm_plan_cases.specs.Tables.{table_bytes}
 use Rattle.tm_world.specs.Place.{harts, passes}
-use Rattle.tm_world.specs.Kinds.{first_of_hart}
-use Rattle.tm_world.specs.Run.{Step, own}
 use Rattle.tm_world.specs.Whole.{Laid}
 use Rattle.tm_legal.specs.Tame.{Formed}
 use Rattle.tm_meet.proofs.Dwords.{dwords-set}
-use Rattle.tm_pace.specs.Pace.{Pace, KeepsPace, PaceFits}
+use Rattle.tm_pace.specs.Pace.{PaceFits}
+use Rattle.tm_stays.specs.Pace.{Pace}
 use Rattle.tm_sound.specs.Parts.{HartParts}
 use Rattle.tm_sound.proofs.Sound.{sound}
 use Rattle.tm_pass_text.proofs.Laying.{text-laid}
-use Rattle.tm_pass_way.specs.Pace.{KeepsPace as KeepsLimits, pace_of}
-use Rattle.tm_pass_steps.specs.Hart.{blocks_of, IsBuilt}
+use Rattle.tm_pass_way.specs.Pace.{pace_of}
+use Rattle.tm_pass_text.specs.Hart.{blocks_of, IsBuilt}
 use Rattle.tm_pass_steps.specs.Placed.{costs_of}
 use Rattle.tm_pass_steps.proofs.Placed.{placed-paces}
 use Rattle.tm_pass_place.specs.Places.{places_of}
-use Rattle.tm_pass_place.specs.Sound.{Keeps, BuiltKeeps, BuiltIsSound}
+use Rattle.tm_pass_place.specs.Sound.{KeepsParts, BuiltKeeps, BuiltIsSound}
 use Rattle.tm_pass_place.proofs.Placed.{harts-placed}
 use Rattle.tm_pass_place.proofs.Sizes.{stream-size}
 
 -- what the parts of one pass cost
 abbrev pace_at : Program → ℕ → Pace
-pace_at p h = let m = pace_of (costs_of p h) in record {
-  sets = m.sets;
-  runs = m.runs;
-  ends = m.ends;
-  compares = m.compares;
-}
+pace_at p h = pace_of (costs_of p h)
 
 fits : (p : Program) (h : ℕ) → PaceFits p h (pace_at p h)
 fits p h = by (passes p) (harts p) (length (owned p.cases h))
@@ -48,10 +41,6 @@ module _ (p : Program) (program : IsProgram p) (typed : IsTyped p) (is : IsBuilt
   formed : Formed p
   formed = record { program = program; typed = typed; laid = laid }
 
-  paced : (h : ℕ) (first : Hart) (steps : List Step) → KeepsLimits p h (pace_of (costs_of p h)) first steps
-      → KeepsPace p h (pace_at p h) first steps
-  paced h first steps k = record { begin = k.begin; run = k.run; between = k.between; next = k.next; last = k.last }
-
   hart : (h : ℕ) → h < harts p → HartParts p h
   hart h number =
       let at = harts-placed p program typed is tables h number in
@@ -64,10 +53,10 @@ module _ (p : Program) (program : IsProgram p) (typed : IsTyped p) (is : IsBuilt
         next = k.next;
         pace = pace_at p h;
         fits = fits p h;
-        keeps = λ r half. paced h (first_of_hart r h) (own h r.steps) (all.1 r half);
+        keeps = all.1;
       }
 
-  keeps : Keeps p
+  keeps : KeepsParts p
   keeps = record { laid = laid; each = hart }
 
 pub built-keeps : (p : Program) → BuiltKeeps p

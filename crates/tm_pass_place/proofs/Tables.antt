@@ -5,6 +5,7 @@ use Rattle.std.specs.Prelude.{slice_get, slice_index}
 use Rattle.std.proofs.lemmas.List.{get_or_append_left, get_or-append-add, get_or-take, get_or-drop}
 use Rattle.std.proofs.Math.Nat.{mul-le-mul_left}
 use Rattle.std.proofs.lemmas.Option.{slice_get_within}
+use Rattle.tm_base.proofs.ListLemmas.{all-at}
 use Rattle.tm_plan_cases.specs.declared.cases.Case.{Case}
 use Rattle.tm_plan_cases.specs.declared.cases.Stream.{Stream}
 use Rattle.tm_plan_cases.specs.declared.masks.CaseMask.{CaseMask}
@@ -17,14 +18,14 @@ use Rattle.tm_plan_cases.specs.Tables.{dword_bytes, dwords_bytes, hart_table, ha
 use Rattle.tm_plan_cases.proofs.TableLemmas.{length-dword, length-dwords, length-hart, length-harts, tables-stand}
 use Rattle.tm_world.specs.Place.{harts, case_count, image_byte, byte_of}
 use Rattle.tm_plan_cases.specs.Streams.{stream_in}
+use Rattle.tm_world.proofs.Streams.{case-of, shaped-stream, stream-of}
 use Rattle.tm_runs.specs.World.{Sizes, image_dword, is_fixed_dword}
 use Rattle.tm_runs.proofs.Bytes.{joined-lt, joined-byte}
 use Rattle.tm_runs.proofs.Places.{image-lt}
 use Rattle.tm_runs.proofs.Worlds.{sizes-of, image-dword, image-table, table-dword}
-use Rattle.tm_legal.proofs.Streams.{all-at, case-of, shaped-stream, stream-of}
-use Rattle.tm_blocks_move.proofs.Places.{IsDword, Dwords, owned-dwords}
+use Rattle.tm_plan_owned.proofs.Collected.{IsDword, Dwords, owned-dwords}
 use Rattle.tm_blocks_compare.specs.Words.{case_masks, case_bytes}
-use Rattle.tm_pass_steps.specs.Hart.{registers_at, first_at}
+use Rattle.tm_pass_text.specs.Hart.{registers_at, first_at}
 use Rattle.tm_pass_steps.specs.Setting.{FirstTable}
 use Rattle.tm_pass_steps.specs.Entering.{RegisterTable}
 use Rattle.tm_pass_steps.specs.Finding.{HasMasks}

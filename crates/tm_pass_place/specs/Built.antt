@@ -10,7 +10,7 @@ use Rattle.tm_plan_cases.specs.Shaped.{AreShaped, MasksFit, IsProgram}
 use Rattle.tm_plan_cases.specs.Tables.{table_bytes}
 use Rattle.tm_base.specs.Lists.{count_from}
 use Rattle.tm_pass_text.specs.Words.{before_size, opening_size, skip, streams_of, text_words, base_of}
-use Rattle.tm_pass_steps.specs.Hart.{blocks_of, IsBuilt}
+use Rattle.tm_pass_text.specs.Hart.{blocks_of, IsBuilt}
 
 -- ---- the marks of one hart's text, where it begins at an address
 

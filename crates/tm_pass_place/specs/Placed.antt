@@ -5,7 +5,7 @@ use Rattle.tm_plan_cases.specs.Shaped.{IsProgram, IsTyped}
 use Rattle.tm_plan_cases.specs.Tables.{table_bytes}
 use Rattle.tm_world.specs.Place.{harts}
 use Rattle.tm_pass_way.specs.Meets.{Halts}
-use Rattle.tm_pass_steps.specs.Hart.{IsBuilt}
+use Rattle.tm_pass_text.specs.Hart.{IsBuilt}
 use Rattle.tm_pass_steps.specs.Placed.{HartPlaced}
 use Rattle.tm_pass_place.specs.Places.{places_of}
 

@@ -5,7 +5,7 @@ use Rattle.tm_world.specs.Place.{end_of}
 use Rattle.tm_blocks_move.specs.Lines.{first_bytes, collect_all}
 use Rattle.tm_pass_text.specs.Words.{head_of}
 use Rattle.tm_pass_way.specs.Parts.{Places}
-use Rattle.tm_pass_steps.specs.Hart.{blocks_of, first_at}
+use Rattle.tm_pass_text.specs.Hart.{blocks_of, first_at}
 
 -- how many bytes the words have that set case c's first dwords
 abbrev pub first_long : Program → (h c : ℕ) → ℕ

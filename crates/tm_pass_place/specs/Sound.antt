@@ -8,18 +8,18 @@ use Rattle.tm_world.specs.Place.{harts}
 use Rattle.tm_world.specs.Sound.{Sound}
 use Rattle.tm_world.specs.Whole.{Laid}
 use Rattle.tm_sound.specs.Parts.{HartParts}
-use Rattle.tm_pass_steps.specs.Hart.{IsBuilt}
+use Rattle.tm_pass_text.specs.Hart.{IsBuilt}
 
 -- A program whose text is built of the blocks and whose tables are those of its cases and masks is laid as the course
 -- asks, and each of its harts keeps on half runs its course, its first dwords, its verdicts and a pace within its
 -- bound, and doesn't get stuck.
-pub record Keeps (p : Program) : Type 0 where
+pub record KeepsParts (p : Program) : Type 0 where
   pub laid : Laid p
   pub each : (h : ℕ) → h < harts p → HartParts p h
 
 -- a built program with the format's tables keeps all that
 abbrev pub BuiltKeeps : Program → Type 0
-BuiltKeeps p = IsProgram p → IsTyped p → IsBuilt p → p.tables ≡ table_bytes p.cases p.masks → Keeps p
+BuiltKeeps p = IsProgram p → IsTyped p → IsBuilt p → p.tables ≡ table_bytes p.cases p.masks → KeepsParts p
 
 -- Where its masks are the checked sets, it is sound.
 abbrev pub BuiltIsSound : Program → Type 0

@@ -4,10 +4,12 @@ use Rattle.std.proofs.Common.{eqb-true, ne_eqb, List, [], ◌∷◌, ◌++◌, l
 use Rattle.std.proofs.Common.{◌∙◌, subst, arith, append-nil}
 use Rattle.std.specs.Prelude.{slice_index_or, IfSome, if◌then◌else◌}
 use Rattle.std.proofs.lemmas.Bool.{eqb-false}
+use Rattle.std.proofs.lemmas.Option.{IfSome_then}
 use Rattle.tm_table.specs.declared.state.Access.{Access}
 use Rattle.tm_table.specs.declared.state.Access.TheVariants.{Quiet, Read, Write}
 use Rattle.tm_plan_cases.specs.declared.program.Program.{Program}
 use Rattle.tm_plan_map.specs.Map.{flag_at, private_at, private_size, windows_base}
+use Rattle.tm_plan_map.proofs.Within.{within-false}
 use Rattle.tm_plan_cases.specs.Collected.{owned}
 use Rattle.tm_base.specs.Lists.{any}
 use Rattle.tm_plan_cases.specs.Shaped.{MasksFit}
@@ -21,12 +23,11 @@ use Rattle.tm_runs.specs.Machine.{Entry}
 use Rattle.tm_runs.specs.Runs.{Each, Does}
 use Rattle.tm_runs.specs.Course.{trail, Story}
 use Rattle.tm_runs.proofs.Arrivals.{quiet-off, arrivals-none}
-use Rattle.tm_runs.proofs.Bytes.{within-false}
 use Rattle.tm_legal.proofs.Formed.{formed-sizes}
 use Rattle.tm_legal.specs.Tame.{Formed}
 use Rattle.tm_blocks_base.specs.Laws.{Uses}
 use Rattle.tm_barrier.specs.Words.{meet}
-use Rattle.tm_barrier.specs.Laws.{Meets, IsOtherFlag, Keeps-in-step, worked}
+use Rattle.tm_barrier.specs.Laws.{MeetUses, IsOtherFlag, KeepsInStep, worked}
 use Rattle.tm_runs.specs.Phases.{idles_in}
 use Rattle.tm_barrier.specs.Course.{Comes, PassesBarrier}
 use Rattle.tm_barrier.proofs.Passing.{barriers_keep}
@@ -34,25 +35,14 @@ use Rattle.tm_pass_way.specs.Logs.{work_in}
 use Rattle.tm_runs.specs.Phases.{phase_in, steps_in, now_in, signals_in}
 use Rattle.tm_pass_way.specs.Facts.{Fact, Told, AreSet, last_in}
 use Rattle.tm_runs.specs.Phases.{Keeping}
+use Rattle.tm_runs.proofs.Story.{each-map, story-map}
 use Rattle.tm_pass_way.specs.Calm.{IsBelow, IsOwn}
-use Rattle.tm_pass_way.proofs.Calm.{flag-low, work-more, owned-above}
-use Rattle.tm_pass_way.proofs.Stream.{private-below}
+use Rattle.tm_pass_way.proofs.Calm.{flag-low, work-more}
+use Rattle.tm_plan_owned.proofs.Collected.{owned-above}
+use Rattle.tm_pass_way.proofs.Calm.{private-below}
 use Rattle.tm_pass_way.proofs.Barrier.{Signals, barrier-fact}
 use Rattle.tm_pass_way.proofs.Waiting.{phase-all, now-all, barrier-work}
 use Rattle.tm_pass_steps.specs.Sites.{BarrierSite}
-
-story-map : (F G : List Entry → Entry → Type 0) → ((past : List Entry) (e : Entry) → F past e → G past e)
-    → (log : List Entry) → Story F log → Story G log
-story-map F G f [] h = tt
-story-map F G f (e ∷ log) h = (f log e h.0, story-map F G f log h.1)
-
-each-map : (E F : Entry → Type 0) → ((e : Entry) → E e → F e) → (es : List Entry) → Each E es → Each F es
-each-map E F f [] h = tt
-each-map E F f (e ∷ es) h = (f e h.0, each-map E F f es h.1)
-
-some-map : {P Q : ℕ → Type 0} (o : Option ℕ) → ((x : ℕ) → P x → Q x) → IfSome o P → IfSome o Q
-some-map None f s = s
-some-map (Some x) f s = f x s
 
 -- ---- what a barrier writes
 
@@ -89,7 +79,7 @@ module _ (p : Program) (formed : Formed p) (fit : MasksFit p.cases p.masks) (h :
   cell = private_at h + 256
 
   abbrev Bars : Entry → Type 0
-  Bars = Does entry hi (Meets h n cell)
+  Bars = Does entry hi (MeetUses h n cell)
 
   pub low : h < 16
   low = let b = (formed-sizes formed).harts in omega arith
@@ -98,7 +88,7 @@ module _ (p : Program) (formed : Formed p) (fit : MasksFit p.cases p.masks) (h :
   unfolding private_size
   cell-own = (omega arith, omega arith)
 
-  pub uses : (x : Access) → Meets h n cell x → Uses IsBelow (Signals h) x
+  pub uses : (x : Access) → MeetUses h n cell x → Uses IsBelow (Signals h) x
   uses Quiet u = tt
   uses (Read a width v) u = (u.0, by u.1)
     where
@@ -139,15 +129,15 @@ module _ (p : Program) (formed : Formed p) (fit : MasksFit p.cases p.masks) (h :
       more = λ z. omega arith;
     }
 
-    pub passes : (es : List Entry) → Story (Fact p h) base → Each Bars es → Story (Keeps-in-step h n (q + 1)) es
+    pub passes : (es : List Entry) → Story (Fact p h) base → Each Bars es → Story (KeepsInStep h n (q + 1)) es
         → PassesBarrier p h q base es
     passes es story each steps =
         barriers_keep p h q base es number comes (story-map (Fact p h) (Keeping p h)
         (λ past e f. f.barrier) base story) steps
-        (each-map Bars (λ (e : Entry). e.pc ≢ exit) off es each)
+        (each-map off es each)
 
     far : (es : List Entry) → Each Bars es → Each (λ (e : Entry). e.pc ≢ exit) es
-    far es each = each-map Bars (λ (e : Entry). e.pc ≢ exit) off es each
+    far es each = each-map off es each
 
     pub phase-there : (es : List Entry) → Each Bars es → phase_in exit (es ++ base) ≡ q
     phase-there es each = phase-all p formed fit h number q base phase es (far es each)
@@ -166,8 +156,8 @@ module _ (p : Program) (formed : Formed p) (fit : MasksFit p.cases p.masks) (h :
     sets es each =
         subst (λ (r : ℕ). IfSome (case_of_phase p (suc r)) (λ d. AreSet p h d (now_in exit (es ++ base))))
         (sym (phase-there es each))
-        (some-map (case_of_phase p (suc q)) (λ d g. subst (AreSet p h d) (sym (now-there es each))
-        (set-all d es each g)) set)
+        (IfSome_then (case_of_phase p (suc q)) set (λ d g. subst (AreSet p h d) (sym (now-there es each))
+        (set-all d es each g)))
 
     facts : (es : List Entry) → Each Bars es → Story (Keeping p h) (es ++ base) → Story (Fact p h) base
         → Story (Fact p h) (es ++ base)
@@ -193,19 +183,19 @@ module _ (p : Program) (formed : Formed p) (fit : MasksFit p.cases p.masks) (h :
         let k = other-work r es ne each.1 in
         omega arith
 
-    own-work : (es : List Entry) → Each Bars es → Story (Keeps-in-step h n (q + 1)) es
+    own-work : (es : List Entry) → Each Bars es → Story (KeepsInStep h n (q + 1)) es
         → work_in p h q (es ++ base) ≤ work_in p h q base + worked (idles_in h n (q + 1)) es
     own-work es each steps = barrier-work p formed fit h number q base phase es (far es each)
-        (story-map (Keeps-in-step h n (q + 1)) (λ past e. idles_in h n (q + 1) e ≡ true → any (signals_in h) past
+        (story-map (KeepsInStep h n (q + 1)) (λ past e. idles_in h n (q + 1) e ≡ true → any (signals_in h) past
         ≡ true) (λ past e k. k.waits) es steps)
 
-    pub few-there : (es : List Entry) (o : ℕ) → Each Bars es → Story (Keeps-in-step h n (q + 1)) es
+    pub few-there : (es : List Entry) (o : ℕ) → Each Bars es → Story (KeepsInStep h n (q + 1)) es
         → worked (idles_in h n (q + 1)) es ≤ 7 + 2 * n → work_in p h q base ≤ o
         → work_in p h q (es ++ base) ≤ o + 7 + 2 * n
     few-there es o each steps work few = let w = own-work es each steps in omega arith
 
     -- so far in the barrier, all is told
-    pub told-there : (es : List Entry) (o : ℕ) → Each Bars es → Story (Keeps-in-step h n (q + 1)) es
+    pub told-there : (es : List Entry) (o : ℕ) → Each Bars es → Story (KeepsInStep h n (q + 1)) es
         → worked (idles_in h n (q + 1)) es ≤ 7 + 2 * n → work_in p h q base ≤ o → o + 7 + 2 * n ≤ limit q
         → Told p h limit base → Told p h limit (es ++ base)
     told-there es o each steps work few room told = record {

@@ -1,5 +1,5 @@
 -- A hart comes through the gates of those before it to its first case.
-use Rattle.std.proofs.Common.{◌≡◌, ℕ, zero, suc, ◌+◌, ◌*◌, ◌^◌, ◌<◌, ◌≤◌, List, [], ◌∷◌, ◌++◌, length, refl, sym, ap}
+use Rattle.std.proofs.Common.{◌≡◌, ℕ, zero, suc, ◌+◌, ◌*◌, ◌^◌, ◌<◌, ◌≤◌, List, [], ◌++◌, length, refl, sym, ap}
 use Rattle.std.proofs.Common.{◌∙◌, subst, arith, length-append}
 use Rattle.std.specs.Prelude.{IsTrue}
 use Rattle.tm_table.specs.declared.state.Access.{Access}
@@ -9,10 +9,10 @@ use Rattle.tm_plan_cases.specs.Shaped.{MasksFit}
 use Rattle.tm_world.specs.Place.{harts, exit_of, image_byte}
 use Rattle.tm_world.specs.Marks.{whole_way}
 use Rattle.tm_runs.specs.Machine.{State, Entry, Table, get}
-use Rattle.tm_runs.specs.Runs.{Takes, Within, Newest, Does, Since, At, IsQuiet}
+use Rattle.tm_runs.specs.Runs.{Takes, Within, Does, Since, At, IsQuiet}
 use Rattle.tm_runs.specs.World.{world_of, support_at, image_dword}
 use Rattle.tm_runs.proofs.Ahead.{Small, takes_told, world-low}
-use Rattle.tm_runs.proofs.Compose.{keeps_after, keeps_now, takes_map, takes_then, takes_more}
+use Rattle.tm_runs.proofs.Compose.{keeps_after, keeps_now, takes_map, takes_then, takes_more, newest_map}
 use Rattle.tm_runs.proofs.Bytes.{joined-lt}
 use Rattle.tm_runs.proofs.Places.{image-lt}
 use Rattle.tm_runs.proofs.Split.{takes_since, takes_count}
@@ -36,18 +36,6 @@ area-few h l = omega arith
 image-few : (p : Program) → Formed p → (a : ℕ) → image_dword p a < 2 ^ 64
 unfolding image_dword
 image-few p formed a = joined-lt (λ i. image_byte p (a + i)) 8 (λ i. image-lt p (a + i) (formed-sizes formed))
-
--- a step in some words is one in more words
-wider : (lo hi a b : ℕ) (A B : Access → Type 0) → a ≤ lo → hi ≤ b → ((x : Access) → A x → B x) → (log : List Entry)
-    → Newest (Does lo hi A) log → Newest (Does a b B) log
-wider lo hi a b A B l m f [] h = tt
-wider lo hi a b A B l m f (e ∷ es) h = record {
-  from = omega (arith, h.from);
-  below = omega (arith, h.below);
-  least = omega (arith, h.least);
-  most = omega (arith, h.most);
-  access = f e.access h.access;
-}
 
 module _ (p : Program) (formed : Formed p) (fit : MasksFit p.cases p.masks) (h : ℕ) (number : h < harts p) (base far : ℕ
     → ℕ) (site : GateSite p h base far) (clear : Clear p h text_base (base h + 56)) (limit : ℕ → ℕ) where
@@ -88,11 +76,13 @@ module _ (p : Program) (formed : Formed p) (fit : MasksFit p.cases p.masks) (h :
         (subst (λ (x : ℕ). At (support_at p h) x (gate h (far h))) (sym a.pc) (site.gates h (omega arith)))
         (a.regs 10 (λ z. omega arith) ∙ own) in
         takes_then
-        (takes_map (λ u g. wider t.pc (t.pc + 12) text_base hi IsQuiet (IsCalm h) (let r = rise h (omega arith) in
+        (takes_map (λ u g. newest_map t.pc (t.pc + 12) text_base hi {A = IsQuiet} {B = IsCalm h}
+        (let r = rise h (omega arith) in
         omega (arith, a.pc)) (omega (arith, a.pc)) calm u.log g) (λ u g. g) law)
         (λ u b.
         let pc : u.pc ≡ base h + 12 = omega (arith, b.pc, a.pc) in
-        takes_map (λ v g. wider u.pc (u.pc + 44) text_base hi IsQuiet (IsCalm h) (let r = rise h (omega arith) in
+        takes_map (λ v g. newest_map u.pc (u.pc + 44) text_base hi {A = IsQuiet} {B = IsCalm h}
+        (let r = rise h (omega arith) in
         omega arith) (omega arith) calm v.log g)
         (λ v g. record {
           pc = omega (arith, g.pc, pc);
@@ -117,7 +107,7 @@ module _ (p : Program) (formed : Formed p) (fit : MasksFit p.cases p.masks) (h :
         omega arith) in
         takes_more _ (omega arith)
         (takes_then
-        (takes_map (λ u y. wider t.pc (t.pc + 8 + far g) text_base hi IsQuiet (IsCalm h)
+        (takes_map (λ u y. newest_map t.pc (t.pc + 8 + far g) text_base hi {A = IsQuiet} {B = IsCalm h}
         (let r = rise g (omega arith) in omega (arith, a.pc)) (let b = below k (suc g) (omega arith) in
         omega (arith, a.pc)) calm u.log y) (λ u y. y) law)
         (λ u b. pass k (suc g) (omega arith) u (record {

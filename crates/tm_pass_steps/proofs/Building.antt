@@ -15,7 +15,7 @@ use Rattle.tm_pass_text.specs.Words.{streams_of, head_of, base_of}
 use Rattle.tm_pass_text.proofs.Laying.{rest-at, spread, head}
 use Rattle.tm_pass_text.proofs.Spreads.{head-up}
 use Rattle.tm_pass_text.proofs.Stands.{stands-right}
-use Rattle.tm_pass_steps.specs.Hart.{blocks_of, IsBuilt}
+use Rattle.tm_pass_text.specs.Hart.{blocks_of, IsBuilt}
 use Rattle.tm_pass_steps.specs.Sites.{BarrierSite}
 use Rattle.tm_pass_steps.specs.Building.{BarrierIsPlaced}
 use Rattle.tm_pass_steps.proofs.Placing.{IsOutside, stands-code}

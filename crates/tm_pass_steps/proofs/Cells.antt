@@ -1,17 +1,17 @@
 -- Places of flags, counts and saved registers, and a table with a value at two places.
 use Rattle.std.proofs.Common.{◌≡◌, ◌≢◌, inr, ℕ, ◌+◌, ◌-◌, ◌*◌, ◌^◌, ◌<◌, ◌≤◌, Bool, true, false}
-use Rattle.std.proofs.Common.{true≢false, ne_eqb, eq-eqb, Option}
-use Rattle.std.proofs.Common.{None, Some, refl, sym, ap, ◌∙◌, arith}
-use Rattle.std.specs.Prelude.{IfSome, if◌then◌else◌, nat_eq}
+use Rattle.std.proofs.Common.{ne_eqb, eq-eqb}
+use Rattle.std.proofs.Common.{None, Some, refl, ap, ◌∙◌, arith}
+use Rattle.std.specs.Prelude.{if◌then◌else◌, nat_eq}
 use Rattle.tm_table.specs.declared.state.Access.{Access}
 use Rattle.tm_table.specs.declared.state.Access.TheVariants.{Quiet, Read, Write}
 use Rattle.tm_plan_cases.specs.declared.program.Program.{Program}
 use Rattle.tm_plan_map.specs.Map.{flag_at, private_at, save_at, windows_base}
+use Rattle.tm_plan_map.proofs.Within.{within-false}
 use Rattle.tm_world.specs.Place.{case_count, passes, byte_of}
 use Rattle.tm_world.specs.Run.{got}
 use Rattle.tm_world.specs.Course.{last_phase}
 use Rattle.tm_runs.specs.Machine.{Table, put}
-use Rattle.tm_runs.proofs.Bytes.{within-false}
 use Rattle.tm_legal.specs.Tame.{Formed}
 use Rattle.tm_blocks_base.specs.Laws.{Uses}
 use Rattle.tm_pass_way.specs.Calm.{IsBelow}
@@ -35,18 +35,11 @@ two-small f c g v a small l = by (nat_eq a g) (nat_eq a c)
     by false true = l
     by false false = small
 
-pub no : {A : Type 0} {b : Bool} → b ≡ false → b ≡ true → A
-no e f = absurd (true≢false (sym f ∙ e))
-
 pub got-none : (W : ℕ → Type 0) (x : Access) (b : ℕ) → windows_base ≤ b → Uses IsBelow W x → got x b ≡ None
 got-none W Quiet b l u = refl
 got-none W (Write addr width v) b l u = refl
 got-none W (Read addr width v) b l u = ap (λ (t : Bool). if t then Some (byte_of v (b - addr))
     else None) (within-false addr width b (inr (let w = u.0 in let m = u.1 in omega arith)))
-
-pub some-map : {P Q : ℕ → Type 0} (o : Option ℕ) → ((x : ℕ) → P x → Q x) → IfSome o P → IfSome o Q
-some-map None f s = s
-some-map (Some x) f s = f x s
 
 pub cells-apart : (h : ℕ) → h < 16 → private_at h + 256 ≢ flag_at h
 cells-apart h l z = let f = flag-low h h l in omega arith

@@ -23,12 +23,13 @@ use Rattle.tm_world.specs.Verdict.{saved}
 use Rattle.tm_runs.specs.Machine.{State, Entry, Table, MayAccess}
 use Rattle.tm_runs.specs.Runs.{Takes, Within, Does, Each, Since, At}
 use Rattle.tm_runs.specs.World.{world_of, support_at, is_fixed_dword}
-use Rattle.tm_runs.proofs.Compose.{keeps_map, takes_map, takes_then, takes_more}
+use Rattle.tm_runs.proofs.Compose.{keeps_map, takes_map, takes_then, takes_more, newest_map}
 use Rattle.tm_runs.proofs.Places.{fixed-place, guest-true}
 use Rattle.tm_runs.proofs.Worlds.{private-dword, own-private}
 use Rattle.tm_legal.proofs.Formed.{formed-sizes}
 use Rattle.tm_legal.specs.Tame.{Formed}
 use Rattle.tm_blocks_base.specs.Laws.{Uses, with_access, accesses}
+use Rattle.tm_blocks_base.proofs.Lists.{accesses-append}
 use Rattle.tm_blocks_move.specs.Laws.{Move, Moves, Among, moved_accesses}
 use Rattle.tm_blocks_move.specs.Lines.{collect_all, collect_moves}
 use Rattle.tm_plan_owned.specs.Lines.{line_dwords}
@@ -54,11 +55,11 @@ use Rattle.tm_pass_steps.proofs.Aim.{Aimed, aim-runs}
 use Rattle.tm_pass_steps.proofs.Mine.{Mine, mine}
 use Rattle.tm_pass_steps.proofs.Mixed.{off, halts, starts, one-more, left-through, far, start-steady, mixed-part}
 use Rattle.tm_pass_steps.proofs.Mixed.{roomier}
-use Rattle.tm_pass_steps.proofs.Setting.{all-among, accesses-append}
+use Rattle.tm_pass_steps.proofs.Setting.{all-among}
 use Rattle.tm_pass_steps.proofs.Sources.{Rises, rises-row, first_access, first-append}
 use Rattle.tm_pass_steps.proofs.Sources.{got-off, first-is, value-is, AreFirst, first-both, collect-first}
 use Rattle.tm_pass_steps.proofs.Gathered.{placed, among-row, index-row, index-behind}
-use Rattle.tm_pass_steps.proofs.Gathered.{length-row, all-moves, any-access, first-tail, reads-self, widen, newest-to}
+use Rattle.tm_pass_steps.proofs.Gathered.{length-row, all-moves, any-access, first-tail, reads-self, widen}
 
 module _ (p : Program) (formed : Formed p) (fit : MasksFit p.cases p.masks) (h : ℕ) (number : h < harts p) (lo : ℕ)
     (code-aim : At (support_at p h) lo aim) (code : At (support_at p h) (lo + 24) (collect_all p.cases h))
@@ -328,7 +329,8 @@ module _ (p : Program) (formed : Formed p) (fit : MasksFit p.cases p.masks) (h :
       leaves : LeavesTo p h hi s t
       leaves = record {
         pc = done.pc ∙ omega (arith, aimed.pc, hold.pc);
-        base = done.moved.regs 31 (λ z. omega arith) (λ z. omega arith) (λ z. omega arith) (λ z. omega arith) ∙ aimed.regs
+        base = done.moved.regs 31 (λ z. omega arith) (λ z. omega arith) (λ z. omega arith) (λ z. omega arith)
+            ∙ aimed.regs
             31 (λ z. omega arith) (λ z. omega arith);
         exits = low-other 256 (omega arith);
         fixed = fixed-other;
@@ -402,7 +404,8 @@ module _ (p : Program) (formed : Formed p) (fit : MasksFit p.cases p.masks) (h :
         collects : CollectsTo p h k q s t
         unfolding save
         collects = record {
-          left = λ x r l. ap (left_in p h x r) since.log ∙ left-through p formed fit h number limit lo hi clear Takes-in x
+          left = λ x r l. ap (left_in p h x r) since.log
+              ∙ left-through p formed fit h number limit lo hi clear Takes-in x
               r l es s.log since.each;
           others = λ r x ne. ap (read_in p h r x) since.log ∙ other-phase r s.log es since.each hold.phase x ne;
           read = λ j i l m.
@@ -481,7 +484,8 @@ module _ (p : Program) (formed : Formed p) (fit : MasksFit p.cases p.masks) (h :
           let moved = subst (λ (m : List Move). Takes (world_of p h)
           (Within u.pc (u.pc + 4 * length (collect_all p.cases h)) (UsesMoves m))
           (HasDone (world_of p h) (collect_all p.cases h) m u) (97 + 4 * length dwords) u) moves-are law in
-          takes_map (λ t g. newest-to lo hi (UsesMoves (collect_moves sources save)) Takes-in uses-of t.log
+          takes_map (λ t g. newest_map lo hi lo hi {A = UsesMoves (collect_moves sources save)} {B = Takes-in}
+          (omega arith) (omega arith) uses-of t.log
           (widen lo (lo + 24) hi (UsesMoves (collect_moves sources save)) (omega arith) t.log g))
           (λ t g. record { mid = u; aimed = a; done = g })
           (subst (λ (x : ℕ). Takes (world_of p h) (Within x (x + 4 * length (collect_all p.cases h))

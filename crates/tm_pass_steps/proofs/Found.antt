@@ -12,7 +12,7 @@ use Rattle.tm_world.specs.Place.{passes, byte_of}
 use Rattle.tm_world.specs.Verdict.{Byte, saved, is_checked}
 use Rattle.tm_runs.specs.Machine.{Table}
 use Rattle.tm_legal.specs.Tame.{Formed}
-use Rattle.tm_blocks_base.specs.Verdict.{IsMask}
+use Rattle.tm_blocks_base.specs.Verdict.{IsMaskDword}
 use Rattle.tm_blocks_compare.specs.Runs.{mask_addresses, verdict_of_all, SameIn}
 use Rattle.tm_blocks_compare.specs.Numbers.{IsNumberOfAll, agree, differ}
 use Rattle.tm_blocks_compare.proofs.Least.{names_least_of_all}
@@ -44,7 +44,7 @@ module _ (p : Program) (formed : Formed p) (h : ℕ) (m : CaseMask) (shaped : Is
       ≡ slice_index m.bytes (slice_index dwords j + l - windows_base)
   mask-byte j l a b = ap (λ (x : ℕ). byte_of (mem x) l) (address j a) ∙ has.dwords j l a b
 
-  is-mask : (j : ℕ) → j < length dwords → IsMask (mem (slice_index (mask_addresses p.cases h bytes) j))
+  is-mask : (j : ℕ) → j < length dwords → IsMaskDword (mem (slice_index (mask_addresses p.cases h bytes) j))
   unfolding windows_base
   is-mask j a = (
     subst (λ (x : ℕ). mem x < 2 ^ 64) (sym (address j a)) (has.fits j a),

@@ -102,14 +102,3 @@ widen lo mid hi A l (e ∷ es) h = record {
   most = h.most;
   access = h.access;
 }
-
-pub newest-to : (lo hi : ℕ) (A B : Access → Type 0) → ((x : Access) → A x → B x) → (log : List Entry)
-    → Newest (Does lo hi A) log → Newest (Does lo hi B) log
-newest-to lo hi A B f [] h = tt
-newest-to lo hi A B f (e ∷ es) h = record {
-  from = h.from;
-  below = h.below;
-  least = h.least;
-  most = h.most;
-  access = f e.access h.access;
-}

@@ -3,6 +3,7 @@ use Rattle.std.proofs.Common.{◌≡◌, ◌⊎◌, inl, inr, ℕ, zero, suc, �
 use Rattle.std.proofs.Common.{◌==◌, eqb-true, List, [], ◌∷◌, ◌++◌, length, Some, refl, sym, ap, ◌∙◌, subst, arith}
 use Rattle.std.proofs.Common.{append-nil}
 use Rattle.std.specs.Prelude.{All, slice_get, slice_index, IsTrue, if◌then◌else◌}
+use Rattle.std.proofs.lemmas.Bool.{or_cases}
 use Rattle.tm_table.specs.declared.state.Access.{Access}
 use Rattle.tm_table.specs.declared.state.Access.TheVariants.{Quiet, Read, Write}
 use Rattle.tm_table.specs.declared.instr.Instr.{Instr}
@@ -20,7 +21,8 @@ use Rattle.tm_runs.specs.Runs.{Takes, Now, Does, Since, At}
 use Rattle.tm_runs.specs.World.{world_of, support_at, image_dword, is_fixed_dword, is_private_dword}
 use Rattle.tm_runs.specs.Course.{trail}
 use Rattle.tm_runs.proofs.Compose.{takes_map, takes_then, takes_more}
-use Rattle.tm_runs.proofs.Places.{fixed-place, guest-true, or-cases, private-bytes, within-parts}
+use Rattle.tm_runs.proofs.Places.{fixed-place, guest-true, private-bytes}
+use Rattle.tm_plan_map.proofs.Within.{within-parts}
 use Rattle.tm_runs.proofs.Split.{takes_since}
 use Rattle.tm_runs.proofs.Steps.{step_sd, written}
 use Rattle.tm_runs.proofs.Tables.{put_other}
@@ -90,7 +92,7 @@ module _ (p : Program) (formed : Formed p) (fit : MasksFit p.cases p.masks) (h :
 
   own-below : (a : ℕ) → IsTrue ((world_of p h).own a) → IsBelow a
   unfolding windows_base
-  own-below a e = by (or-cases (is_private_dword h a) (is_fixed_dword p a) e)
+  own-below a e = by (or_cases (is_private_dword h a) (is_fixed_dword p a) e)
     where
       by : (is_private_dword h a ≡ true) ⊎ (is_fixed_dword p a ≡ true) → a + 8 ≤ 2162688000
       by (inl x) = let r = within-parts (private_at h) private_size (a + 7) (private-bytes h a 7 x (omega arith)) in

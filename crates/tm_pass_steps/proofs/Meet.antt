@@ -3,6 +3,8 @@ use Rattle.std.proofs.Common.{◌≡◌, ◌≢◌, ◌⊎◌, inl, inr, ℕ, su
 use Rattle.std.proofs.Common.{◌&&◌, ◌||◌, not, ◌==◌, List, [], ◌∷◌, ◌++◌, length, Option}
 use Rattle.std.proofs.Common.{None, Some, refl, sym, ap, ap₂, ◌∙◌, subst, arith, length-append}
 use Rattle.std.specs.Prelude.{slice_index, slice_index_or, IfSome, if◌then◌else◌}
+use Rattle.std.proofs.lemmas.Bool.{or_right}
+use Rattle.std.proofs.lemmas.Option.{IfSome_then}
 use Rattle.tm_table.specs.declared.state.Access.{Access}
 use Rattle.tm_table.specs.declared.state.Access.TheVariants.{Quiet}
 use Rattle.tm_table.specs.Words.{word_of}
@@ -10,19 +12,20 @@ use Rattle.tm_plan_cases.specs.declared.program.Program.{Program}
 use Rattle.tm_plan_map.specs.Map.{flag_at, private_at, save_at, windows_base, verdict_at}
 use Rattle.tm_plan_cases.specs.Collected.{owned}
 use Rattle.tm_base.specs.Lists.{any}
+use Rattle.tm_base.proofs.ListLemmas.{no}
 use Rattle.tm_plan_cases.specs.Shaped.{MasksFit}
 use Rattle.tm_world.specs.Lists.{or_else, IsFront}
 use Rattle.tm_world.specs.Place.{harts, case_count, start_of, end_of, exit_of, inside}
 use Rattle.tm_world.specs.Writers.{case_of_phase}
 use Rattle.tm_world.specs.Marks.{Mark, Exit, arrivals, whole_way}
 use Rattle.tm_world.specs.Course.{last_phase, round_before, reads_in}
+use Rattle.tm_world.proofs.Options.{or_else-none}
 use Rattle.tm_runs.specs.Machine.{State, Entry, Table, get}
-use Rattle.tm_runs.specs.Runs.{Keeps, Takes, Now, At, Each, Does}
+use Rattle.tm_runs.specs.Runs.{KeepsUntil, Takes, Now, At, Each, Does}
 use Rattle.tm_runs.specs.World.{world_of, is_fixed_dword, support_at}
 use Rattle.tm_runs.specs.Course.{trail}
 use Rattle.tm_runs.proofs.Arrivals.{quiet-off, arrivals-none, arrivals-exit, inside-false}
 use Rattle.tm_runs.proofs.Compose.{keeps_after, keeps_then, keeps_map, keeps_now, takes_map}
-use Rattle.tm_runs.proofs.Places.{or-right}
 use Rattle.tm_runs.proofs.Steps.{step_jal, jumped}
 use Rattle.tm_runs.proofs.Tables.{get_put_zero, at_front, at_next}
 use Rattle.tm_legal.proofs.Formed.{formed-sizes}
@@ -30,7 +33,7 @@ use Rattle.tm_legal.specs.Tame.{Formed}
 use Rattle.tm_blocks_base.specs.Instrs.{fence, go_to}
 use Rattle.tm_blocks_base.specs.Laws.{Uses}
 use Rattle.tm_barrier.specs.Words.{meet, barrier}
-use Rattle.tm_barrier.specs.Laws.{Meets, Meeting, Barred, HasMet, after_fence, after_return}
+use Rattle.tm_barrier.specs.Laws.{MeetUses, Meeting, Barred, HasMet, after_fence, after_return}
 use Rattle.tm_barrier.specs.Course.{PassesBarrier}
 use Rattle.tm_barrier.proofs.Meet.{meet_runs, fence_runs, return_runs}
 use Rattle.tm_barrier.proofs.Worlds.{meeting_of}
@@ -40,9 +43,10 @@ use Rattle.tm_runs.specs.Phases.{phase_in, now_in, signals_in}
 use Rattle.tm_pass_way.specs.Facts.{Fact, Told, Gathered, AreSet}
 use Rattle.tm_pass_way.specs.Parts.{Hold, Ready, Same, Leads}
 use Rattle.tm_pass_way.specs.Calm.{Clear, Steady, HopsTo, IsBelow, Recalls}
-use Rattle.tm_pass_way.proofs.Calm.{phase-stays, now-stays, owned-above, verdict-low, flag-low}
+use Rattle.tm_pass_way.proofs.Calm.{phase-stays, now-stays, verdict-low, flag-low}
+use Rattle.tm_plan_owned.proofs.Collected.{owned-above}
 use Rattle.tm_runs.proofs.Ahead.{world-low}
-use Rattle.tm_pass_way.proofs.Lift.{or-none, none-either}
+use Rattle.tm_pass_way.proofs.Lift.{none-either}
 use Rattle.tm_pass_way.proofs.Barrier.{Signals, barrier-fact, writes-none, flags-below}
 use Rattle.tm_pass_way.proofs.Steady.{paces, steady-exit}
 use Rattle.tm_pass_way.proofs.Hopping.{hop-part}
@@ -51,7 +55,7 @@ use Rattle.tm_pass_steps.specs.Sites.{BarrierSite, CallSite}
 use Rattle.tm_pass_steps.specs.Meeting.{CallMeets, meet_cost}
 use Rattle.tm_pass_steps.proofs.Barring.{passes as passes-of, phase-there, now-there, trail-same}
 use Rattle.tm_pass_steps.proofs.Barring.{few-there, told-there, uses, low, set-one}
-use Rattle.tm_pass_steps.proofs.Cells.{two-other, two-first, two-small, no, got-none, some-map, cells-apart}
+use Rattle.tm_pass_steps.proofs.Cells.{two-other, two-first, two-small, got-none, cells-apart}
 use Rattle.tm_pass_steps.proofs.Cells.{memo-apart, area-high, few-phases}
 
 module _ (p : Program) (formed : Formed p) (fit : MasksFit p.cases p.masks) (h : ℕ) (number : h < harts p) (limit : ℕ
@@ -86,7 +90,7 @@ module _ (p : Program) (formed : Formed p) (fit : MasksFit p.cases p.masks) (h :
   left-one d r e past i =
       ap (λ (b : Bool). or_else (left_in p h d r past) (if (phase_in exit past == r) && (b && not (inside p h d e.next))
       then Some e.regs else None)) i
-      ∙ (ap (λ (x : Option Table). or_else (left_in p h d r past) x) (by (phase_in exit past == r)) ∙ or-none
+      ∙ (ap (λ (x : Option Table). or_else (left_in p h d r past) x) (by (phase_in exit past == r)) ∙ or_else-none
       (left_in p h d r past))
     where
       by : (b : Bool) → ◌≡◌ {A = Option Table} (if b && false then Some e.regs else None) None
@@ -98,13 +102,13 @@ module _ (p : Program) (formed : Formed p) (fit : MasksFit p.cases p.masks) (h :
   read-one r b e past l u =
       ap (λ (x : Option ℕ). or_else (read_in p h r b past) (if phase_in exit past == r then x else None))
       (got-none (Signals h) e.access b l u)
-      ∙ (ap (λ (x : Option ℕ). or_else (read_in p h r b past) x) (none-either (phase_in exit past == r)) ∙ or-none
+      ∙ (ap (λ (x : Option ℕ). or_else (read_in p h r b past) x) (none-either (phase_in exit past == r)) ∙ or_else-none
       (read_in p h r b past))
 
   abbrev Bars : Entry → Type 0
-  Bars = Does entry hi (Meets h n cell)
+  Bars = Does entry hi (MeetUses h n cell)
 
-  uses-here : (x : Access) → Meets h n cell x → Uses IsBelow (Signals h) x
+  uses-here : (x : Access) → MeetUses h n cell x → Uses IsBelow (Signals h) x
   uses-here = uses p formed fit h number limit entry site
 
   beyond : (d a : ℕ) → d < case_count p → entry ≤ a → inside p h d a ≡ false
@@ -130,7 +134,7 @@ module _ (p : Program) (formed : Formed p) (fit : MasksFit p.cases p.masks) (h :
 
   judged-all : (d : ℕ) → (es base : List Entry) → any (reports d h) base ≡ true → any (reports d h) (es ++ base) ≡ true
   judged-all d [] base e = e
-  judged-all d (x ∷ es) base e = or-right (reports d h x) (any (reports d h) (es ++ base)) (judged-all d es base e)
+  judged-all d (x ∷ es) base e = or_right (reports d h x) (any (reports d h) (es ++ base)) (judged-all d es base e)
 
   unjudged-all : (d : ℕ) → d < case_count p → (es base : List Entry) → Each Bars es → any (reports d h) base ≡ false
       → any (reports d h) (es ++ base) ≡ false
@@ -140,7 +144,7 @@ module _ (p : Program) (formed : Formed p) (fit : MasksFit p.cases p.masks) (h :
 
   gathered-all : (es xs : List Entry) → Gathered p h xs → Gathered p h (es ++ xs)
   gathered-all [] xs g = g
-  gathered-all (e ∷ es) xs g = λ k x l. or-right (reads_in (slice_index_or (owned p.cases h) k x) 8 e.access)
+  gathered-all (e ∷ es) xs g = λ k x l. or_right (reads_in (slice_index_or (owned p.cases h) k x) 8 e.access)
       (any (λ (t : Entry). reads_in (slice_index_or (owned p.cases h) k x) 8 t.access) (es ++ xs))
       (gathered-all es xs g k x l)
 
@@ -178,7 +182,7 @@ module _ (p : Program) (formed : Formed p) (fit : MasksFit p.cases p.masks) (h :
     small : q + 1 < 2 ^ 64
     small = let k = few-phases p formed in omega arith
 
-    runs : Keeps (world_of p h) (Barred entry hi h n cell (q + 1) s) (HasMet entry hi h n cell (q + 1) s) s
+    runs : KeepsUntil (world_of p h) (Barred entry hi h n cell (q + 1) s) (HasMet entry hi h n cell (q + 1) s) s
     unfolding barrier
     runs =
         let code = at_front (support_at p h) entry (meet h n) (fence ∷ [])
@@ -187,8 +191,8 @@ module _ (p : Program) (formed : Formed p) (fit : MasksFit p.cases p.masks) (h :
         let law = meet_runs h n (world_of p h) s cell meeting (omega (arith, hold.base))
         (omega (arith, small, hold.exits)) (subst (λ (a : ℕ). At (support_at p h) a (meet h n)) (sym hold.pc) code)
         in
-        subst (λ (x : ℕ). Keeps (world_of p h) (Barred entry hi h n cell x s) (HasMet entry hi h n cell x s) s) m
-        (subst (λ (a : ℕ). Keeps (world_of p h) (Barred a (a + 4 * length (meet h n)) h n cell (s.mem cell + 1) s)
+        subst (λ (x : ℕ). KeepsUntil (world_of p h) (Barred entry hi h n cell x s) (HasMet entry hi h n cell x s) s) m
+        (subst (λ (a : ℕ). KeepsUntil (world_of p h) (Barred a (a + 4 * length (meet h n)) h n cell (s.mem cell + 1) s)
         (HasMet a (a + 4 * length (meet h n)) h n cell (s.mem cell + 1) s) s) hold.pc law)
 
     so-far : (t : State) → Barred entry hi h n cell (q + 1) s t → Told p h limit t.log
@@ -276,8 +280,8 @@ module _ (p : Program) (formed : Formed p) (fit : MasksFit p.cases p.masks) (h :
       gathered1 : IfSome (round_before p (phase_in exit (last ∷ log0))) (λ d. Gathered p h (now_in exit (last ∷ log0)))
       gathered1 =
           subst (λ (k : ℕ). IfSome (round_before p k) (λ d. Gathered p h (now_in exit (last ∷ log0)))) (sym phase1)
-          (some-map (round_before p q) (λ d g. subst (Gathered p h) (sym now1)
-          (gathered-all (last ∷ es) (now_in exit base) g)) ready.gathered)
+          (IfSome_then (round_before p q) ready.gathered (λ d g. subst (Gathered p h) (sym now1)
+          (gathered-all (last ∷ es) (now_in exit base) g)))
 
       fact2 : Fact p h (last ∷ log0) way-back
       fact2 =
@@ -357,7 +361,7 @@ module _ (p : Program) (formed : Formed p) (fit : MasksFit p.cases p.masks) (h :
       end : End r
       end = (held, same, ap (now_in exit) log-is ∙ steady2.1, subst (Told p h limit) (sym log-is) steady2.0.told)
 
-      returns : At (support_at p h) f.pc (go_to 1 ∷ []) → Keeps (world_of p h) Tells End f
+      returns : At (support_at p h) f.pc (go_to 1 ∷ []) → KeepsUntil (world_of p h) Tells End f
       returns code =
           keeps_after (takes_map (λ x e. subst Tells (sym e) end.3) (λ x e. e)
           (return_runs (world_of p h) f link code
@@ -366,14 +370,14 @@ module _ (p : Program) (formed : Formed p) (fit : MasksFit p.cases p.masks) (h :
           (λ x e. keeps_now (subst End (sym e) end))
 
       pub from-fence : At (support_at p h) u.pc (fence ∷ []) → At (support_at p h) f.pc (go_to 1 ∷ [])
-          → Keeps (world_of p h) Tells End u
+          → KeepsUntil (world_of p h) Tells End u
       from-fence code next =
           keeps_after (takes_map (λ x e. subst Tells (sym e)
           (subst (Told p h limit) (ap (λ (l : List Entry). last ∷ l) (sym m.barred.log)) told1)) (λ x e. e)
           (fence_runs (world_of p h) u code))
-          (λ x e. subst (Keeps (world_of p h) Tells End) (sym e) (returns next))
+          (λ x e. subst (KeepsUntil (world_of p h) Tells End) (sym e) (returns next))
 
-    pub barrier-part : Keeps (world_of p h) Tells End s
+    pub barrier-part : KeepsUntil (world_of p h) Tells End s
     unfolding barrier
     barrier-part =
         let body = meet h n in
@@ -411,7 +415,7 @@ module _ (p : Program) (formed : Formed p) (fit : MasksFit p.cases p.masks) (h :
       keeps_then (hop-part p formed fit h number limit place place entry clear place-off (omega arith) clear.streams
       (λ d l z. omega (arith, z, site.streams d l, site.some d l)) (λ z. omega (arith, z, site.halt)) marks q c o 1
       ms few (omega arith) {Q = λ t. t ≡ there} s ready told takes) (λ t g.
-      subst (Keeps (world_of p h) (λ x. Told p h limit x.log) (λ x. Hold p h link (suc q) c 0 (ms ++ Exit ∷ []) x
+      subst (KeepsUntil (world_of p h) (λ x. Told p h limit x.log) (λ x. Hold p h link (suc q) c 0 (ms ++ Exit ∷ []) x
       × Same p h s x × (now_in exit x.log ≡ []) × Told p h limit x.log)) (sym g.0)
       (keeps_map (λ x y. y) (λ x y. (
         y.0,
@@ -457,12 +461,13 @@ module _ (p : Program) (formed : Formed p) (fit : MasksFit p.cases p.masks) (h :
       ended-there : IfSome (case_of_phase p q) (λ d.
           any (λ (e : Entry). e.next == end_of p h d) (now_in exit (jal ∷ s.log)) ≡ true)
       ended-there =
-          some-map (case_of_phase p q) (λ d g. ap (any (λ (e : Entry). e.next == end_of p h d)) now ∙ or-right (jal.next
-          == end_of p h d) (any (λ (e : Entry). e.next == end_of p h d) (now_in exit s.log)) g) ended
+          IfSome_then (case_of_phase p q) ended (λ d g. ap (any (λ (e : Entry). e.next == end_of p h d)) now
+          ∙ or_right (jal.next
+          == end_of p h d) (any (λ (e : Entry). e.next == end_of p h d) (now_in exit s.log)) g)
 
       set-there : IfSome (case_of_phase p (suc q)) (λ d. AreSet p h d (now_in exit (jal ∷ s.log)))
-      set-there = some-map (case_of_phase p (suc q))
-          (λ d g. subst (AreSet p h d) (sym now) (set-one p h d jal (now_in exit s.log) few-hart tt g)) set
+      set-there = IfSome_then (case_of_phase p (suc q)) set (λ d g. subst (AreSet p h d) (sym now)
+          (set-one p h d jal (now_in exit s.log) few-hart tt g))
 
       same : Recalls p h s there → Same p h s there
       same a = record {

@@ -1,9 +1,9 @@
 -- The dwords that a hart collects, and memory's last bytes by accesses.
 use Rattle.std.proofs.Common.{◌≡◌, ◌≢◌, ◌⊎◌, inl, inr, ℕ, zero, suc, ◌+◌, ◌-◌, ◌*◌, ◌/◌, ◌%◌, ◌<◌, ◌≤◌, Bool, true}
-use Rattle.std.proofs.Common.{false, true≢false, ◌&&◌, ◌==◌, eqb-true, List, [], ◌∷◌, ◌++◌, length, map, Option, None}
+use Rattle.std.proofs.Common.{◌&&◌, ◌==◌, eqb-true, List, [], ◌∷◌, ◌++◌, length, map, Option, None}
 use Rattle.std.proofs.Common.{Some, refl, sym, ap, ◌∙◌, arith}
 use Rattle.std.specs.Prelude.{All, slice_index_or, filter, if◌then◌else◌}
-use Rattle.std.proofs.lemmas.Bool.{cases_lt}
+use Rattle.std.proofs.lemmas.Bool.{cases_lt, and_parts}
 use Rattle.std.proofs.lemmas.List.Elements.{All-filter, All-map, filter_passes}
 use Rattle.tm_table.specs.declared.state.Access.{Access}
 use Rattle.tm_table.specs.declared.state.Access.TheVariants.{Quiet, Read, Write}
@@ -15,8 +15,9 @@ use Rattle.tm_plan_cases.specs.Shaped.{AreShaped}
 use Rattle.tm_world.specs.Lists.{or_else}
 use Rattle.tm_world.specs.Place.{is_window, byte_of}
 use Rattle.tm_world.specs.Run.{written}
+use Rattle.tm_world.proofs.Options.{or_else-assoc}
 use Rattle.tm_runs.specs.Machine.{Entry}
-use Rattle.tm_runs.proofs.Bytes.{within-true, within-false}
+use Rattle.tm_plan_map.proofs.Within.{within-true, within-false}
 use Rattle.tm_blocks_base.specs.Laws.{with_access, accesses}
 use Rattle.tm_pass_way.specs.Facts.{last_in}
 
@@ -32,10 +33,6 @@ all-count zero a k d l = absurd (omega arith)
 all-count (suc n) a zero d l = omega arith
 all-count (suc n) a (suc k) d l = let r = all-count n (suc a) k d (let e : length (count_from a (suc n))
     ≡ suc (length (count_from (suc a) n)) = refl in omega arith) in omega arith
-
-and-right : (a b : Bool) → (a && b) ≡ true → b ≡ true
-and-right true b e = e
-and-right false b e = absurd (true≢false (sym e))
 
 placed : (n : ℕ) → n ≡ 768 → All (λ a. (windows_base ≤ a) × (a + 8 ≤ windows_base + 6144)
     × (a % 8 ≡ 0)) (map (λ q. windows_base + 8 * q) (count_from 0 n))
@@ -55,7 +52,7 @@ mine cases h k d l =
       low = a.0;
       high = a.1;
       even = a.2;
-      collects = eqb-true _ h (and-right (is_declared cases (slice_index_or (filter test dwords) k d)) _ b);
+      collects = eqb-true _ h ((and_parts (is_declared cases (slice_index_or (filter test dwords) k d)) _ b).1);
     }
 
 pub mine-window : (cases : Cases) (h a i : ℕ) → Mine cases h a → i < 8 → is_window (a + i) ≡ true
@@ -92,15 +89,11 @@ last-by-access b (e ∷ es) = by e.access (last-by-access b es)
     by (Read a n v) r = r
     by (Write a n v) r = ap (or_else (written (Write a n v) b)) r
 
-or-assoc : {A : Type 0} (a b c : Option A) → or_else (or_else a b) c ≡ or_else a (or_else b c)
-or-assoc None b c = refl
-or-assoc (Some x) b c = refl
-
 pub last-append : (b : ℕ) (xs ys : List Access) → last_access b (xs ++ ys)
     ≡ or_else (last_access b xs) (last_access b ys)
 last-append b [] ys = refl
 last-append b (x ∷ xs) ys = ap (or_else (written x b)) (last-append b xs ys) ∙ sym
-    (or-assoc (written x b) (last_access b xs) (last_access b ys))
+    (or_else-assoc (written x b) (last_access b xs) (last_access b ys))
 
 pub written-here : (a v i : ℕ) → i < 8 → written (Write a 8 v) (a + i) ≡ Some (byte_of v i)
 written-here a v i l = ap (λ (t : Bool). if t then Some (byte_of v (a + i - a))

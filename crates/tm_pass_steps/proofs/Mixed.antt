@@ -2,27 +2,23 @@
 use Rattle.std.proofs.Common.{◌≡◌, ◌≢◌, ◌⊎◌, inl, inr, ℕ, suc, ◌+◌, ◌-◌, ◌<◌, ◌≤◌, Bool, true, false, ◌&&◌, not, ◌==◌}
 use Rattle.std.proofs.Common.{List, [], ◌∷◌, ◌++◌, length, Option, None, Some, refl, sym, ap, ◌∙◌, subst, arith}
 use Rattle.std.proofs.Common.{append-nil, length-append}
-use Rattle.std.specs.Prelude.{slice_index_or, IfSome, if◌then◌else◌}
+use Rattle.std.specs.Prelude.{IfSome, if◌then◌else◌}
+use Rattle.tm_pass_steps.proofs.Cells.{got-none}
 use Rattle.tm_table.specs.declared.state.Access.{Access}
-use Rattle.tm_table.specs.declared.state.Access.TheVariants.{Quiet, Read, Write}
 use Rattle.tm_plan_cases.specs.declared.program.Program.{Program}
 use Rattle.tm_plan_map.specs.Map.{windows_base}
-use Rattle.tm_plan_cases.specs.Collected.{owned}
-use Rattle.tm_base.specs.Lists.{any}
 use Rattle.tm_plan_cases.specs.Shaped.{MasksFit}
 use Rattle.tm_world.specs.Lists.{or_else, IsFront}
-use Rattle.tm_world.specs.Place.{harts, case_count, start_of, end_of, exit_of, halt_of, inside, byte_of}
-use Rattle.tm_world.specs.Run.{got}
+use Rattle.tm_world.specs.Place.{harts, case_count, start_of, end_of, exit_of, halt_of, inside}
 use Rattle.tm_world.specs.Marks.{Mark, arrivals, whole_way}
-use Rattle.tm_world.specs.Course.{round_before, reads_in}
+use Rattle.tm_world.specs.Course.{round_before}
+use Rattle.tm_world.proofs.Options.{or_else-none}
 use Rattle.tm_runs.specs.Machine.{State, Entry, Table}
-use Rattle.tm_runs.specs.Runs.{Takes, Within, Newest, Does, Each, Since}
+use Rattle.tm_runs.specs.Runs.{Takes, Within, Does, Each, Since}
 use Rattle.tm_runs.specs.World.{world_of}
 use Rattle.tm_runs.proofs.Ahead.{Small, takes_told, world-low}
 use Rattle.tm_runs.proofs.Arrivals.{quiet-off, arrivals-none, inside-false}
-use Rattle.tm_runs.proofs.Bytes.{within-false}
 use Rattle.tm_runs.proofs.Compose.{keeps_after, keeps_now, takes_map}
-use Rattle.tm_runs.proofs.Places.{or-right}
 use Rattle.tm_runs.proofs.Split.{takes_since, takes_count}
 use Rattle.tm_legal.proofs.Formed.{formed-sizes}
 use Rattle.tm_legal.specs.Tame.{Formed}
@@ -32,33 +28,8 @@ use Rattle.tm_runs.specs.Phases.{phase_in, now_in, signals_in}
 use Rattle.tm_pass_way.specs.Facts.{Fact, Told, Gathered}
 use Rattle.tm_pass_way.specs.Parts.{Hold, Ready, Leads}
 use Rattle.tm_pass_way.specs.Calm.{Clear, Steady, LeavesTo, IsBelow}
-use Rattle.tm_pass_way.proofs.Lift.{told-drop, or-none, none-either}
+use Rattle.tm_pass_way.proofs.Lift.{told-drop, none-either}
 use Rattle.tm_pass_way.proofs.Steady.{steady-more}
-
--- an access that reads below the windows gets none of their bytes
-pub got-none : (W : ℕ → Type 0) (x : Access) (b : ℕ) → windows_base ≤ b → Uses IsBelow W x → got x b ≡ None
-got-none W Quiet b l u = refl
-got-none W (Write addr width v) b l u = refl
-got-none W (Read addr width v) b l u = ap (λ (t : Bool). if t then Some (byte_of v (b - addr))
-    else None) (within-false addr width b (inr (let w = u.0 in let m = u.1 in omega arith)))
-
-pub gathered-more : (p : Program) (h : ℕ) (o : Option ℕ) (e : Entry) (es : List Entry) → IfSome o (λ d. Gathered p h es)
-    → IfSome o (λ d. Gathered p h (e ∷ es))
-gathered-more p h None e es g = tt
-gathered-more p h (Some d) e es g = λ k x l. or-right (reads_in (slice_index_or (owned p.cases h) k x) 8 e.access)
-    (any (λ (t : Entry). reads_in (slice_index_or (owned p.cases h) k x) 8 t.access) es) (g k x l)
-
--- a step may be told to have another access that is allowed
-pub newest-map : (lo hi : ℕ) (A B : Access → Type 0) → ((x : Access) → A x → B x) → (log : List Entry)
-    → Newest (Does lo hi A) log → Newest (Does lo hi B) log
-newest-map lo hi A B f [] h = tt
-newest-map lo hi A B f (e ∷ es) h = record {
-  from = h.from;
-  below = h.below;
-  least = h.least;
-  most = h.most;
-  access = f e.access h.access;
-}
 
 module _ (p : Program) (formed : Formed p) (fit : MasksFit p.cases p.masks) (h : ℕ) (number : h < harts p) (limit : ℕ
     → ℕ) (lo hi : ℕ) (clear : Clear p h lo hi) (A : Access → Type 0) where
@@ -108,7 +79,7 @@ module _ (p : Program) (formed : Formed p) (fit : MasksFit p.cases p.masks) (h :
       ap (λ (b : Bool). or_else (left_in p h d r (es ++ past)) (if (phase_in exit (es ++ past) == r)
       && (b && not (inside p h d e.next)) then Some e.regs else None)) (outside d e l each.0)
       ∙ (ap (λ (x : Option Table). or_else (left_in p h d r (es ++ past)) x) (by (phase_in exit (es ++ past) == r)) ∙
-      (or-none (left_in p h d r (es ++ past)) ∙ left-through d r l es past each.1))
+      (or_else-none (left_in p h d r (es ++ past)) ∙ left-through d r l es past each.1))
     where
       by : (b : Bool) → ◌≡◌ {A = Option Table} (if b && false then Some e.regs else None) None
       by true = refl
@@ -121,7 +92,7 @@ module _ (p : Program) (formed : Formed p) (fit : MasksFit p.cases p.masks) (h :
       ap (λ (x : Option ℕ). or_else (read_in p h r b (es ++ past)) (if phase_in exit (es ++ past) == r then x
       else None)) (got-none W e.access b l (low e.access each.0.access))
       ∙ (ap (λ (x : Option ℕ). or_else (read_in p h r b (es ++ past)) x) (none-either (phase_in exit (es ++ past) == r))
-      ∙ (or-none (read_in p h r b (es ++ past)) ∙ read-through W low r b l es past each.1))
+      ∙ (or_else-none (read_in p h r b (es ++ past)) ∙ read-through W low r b l es past each.1))
 
   -- one entry more
   pub one-more : (q c o : ℕ) (ms : List Mark) (past : List Entry) (e : Entry) → Acts e → Fact p h past e

@@ -7,11 +7,12 @@ use Rattle.tm_table.specs.declared.instr.Instr.{Instr}
 use Rattle.tm_table.specs.Words.{word_of, words_of}
 use Rattle.tm_plan_cases.specs.declared.program.Program.{Program}
 use Rattle.tm_plan_map.specs.Map.{text_base}
+use Rattle.tm_plan_map.proofs.Words.{instr-word}
 use Rattle.tm_world.specs.Place.{halt_of, word_at}
 use Rattle.tm_world.specs.Kinds.{stream_at}
 use Rattle.tm_runs.specs.World.{support_at}
 use Rattle.tm_runs.specs.Runs.{At}
-use Rattle.tm_runs.proofs.Worlds.{fetched, instr-word, text-at}
+use Rattle.tm_runs.proofs.Worlds.{fetched, text-at}
 use Rattle.tm_asm.specs.Sheet.{AllFit}
 use Rattle.tm_pass_text.proofs.Stands.{Stands}
 

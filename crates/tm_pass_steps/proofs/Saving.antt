@@ -1,12 +1,13 @@
 -- The words that save the registers do so as the hart's way asks for it.
-use Rattle.std.proofs.Common.{◌≡◌, ◌≢◌, ℕ, zero, suc, ◌+◌, ◌*◌, ◌%◌, ◌^◌, ◌<◌, ◌≤◌, Bool, true, List, ◌++◌, length}
-use Rattle.std.proofs.Common.{map, Option, None, refl, sym, ap, ◌∙◌, subst, arith}
-use Rattle.std.specs.Prelude.{slice_index, IfSome}
+use Rattle.std.proofs.Common.{◌≡◌, ◌≢◌, ℕ, ◌+◌, ◌*◌, ◌%◌, ◌^◌, ◌<◌, ◌≤◌, Bool, true, List, ◌++◌, length}
+use Rattle.std.proofs.Common.{Option, None, refl, sym, ap, ◌∙◌, subst, arith}
+use Rattle.std.specs.Prelude.{IfSome}
 use Rattle.tm_table.specs.declared.state.Access.{Access}
 use Rattle.tm_table.specs.declared.state.Access.TheVariants.{Quiet, Read, Write}
 use Rattle.tm_plan_cases.specs.declared.program.Program.{Program}
 use Rattle.tm_plan_map.specs.Map.{guest_base, guest_end, private_at, private_size, save_at}
-use Rattle.tm_base.specs.Lists.{any, count_from}
+use Rattle.tm_base.specs.Lists.{any}
+use Rattle.tm_base.proofs.ListLemmas.{index-counted}
 use Rattle.tm_plan_cases.specs.Shaped.{MasksFit}
 use Rattle.tm_world.specs.Place.{harts, case_count, exit_of}
 use Rattle.tm_world.specs.Marks.{Mark}
@@ -14,7 +15,7 @@ use Rattle.tm_world.specs.Course.{round_before}
 use Rattle.tm_runs.specs.Machine.{State, Entry, Table, get}
 use Rattle.tm_runs.specs.Runs.{Takes, Within, Does, Since, At}
 use Rattle.tm_runs.specs.World.{world_of, support_at}
-use Rattle.tm_runs.proofs.Compose.{keeps_map, takes_map}
+use Rattle.tm_runs.proofs.Compose.{keeps_map, takes_map, newest_map}
 use Rattle.tm_runs.proofs.Places.{fixed-place, guest-true}
 use Rattle.tm_runs.proofs.Worlds.{not-fixed}
 use Rattle.tm_legal.proofs.Formed.{formed-sizes}
@@ -31,13 +32,8 @@ use Rattle.tm_pass_way.specs.Calm.{Clear, Steady, LeavesTo}
 use Rattle.tm_pass_way.proofs.Calm.{IsCalm, steady-part}
 use Rattle.tm_pass_way.proofs.Lift.{recalls, now-more, any-more}
 use Rattle.tm_pass_steps.specs.Saving.{RegistersAreSaved}
-use Rattle.tm_pass_steps.proofs.Mixed.{newest-map, start-steady, mixed-part, roomier}
-
-index-of : (g : ℕ → ℕ) (n j i : ℕ) → i < n → slice_index (map g (count_from j n)) i ≡ g (j + i)
-index-of g zero j i l = absurd (omega arith)
-index-of g (suc n) j zero l = let e : j ≡ j + 0 = omega arith in ap g e
-index-of g (suc n) j (suc i) l = let e : suc j + i ≡ j + suc i = omega arith in
-    index-of g n (suc j) i (omega arith) ∙ ap g e
+use Rattle.tm_pass_steps.proofs.Mixed.{start-steady, mixed-part, roomier}
+use Rattle.tm_pass_steps.proofs.Cells.{area-high}
 
 private-places : (h i : ℕ) → h < 16 → i < 30 → (private_at h % 8 ≡ 0) × (0x80C00000 ≤ private_at h + 8 * i)
     × (private_at h + 8 * i + 8 ≤ 0x81000000)
@@ -47,10 +43,6 @@ private-places h i l m = (omega arith, omega arith, omega arith)
 private-few : (h : ℕ) → h < 16 → private_at h + 8 * 30 < 2 ^ 64
 unfolding private_at
 private-few h l = omega arith
-
-area-above : (h j i : ℕ) → private_at h + 4096 ≤ save_at h j + 8 * i
-unfolding save_at
-area-above h j i = omega arith
 
 plain : (i : ℕ) → 0 + i ≡ i
 plain i = omega arith
@@ -107,11 +99,11 @@ module _ (p : Program) (formed : Formed p) (fit : MasksFit p.cases p.masks) (h :
         record {
           left = r.left;
           read = r.read;
-          area = λ j i l m. mem-other t g (save_at h j + 8 * i) (λ k x z. let a = area-above h j i in omega arith);
+          area = λ j i l m. mem-other t g (save_at h j + 8 * i) (λ k x z. let a = area-high h j i in omega arith);
           counter = mem-other t g (b + 264) (λ i l z. omega arith);
           saved = λ i l. ap (λ (f : Table). f (b + 8 * i)) g.mem ∙
               (stored-at (first_registers s) s.mem b 0 i i (omega arith) (omega (arith, length-first s)) ∙
-              (index-of (λ k. get s.regs (k + 1)) 30 0 i l ∙ ap (λ (k : ℕ). get s.regs (k + 1)) (plain i)));
+              (index-counted (λ k. get s.regs (k + 1)) 30 0 i l ∙ ap (λ (k : ℕ). get s.regs (k + 1)) (plain i)));
         }
 
     pub saved-part : (test : Entry → Bool) → c ≤ case_count p → round_before p q ≡ None → o + 30 ≤ limit q
@@ -134,7 +126,8 @@ module _ (p : Program) (formed : Formed p) (fit : MasksFit p.cases p.masks) (h :
         runs =
             let law = save_registers_runs (world_of p h) s b hold.base usable changeable
             (subst (λ (a : ℕ). At (support_at p h) a save_registers) (sym hold.pc) code) in
-            takes_map (λ t g. newest-map lo (lo + 120) (Uses Nowhere (Among b 30)) (IsCalm h) calm t.log g) (λ t g. g)
+            takes_map (λ t g. newest_map lo (lo + 120) lo (lo + 120) {A = Uses Nowhere (Among b 30)} {B = IsCalm h}
+            (omega arith) (omega arith) calm t.log g) (λ t g. g)
             (subst (λ (a : ℕ). Takes (world_of p h) (Within a (a + 120) (Uses Nowhere (Among b 30))) (HasSaved b s) 30
             s) hold.pc law)
 

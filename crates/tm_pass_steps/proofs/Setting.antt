@@ -24,13 +24,14 @@ use Rattle.tm_world.specs.Verdict.{saved}
 use Rattle.tm_runs.specs.Machine.{State, Entry, Table, World, put}
 use Rattle.tm_runs.specs.Runs.{Takes, Within, Does, Each, Since, At}
 use Rattle.tm_runs.specs.World.{world_of, support_at, image_dword, is_fixed_dword}
-use Rattle.tm_runs.proofs.Compose.{keeps_map, takes_map}
+use Rattle.tm_runs.proofs.Compose.{keeps_map, takes_map, newest_map}
 use Rattle.tm_runs.proofs.Places.{fixed-place}
 use Rattle.tm_runs.proofs.Tables.{put_other}
 use Rattle.tm_runs.proofs.Worlds.{table-dword, own-fixed}
 use Rattle.tm_legal.proofs.Formed.{formed-sizes}
 use Rattle.tm_legal.specs.Tame.{Formed}
-use Rattle.tm_blocks_base.specs.Laws.{Uses, with_access, accesses}
+use Rattle.tm_blocks_base.specs.Laws.{Uses, accesses}
+use Rattle.tm_blocks_base.proofs.Lists.{accesses-append}
 use Rattle.tm_blocks_move.specs.Laws.{Move, Moves, Among, moved_accesses}
 use Rattle.tm_blocks_move.specs.Lines.{first_bytes, set_moves}
 use Rattle.tm_blocks_move.specs.Runs.{In, UsesMoves, HasDone}
@@ -42,15 +43,17 @@ use Rattle.tm_runs.specs.Phases.{phase_in, now_in, signals_in}
 use Rattle.tm_pass_way.specs.Facts.{Fact, Told, Gathered, AreSet, last_in}
 use Rattle.tm_pass_way.specs.Parts.{Hold, Ready, Same, Leads}
 use Rattle.tm_pass_way.specs.Calm.{Clear, Steady, LeavesTo, IsBelow}
-use Rattle.tm_pass_way.proofs.Calm.{calm-fact, now-stays, owned-above, verdict-low, flag-low}
+use Rattle.tm_pass_way.proofs.Calm.{calm-fact, now-stays, verdict-low, flag-low}
+use Rattle.tm_plan_owned.proofs.Collected.{owned-above}
 use Rattle.tm_pass_way.proofs.Fronts.{saves-few}
 use Rattle.tm_pass_way.proofs.Shared.{set-fact}
-use Rattle.tm_pass_way.proofs.Stream.{private-below}
+use Rattle.tm_pass_way.proofs.Calm.{private-below}
 use Rattle.tm_pass_way.proofs.Waiting.{now-all}
+use Rattle.tm_pass_way.proofs.Gathered.{gathered-one}
 use Rattle.tm_pass_steps.specs.Setting.{FirstTable, FirstIsSet, set_cost}
 use Rattle.tm_pass_steps.proofs.Mine.{Mine, mine, mine-window, mine-bytes, last_access, last-by-access, last-append}
 use Rattle.tm_pass_steps.proofs.Mine.{written-here, written-off}
-use Rattle.tm_pass_steps.proofs.Mixed.{newest-map, gathered-more, off, halts, starts, one-more, left-through}
+use Rattle.tm_pass_steps.proofs.Mixed.{off, halts, starts, one-more, left-through}
 use Rattle.tm_pass_steps.proofs.Mixed.{read-through, far, start-steady, mixed-part, roomier}
 
 -- ---- lists
@@ -73,16 +76,6 @@ source from (x ∷ xs) m (inl e) = (
   ap (λ (k : Move). k.0) e ∙ ap (λ (y : ℕ). from + (y - windows_base)) (sym (ap (λ (k : Move). k.1) e)),
 )
 source from (x ∷ xs) m (inr i) = let h = source from xs m i in (inr h.0, h.1)
-
-pub accesses-append : (xs ys : List Entry) → accesses (xs ++ ys) ≡ accesses xs ++ accesses ys
-accesses-append [] ys = refl
-accesses-append (x ∷ xs) ys = by x.access (accesses-append xs ys)
-  where
-    by : (a : Access) → accesses (xs ++ ys) ≡ accesses xs ++ accesses ys → with_access a (accesses (xs ++ ys))
-        ≡ with_access a (accesses xs) ++ accesses ys
-    by Quiet e = e
-    by (Read a n v) e = ap (λ (l : List Access). Read a n v ∷ l) e
-    by (Write a n v) e = ap (λ (l : List Access). Write a n v ∷ l) e
 
 -- ---- what each dword was set to
 
@@ -285,7 +278,7 @@ module _ (p : Program) (formed : Formed p) (fit : MasksFit p.cases p.masks) (h :
         subst (λ (ls : List Entry). IfSome (round_before p q) (λ x. Gathered p h ls))
             (sym (now-stays p formed fit h number (es ++ past) e
             (off p formed fit h number limit lo hi clear Sets e each.0)))
-            (gathered-more p h (round_before p q) e (now_in exit (es ++ past)) r.1),
+            (gathered-one p h (round_before p q) e (now_in exit (es ++ past)) r.1),
       )
 
   -- ---- what they leave
@@ -398,7 +391,8 @@ module _ (p : Program) (formed : Formed p) (fit : MasksFit p.cases p.masks) (h :
   set-part s ready told =
       keeps_map (λ t g. g) (λ t g. (g.2, same s t ready.hold g.0 g.1, are-set s t ready.hold g.0 g.1, g.3))
       (mixed-part p formed fit h number limit lo hi clear Sets {n = n} q d o hi ms s ready.hold
-      (takes_map (λ t g. newest-map lo hi (UsesMoves moves) Sets sets-of t.log g) (λ t g. g) runs) ends
+      (takes_map (λ t g. newest_map lo hi lo hi {A = UsesMoves moves} {B = Sets} (omega arith)
+      (omega arith) sets-of t.log g) (λ t g. g) runs) ends
       (λ t g. leaves s t ready.hold g))
     where
       runs : Takes (world_of p h) (Within lo hi (UsesMoves moves))

@@ -11,8 +11,10 @@ use Rattle.tm_world.specs.Lists.{or_else}
 use Rattle.tm_world.specs.Place.{byte_of}
 use Rattle.tm_world.specs.Run.{got}
 use Rattle.tm_world.specs.Course.{reads_in}
+use Rattle.tm_world.proofs.Accesses.{one-dword}
+use Rattle.tm_world.proofs.Options.{or_else-assoc, or_else-none}
 use Rattle.tm_runs.specs.Machine.{World, Table, put}
-use Rattle.tm_runs.proofs.Bytes.{within-true, within-false}
+use Rattle.tm_plan_map.proofs.Within.{within-true, within-false}
 use Rattle.tm_runs.proofs.Tables.{put_other}
 use Rattle.tm_blocks_move.specs.Laws.{Move, Moves, Among, moved_accesses}
 use Rattle.tm_blocks_move.specs.Lines.{collect_moves}
@@ -61,18 +63,10 @@ abbrev pub first_access : ℕ → List Access → Option ℕ
 first_access b [] = None
 first_access b (x ∷ xs) = or_else (first_access b xs) (got x b)
 
-or-assoc : {A : Type 0} (a b c : Option A) → or_else (or_else a b) c ≡ or_else a (or_else b c)
-or-assoc None b c = refl
-or-assoc (Some x) b c = refl
-
-or-none : {A : Type 0} (a : Option A) → or_else a None ≡ a
-or-none None = refl
-or-none (Some x) = refl
-
 pub first-append : (b : ℕ) (xs ys : List Access) → first_access b (xs ++ ys)
     ≡ or_else (first_access b ys) (first_access b xs)
-first-append b [] ys = sym (or-none (first_access b ys))
-first-append b (x ∷ xs) ys = ap (λ (o : Option ℕ). or_else o (got x b)) (first-append b xs ys) ∙ or-assoc
+first-append b [] ys = sym (or_else-none (first_access b ys))
+first-append b (x ∷ xs) ys = ap (λ (o : Option ℕ). or_else o (got x b)) (first-append b xs ys) ∙ or_else-assoc
     (first_access b ys) (first_access b xs) (got x b)
 
 got-here : (a v i : ℕ) → i < 8 → got (Read a 8 v) (a + i) ≡ Some (byte_of v i)
@@ -129,12 +123,6 @@ first-both dwords base (x ∷ xs) ys f g = (
   first-both dwords base xs ys f.1 g,
 )
 
-overlap : (a b v : ℕ) → a % 8 ≡ 0 → b % 8 ≡ 0 → reads_in a 8 (Read b 8 v) ≡ true → b ≡ a
-overlap a b v e f g =
-    let x : b < a + 8 = grind (arith, nat_tests) in
-    let y : a < b + 8 = grind (arith, nat_tests) in
-    omega arith
-
 unread : (a y q v : ℕ) (base : List Access) → y + 8 ≤ a → any (reads_in a 8) base ≡ false
     → any (reads_in a 8) (Write q 8 v ∷ Read y 8 v ∷ base) ≡ false
 unread a y q v base l e = ap₂ (λ (b c : Bool). b || c) (let z : (nat_lt y (a + 8) && nat_lt a (y + 8))
@@ -153,7 +141,7 @@ collect-first w dwords al (y ∷ ys) (v ∷ vs) x q mem base h r f =
     (λ a i l. unread a y q v base l (f a i (omega (arith, l, r.1))))) (
       (λ a i e. absurd (true≢false (sym e))),
       (
-        (λ a i e. let same : y ≡ a = overlap a y v (al a i) r.0 e in f a i (omega (arith, same, r.1))),
+        (λ a i e. let same : y ≡ a = one-dword a y v (al a i) r.0 e in f a i (omega (arith, same, r.1))),
         tt,
       ),
     )

@@ -27,7 +27,7 @@ use Rattle.tm_pass_way.specs.Parts.{Ready, Counts, Leads}
 use Rattle.tm_pass_way.specs.Calm.{Clear, HopsTo, LeavesTo, Recalls, IsBelow}
 use Rattle.tm_pass_way.proofs.Calm.{IsCalm}
 use Rattle.tm_pass_way.proofs.Hopping.{hop-part}
-use Rattle.tm_pass_way.proofs.Stream.{private-below}
+use Rattle.tm_pass_way.proofs.Calm.{private-below}
 use Rattle.tm_pass_steps.specs.Turning.{Plain, TurnSite, PassTurns}
 use Rattle.tm_pass_steps.proofs.Counting.{counter-places, counter-own, counter-may, counter-free, area-above}
 use Rattle.tm_pass_steps.proofs.Counting.{fixed-below}

@@ -5,7 +5,7 @@ use Rattle.tm_world.specs.Place.{harts, case_count, halt_of}
 use Rattle.tm_asm.specs.Sheet.{AllFit}
 use Rattle.tm_barrier.specs.Words.{barrier}
 use Rattle.tm_pass_text.specs.Words.{streams_of}
-use Rattle.tm_pass_steps.specs.Hart.{IsBuilt}
+use Rattle.tm_pass_text.specs.Hart.{IsBuilt}
 use Rattle.tm_pass_steps.specs.Sites.{BarrierSite}
 
 -- Where the text is that of all harts' programs, and each stream has a word, the barrier stands behind the halt mark.

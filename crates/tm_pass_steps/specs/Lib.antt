@@ -4,7 +4,6 @@ pub mod Counting
 pub mod Entering
 pub mod Finding
 pub mod Gathering
-pub mod Hart
 pub mod Judging
 pub mod Meeting
 pub mod Placed

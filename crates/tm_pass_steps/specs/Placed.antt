@@ -15,8 +15,9 @@ use Rattle.tm_blocks_move.specs.Lines.{first_bytes, collect_all}
 use Rattle.tm_pass_text.specs.Words.{reset, aim}
 use Rattle.tm_pass_way.specs.Parts.{Places, Costs, Rooms}
 use Rattle.tm_pass_way.specs.Calm.{Clear, StreamClear}
-use Rattle.tm_pass_way.specs.Meets.{Halts, Keeps}
-use Rattle.tm_pass_way.specs.Pace.{KeepsPace, pace_of, limit_at}
+use Rattle.tm_pass_way.specs.Meets.{Halts, KeepsOwed}
+use Rattle.tm_pass_way.specs.Pace.{pace_of, limit_at}
+use Rattle.tm_stays.specs.Pace.{KeepsPace}
 use Rattle.tm_pass_way.specs.Steps.{Steps}
 use Rattle.tm_pass_steps.specs.Sites.{BarrierSite, CallSite}
 use Rattle.tm_pass_steps.specs.Meeting.{meet_cost}
@@ -126,10 +127,10 @@ BlocksMakeSteps p = Formed p → MasksFit p.cases p.masks → (h : ℕ) → h < 
 abbrev pub PlacedHartKeeps : Program → Type 0
 PlacedHartKeeps p = Formed p → MasksFit p.cases p.masks → (h : ℕ) → h < harts p → (at : Places) → HartPlaced p h at
     → Halts p h at
-    → (limit : ℕ → ℕ) → Rooms p (costs_of p h) limit → Keeps p h limit
+    → (limit : ℕ → ℕ) → Rooms p (costs_of p h) limit → KeepsOwed p h limit
 
 -- What the parts of its passes work makes up the limits of its phases, and the hart keeps that pace.
 abbrev pub PlacedHartKeepsPace : Program → Type 0
 PlacedHartKeepsPace p = Formed p → MasksFit p.cases p.masks → (h : ℕ) → h < harts p → (at : Places)
     → HartPlaced p h at → Halts p h at
-    → Keeps p h (limit_at p (pace_of (costs_of p h))) × OnHalf p h (KeepsPace p h (pace_of (costs_of p h)))
+    → KeepsOwed p h (limit_at p (pace_of (costs_of p h))) × OnHalf p h (KeepsPace p h (pace_of (costs_of p h)))

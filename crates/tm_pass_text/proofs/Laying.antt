@@ -1,7 +1,10 @@
 -- The text of a program has its marks and its streams where they belong.
-use Rattle.std.proofs.Common.{◌≡◌, ℕ, zero, suc, ◌+◌, ◌-◌, ◌*◌, ◌<◌, ◌≤◌, List, [], ◌∷◌, ◌++◌, length, Option, None}
+use Rattle.std.proofs.Common.{◌≡◌, ℕ, zero, suc, ◌+◌, ◌-◌, ◌*◌, ◌<◌, ◌≤◌, List, [], ◌∷◌, ◌++◌, length}
 use Rattle.std.proofs.Common.{Some, refl, sym, ap, ◌∙◌, subst, arith, length-append}
 use Rattle.std.specs.Prelude.{slice_get, slice_index_or, map}
+use Rattle.std.proofs.lemmas.List.{length-map}
+use Rattle.std.proofs.lemmas.Option.{slice_get_within}
+use Rattle.tm_base.proofs.ListLemmas.{get-some}
 use Rattle.tm_table.specs.declared.instr.Instr.{Instr}
 use Rattle.tm_plan_cases.specs.declared.cases.Case.{Case}
 use Rattle.tm_plan_cases.specs.declared.cases.Cases.{Cases}
@@ -11,6 +14,7 @@ use Rattle.tm_plan_map.specs.Map.{text_base, private_at}
 use Rattle.tm_world.specs.Place.{harts, case_count, start_of, halt_of, word_at}
 use Rattle.tm_plan_cases.specs.Streams.{stream_in}
 use Rattle.tm_world.specs.Whole.{Laid}
+use Rattle.tm_world.proofs.Streams.{case-of}
 use Rattle.tm_runs.proofs.Worlds.{text-at}
 use Rattle.tm_table.specs.Words.{words_of}
 use Rattle.tm_blocks_base.specs.Blocks.{constant}
@@ -25,20 +29,6 @@ use Rattle.tm_pass_text.proofs.Spreads.{all-apart}
 
 -- ---- lists
 
-get-short : {A : Type 0} (xs : List A) (k : ℕ) (x : A) → slice_get xs k ≡ Some x → k < length xs
-get-short [] k x e = cc
-get-short (y ∷ xs) zero x e = omega arith
-get-short (y ∷ xs) (suc k) x e = let l = get-short xs k x e in omega arith
-
-get-some : {A : Type 0} (xs : List A) (k : ℕ) → k < length xs → (x : A) × (slice_get xs k ≡ Some x)
-get-some [] k l = absurd (omega arith)
-get-some (x ∷ xs) zero l = (x, refl)
-get-some (x ∷ xs) (suc k) l = get-some xs k (omega arith)
-
-length-map : {A B : Type 0} (f : A → B) (xs : List A) → length (map f xs) ≡ length xs
-length-map f [] = refl
-length-map f (x ∷ xs) = ap suc (length-map f xs)
-
 map-index : {A B : Type 0} (f : A → B) (d : B) (xs : List A) (k : ℕ) (x : A) → slice_get xs k ≡ Some x
     → slice_index_or (map f xs) k d ≡ f x
 map-index f d [] k x e = cc
@@ -47,23 +37,11 @@ map-index f d (y ∷ xs) (suc k) x e = map-index f d xs k x e
 
 -- ---- streams
 
-stream-of : (cases : Cases) (c h : ℕ) (s : Stream) → stream_in cases c h ≡ Some s → (case : Case)
-    × ((slice_get cases.cases c ≡ Some case) × (slice_get case.streams h ≡ Some s))
-stream-of cases c h s e = by (slice_get cases.cases c) refl
-  where
-    no : ◌≡◌ {A = Option Stream} None (Some s) → ⊥
-    no z = cc
-
-    by : (o : Option Case) → slice_get cases.cases c ≡ o → (case : Case)
-        × ((slice_get cases.cases c ≡ Some case) × (slice_get case.streams h ≡ Some s))
-    by None f = absurd (no (rw f at e))
-    by (Some case) f = (case, (f, rw f at e))
-
 pub stream-words : (cases : Cases) (c h : ℕ) (s : Stream) → stream_in cases c h ≡ Some s
     → slice_index_or (streams_of cases h) c [] ≡ s.words
 stream-words cases c h s e =
-    let r = stream-of cases c h s e in
-    map-index (λ (case : Case). words_at (slice_get case.streams h)) [] cases.cases c r.0 r.1.0 ∙ ap words_at r.1.1
+    let r = case-of cases c h s e in
+    map-index (λ (case : Case). words_at (slice_get case.streams h)) [] cases.cases c r.0 r.1 ∙ ap words_at r.2
 
 -- the cases behind the first k, one more
 pub skip-next : (b : Blocks) (c : ℕ) (ss : List (List ℕ)) (k : ℕ) → k < length ss
@@ -88,7 +66,7 @@ module _ (p : Program) (blocks : ℕ → Blocks) (is : IsText p blocks) (some : 
   stream h c = slice_index_or (ss h) c []
 
   count : (h : ℕ) → length (ss h) ≡ C
-  count h = length-map (λ (case : Case). words_at (slice_get case.streams h)) p.cases.cases
+  count h = length-map p.cases.cases (λ (case : Case). words_at (slice_get case.streams h))
 
   -- ---- places
 
@@ -146,7 +124,7 @@ module _ (p : Program) (blocks : ℕ → Blocks) (is : IsText p blocks) (some : 
       → word_at p (text_base + 4 * (k + j)) ≡ slice_get ys j
   word-at k ys s j l =
       let x = get-some ys j l in
-      text-at p (k + j) (get-short p.text (k + j) x.0 (s j l ∙ x.1)) ∙ s j l
+      text-at p (k + j) (slice_get_within p.text (k + j) x.0 (s j l ∙ x.1)) ∙ s j l
 
   abbrev opens : ℕ → List Instr
   opens h = gate h (4 * (hart_size (blocks h) (ss h) - 2)) ++ constant 31 (private_at h)
@@ -249,7 +227,7 @@ module _ (p : Program) (blocks : ℕ → Blocks) (is : IsText p blocks) (some : 
   -- ---- laid
 
   few : (c h : ℕ) (s : Stream) → stream_in p.cases c h ≡ Some s → c < C
-  few c h s e = let r = stream-of p.cases c h s e in get-short p.cases.cases c r.0 r.1.0
+  few c h s e = let r = case-of p.cases c h s e in slice_get_within p.cases.cases c r.0 r.1
 
   pub laid : Laid p
   laid =

@@ -1,9 +1,12 @@
 -- An entry of a barrier tells what it should, where it keeps the barrier's own part of the course.
-use Rattle.std.proofs.Common.{◌≡◌, ◌≢◌, ◌⊎◌, inl, inr, ℕ, zero, suc, ◌+◌, ◌*◌, ◌%◌, ◌<◌, ◌≤◌, Bool, true, false}
-use Rattle.std.proofs.Common.{true≢false, ◌&&◌, ◌||◌, nat_lt, eqb-true, List, [], ◌∷◌, length, Option, None, Some}
-use Rattle.std.proofs.Common.{refl, sym, ap, ◌∙◌, arith}
-use Rattle.std.specs.Prelude.{slice_get, slice_index_or, IsTrue, IsFalse, IfSome}
+use Rattle.std.proofs.Common.{◌≡◌, ◌≢◌, ◌⊎◌, inl, inr, ℕ, suc, ◌+◌, ◌*◌, ◌%◌, ◌<◌, ◌≤◌, Bool, false}
+use Rattle.std.proofs.Common.{◌&&◌, ◌||◌, nat_lt, eqb-true, List, Option, None, Some}
+use Rattle.std.proofs.Common.{refl, ap, ◌∙◌, arith}
+use Rattle.std.specs.Prelude.{slice_index_or, IsTrue, IsFalse, IfSome}
 use Rattle.std.proofs.lemmas.Bool.Decides.{nat_tests}
+use Rattle.std.proofs.lemmas.Bool.{or_right, and_parts}
+use Rattle.std.proofs.lemmas.Option.{slice_get_within}
+use Rattle.tm_base.proofs.ListLemmas.{no}
 use Rattle.tm_table.specs.declared.state.Access.{Access}
 use Rattle.tm_table.specs.declared.state.Access.TheVariants.{Quiet, Read, Write}
 use Rattle.tm_plan_cases.specs.declared.program.Program.{Program}
@@ -15,35 +18,24 @@ use Rattle.tm_world.specs.Place.{is_window}
 use Rattle.tm_world.specs.Run.{Writes}
 use Rattle.tm_world.specs.Writers.{may_write, may_write_window, case_of_phase}
 use Rattle.tm_world.specs.Course.{writes_in, reads_in, writes_shared, round_before}
+use Rattle.tm_world.proofs.Streams.{case-of}
+use Rattle.tm_world.proofs.Accesses.{writes-itself}
 use Rattle.tm_runs.specs.Machine.{Entry}
-use Rattle.tm_runs.proofs.Bytes.{within-true}
-use Rattle.tm_runs.proofs.Places.{or-right}
+use Rattle.tm_plan_map.proofs.Within.{within-true}
 use Rattle.tm_legal.proofs.Formed.{formed-sizes}
 use Rattle.tm_legal.specs.Tame.{Formed}
-use Rattle.tm_legal.proofs.Streams.{case-of}
 use Rattle.tm_blocks_base.specs.Laws.{Uses}
 use Rattle.tm_runs.specs.Phases.{phase_in, now_in, signals_in}
 use Rattle.tm_pass_way.specs.Facts.{Fact, Gathered, Gathering, AreSet}
 use Rattle.tm_runs.specs.Phases.{Keeping}
 use Rattle.tm_pass_way.specs.Calm.{IsBelow, IsOwn}
-use Rattle.tm_pass_way.proofs.Calm.{verdict-low, undeclared, window-high, any-none, owned-above}
-use Rattle.tm_pass_way.proofs.Stream.{private-below}
+use Rattle.tm_pass_way.proofs.Calm.{verdict-low, undeclared, window-high, any-none}
+use Rattle.tm_plan_owned.proofs.Collected.{owned-above}
+use Rattle.tm_pass_way.proofs.Calm.{private-below}
 
 -- a dword that a barrier may write: of the private area, or the flag
 abbrev pub Signals : (h a : ℕ) → Type 0
 Signals h a = IsOwn h a ⊎ (a ≡ flag_at h)
-
-get-short : {A : Type 0} (xs : List A) (k : ℕ) (x : A) → slice_get xs k ≡ Some x → k < length xs
-get-short [] k x e = cc
-get-short (y ∷ xs) zero x e = omega arith
-get-short (y ∷ xs) (suc k) x e = let l = get-short xs k x e in omega arith
-
-and-left : (a b : Bool) → (a && b) ≡ true → a ≡ true
-and-left true b e = refl
-and-left false b e = absurd (true≢false (sym e))
-
-no : {A : Type 0} {b : Bool} → b ≡ false → b ≡ true → A
-no e f = absurd (true≢false (sym f ∙ e))
 
 pub flags-below : (h d g : ℕ) → h < 16 → flag_at h + 8 ≤ verdict_at d g
 unfolding flag_at verdict_at
@@ -81,11 +73,13 @@ module _ (p : Program) (formed : Formed p) (fit : MasksFit p.cases p.masks) (h :
       (λ c. AreSet p h c (now_in exit past))) → Fact p h past e
   barrier-fact past e keeping access starts halt gathered sets = record {
     fresh = λ c stream f g. let r = case-of p.cases c h stream f in
-        absurd (starts c (get-short p.cases.cases c r.0 r.1) (eqb-true e.next (start_of p h c) (and-left _ _ g)));
-    behind = λ c l g. absurd (starts c l (eqb-true e.next (start_of p h c) (and-left _ _ g)));
+        absurd (starts c (slice_get_within p.cases.cases c r.0 r.1)
+        (eqb-true e.next (start_of p h c) (and_parts _ _ g).0));
+    behind = λ c l g. absurd (starts c l (eqb-true e.next (start_of p h c) (and_parts _ _ g).0));
     verdict = λ d g l m f. no (not-cell d g l m) f;
-    exact = λ d m u f g. let l : d < case_count p = let n = get-short p.masks.cases d m f in omega (arith, fit.count) in
-        no (not-cell d h l number) (ap (writes_in (verdict_at d h) 8) g ∙ covers (verdict_at d h) u);
+    exact = λ d m u f g. let l : d < case_count p = let n = slice_get_within p.masks.cases d m f in omega
+        (arith, fit.count) in
+        no (not-cell d h l number) (ap (writes_in (verdict_at d h) 8) g ∙ writes-itself (verdict_at d h) u);
     halt = λ z. absurd (halt z);
     halted = λ z. absurd (halt z);
     writes = λ _. may (phase_in exit past) e.access access;
@@ -94,9 +88,6 @@ module _ (p : Program) (formed : Formed p) (fit : MasksFit p.cases p.masks) (h :
     sets = sets;
   }
     where
-      covers : (b u : ℕ) → writes_in b 8 (Write b 8 u) ≡ true
-      covers b u = grind (arith, nat_tests)
-
       not-cell : (d g : ℕ) → d < case_count p → g < harts p → writes_in (verdict_at d g) 8 e.access ≡ false
       not-cell d g l m = let a = formed.program.cases.count in let b = (formed-sizes formed).harts in
           writes-none h (verdict_at d g) 8 e.access (flags-below h d g few)
@@ -122,9 +113,9 @@ module _ (p : Program) (formed : Formed p) (fit : MasksFit p.cases p.masks) (h :
           by i l (inl m) =
               let w = u.0 in
               let b = private-below h few in (
-                or-right (is_flag h (addr + i)) (is_verdict p h (addr + i)
+                or_right (is_flag h (addr + i)) (is_verdict p h (addr + i)
                     || (is_private h (addr + i) || (is_window (addr + i) && may_write_window p q h (addr + i))))
-                    (or-right (is_verdict p h (addr + i)) (is_private h (addr + i)
+                    (or_right (is_verdict p h (addr + i)) (is_private h (addr + i)
                     || (is_window (addr + i) && may_write_window p q h (addr + i)))
                     (ap (λ (t : Bool). t || (is_window (addr + i) && may_write_window p q h (addr + i)))
                     (within-true (private_at h) private_size (addr + i) (omega arith) (omega arith)))),

@@ -1,20 +1,20 @@
 -- A calm part tells what it should, and leaves what the log told.
-use Rattle.std.proofs.Common.{◌≡◌, ◌≢◌, ◌⊎◌, inl, inr, ℕ, zero, suc, ◌+◌, ◌*◌, ◌/◌, ◌%◌, ◌<◌, ◌≤◌, Bool, true, false}
-use Rattle.std.proofs.Common.{true≢false, ◌&&◌, ◌||◌, nat_lt, ◌==◌, eqb-true, eq-eqb, ne_eqb, List, [], ◌∷◌, ◌++◌}
+use Rattle.std.proofs.Common.{◌≡◌, ◌≢◌, ◌⊎◌, inl, inr, ℕ, suc, ◌+◌, ◌*◌, ◌%◌, ◌<◌, ◌≤◌, Bool, true, false}
+use Rattle.std.proofs.Common.{◌&&◌, ◌||◌, ◌==◌, eqb-true, eq-eqb, ne_eqb, List, [], ◌∷◌, ◌++◌}
 use Rattle.std.proofs.Common.{length, Option, None, Some, refl, sym, ap, ap₂, ◌∙◌, subst, arith, append-nil}
-use Rattle.std.specs.Prelude.{slice_get, slice_index, slice_index_or, IsTrue, IsFalse, IfSome, All, map, if◌then◌else◌}
-use Rattle.std.proofs.lemmas.List.Elements.{All-filter, All-map}
+use Rattle.std.specs.Prelude.{slice_index, slice_index_or, IsTrue, IsFalse, IfSome, if◌then◌else◌}
 use Rattle.std.proofs.lemmas.Bool.Decides.{nat_tests}
 use Rattle.tm_table.specs.declared.state.Access.{Access}
 use Rattle.tm_table.specs.declared.state.Access.TheVariants.{Quiet, Read, Write}
 use Rattle.tm_plan_cases.specs.declared.cases.Stream.{Stream}
 use Rattle.tm_plan_cases.specs.declared.program.Program.{Program}
 use Rattle.tm_plan_map.specs.Map.{verdict_at, flag_at, private_at, private_size, window_at, windows_base}
-use Rattle.tm_plan_cases.specs.Collected.{is_declared, declares, owned, window_dwords, collector}
-use Rattle.tm_base.specs.Lists.{any, count_from}
+use Rattle.tm_plan_cases.specs.Collected.{is_declared, declares, owned}
+use Rattle.tm_base.specs.Lists.{any}
+use Rattle.tm_base.proofs.ListLemmas.{no}
 use Rattle.tm_plan_cases.specs.Shaped.{MasksFit}
 use Rattle.tm_world.specs.Lists.{IsFront}
-use Rattle.tm_world.specs.Place.{harts, case_count, passes, start_of, end_of, exit_of, halt_of, is_private, is_flag}
+use Rattle.tm_world.specs.Place.{harts, case_count, start_of, end_of, exit_of, halt_of, is_private, is_flag}
 use Rattle.tm_world.specs.Place.{is_verdict, is_window}
 use Rattle.tm_world.specs.Run.{Writes}
 use Rattle.tm_world.specs.Writers.{may_write, may_write_window}
@@ -22,18 +22,20 @@ use Rattle.tm_plan_cases.specs.Streams.{stream_in}
 use Rattle.tm_world.specs.Kinds.{stream_at, writes_flag}
 use Rattle.tm_world.specs.Marks.{Mark, Enter, comes_to, arrivals, whole_way}
 use Rattle.tm_world.specs.Course.{writes_in, reads_in, writes_shared, round_before}
+use Rattle.tm_world.proofs.Streams.{case-of}
+use Rattle.tm_world.proofs.Accesses.{writes-itself}
 use Rattle.tm_runs.specs.Machine.{Entry}
 use Rattle.tm_runs.specs.Runs.{Does, Each}
 use Rattle.tm_runs.specs.Course.{trail}
 use Rattle.tm_runs.proofs.Arrivals.{Quiet as Unmarked, quiet-off, arrivals-none}
-use Rattle.tm_runs.proofs.Bytes.{within-true, within-false}
-use Rattle.std.proofs.Math.Nat.{div-lt_iff_lt-mul}
-use Rattle.tm_runs.proofs.Places.{or-right}
+use Rattle.tm_plan_map.proofs.Within.{within-true, within-false}
+use Rattle.std.proofs.lemmas.Bool.{or_right, or_left, and_parts}
+use Rattle.std.proofs.lemmas.Option.{slice_get_within}
 use Rattle.tm_legal.proofs.Formed.{formed-sizes}
 use Rattle.tm_legal.specs.Tame.{Formed}
-use Rattle.tm_legal.proofs.Streams.{case-of}
 use Rattle.tm_stays.specs.Stays.{one_outside}
 use Rattle.tm_blocks_base.specs.Laws.{Uses}
+use Rattle.tm_plan_owned.proofs.Collected.{owned-above}
 use Rattle.tm_pass_way.specs.Logs.{reports, work_in}
 use Rattle.tm_runs.specs.Phases.{phase_in, steps_in, now_in, signals_in, lately_at}
 use Rattle.tm_pass_way.specs.Facts.{Fact, Gathering}
@@ -76,21 +78,15 @@ pub flag-low : (g h : ℕ) → g < 16 → flag_at g + 8 ≤ private_at h
 unfolding flag_at private_at
 flag-low g h m = omega arith
 
-private-low : (h : ℕ) → h < 16 → private_at h + private_size ≤ windows_base
+pub private-below : (h : ℕ) → h < 16 → private_at h + private_size ≤ windows_base
 unfolding private_at private_size windows_base
-private-low h m = omega arith
+private-below h m = omega arith
 
 pub window-high : (w : ℕ) → windows_base ≤ window_at w
 unfolding window_at
 window-high w = omega arith
 
--- ---- the dwords that a hart collects are those of windows
-
-pub owned-above : (p : Program) (h : ℕ) → All (λ a. windows_base ≤ a) (owned p.cases h)
-unfolding owned window_dwords
-owned-above p h = All-filter (λ a. is_declared p.cases a && (collector p.cases a == h)) (λ a. windows_base ≤ a)
-    (map (λ q. windows_base + 8 * q) (count_from 0 768))
-    (All-map (λ a. windows_base ≤ a) (λ q. windows_base + 8 * q) (count_from 0 768) (λ k d l. omega arith))
+-- ---- bytes below the windows
 
 pub undeclared : (p : Program) (b : ℕ) → b < windows_base → is_declared p.cases b ≡ false
 unfolding is_declared
@@ -98,41 +94,6 @@ undeclared p b l =
     any-none (declares p.cases.line b) p.cases.windows
     (λ w. within-false (window_at w.number) (w.lines * p.cases.line) b (inl (let m = window-high w.number in
     omega arith)))
-
-or-left : (b c : Bool) → b ≡ true → (b || c) ≡ true
-or-left b c e = ap (λ (x : Bool). x || c) e
-
--- a run phase is one of a case
-pub case-few : (p : Program) (q c : ℕ) → 1 ≤ passes p → round_before p q ≡ Some c → c < case_count p
-case-few p zero c some e = cc
-case-few p (suc q) c some e = by ((q % 2 == 1) && nat_lt (q / 2) (case_count p * passes p)) refl e
-  where
-    lt-of : (a b : Bool) → (a && b) ≡ true → b ≡ true
-    lt-of true b z = z
-    lt-of false b z = absurd (true≢false (sym z))
-
-    by : (b : Bool) → ((q % 2 == 1) && nat_lt (q / 2) (case_count p * passes p)) ≡ b
-        → (if b then Some (q / 2 / passes p) else None) ≡ Some c → c < case_count p
-    by true f g =
-        let l : q / 2 < case_count p * passes p = let z =
-        lt-of (q % 2 == 1) (nat_lt (q / 2) (case_count p * passes p)) f in grind (arith, nat_tests) in
-        let m : q / 2 / passes p < case_count p = (div-lt_iff_lt-mul some).1 l in
-        let n : q / 2 / passes p ≡ c = cc in
-        omega arith
-    by false f g = cc
-
-get-short : {A : Type 0} (xs : List A) (k : ℕ) (x : A) → slice_get xs k ≡ Some x → k < length xs
-get-short [] k x e = cc
-get-short (y ∷ xs) zero x e = omega arith
-get-short (y ∷ xs) (suc k) x e = let l = get-short xs k x e in omega arith
-
-and-left : (a b : Bool) → (a && b) ≡ true → a ≡ true
-and-left true b e = refl
-and-left false b e = absurd (true≢false (sym e))
-
--- a test that is none of an entry's
-no : {A : Type 0} {b : Bool} → b ≡ false → b ≡ true → A
-no e f = absurd (true≢false (sym f ∙ e))
 
 -- ---- an entry
 
@@ -167,13 +128,13 @@ module _ (p : Program) (formed : Formed p) (fit : MasksFit p.cases p.masks) (h :
   not-shared : (e : Entry) → IsCalm h e.access → writes_shared p e.access ≡ false
   not-shared e s = any-none (λ w. writes_in (window_at w.number) (w.lines * p.cases.line) e.access) p.cases.windows
       (λ w. writes-off h (window_at w.number) (w.lines * p.cases.line) e.access (inr (let m = window-high w.number in
-      let k = private-low h low in omega arith)) s)
+      let k = private-below h low in omega arith)) s)
 
   may-own : (q b : ℕ) → private_at h ≤ b → b < private_at h + private_size → may_write p q h b ≡ true
   may-own q b l m =
-      or-right (is_flag h b) (is_verdict p h b || (is_private h b || (is_window b && may_write_window p q h b)))
-      (or-right (is_verdict p h b) (is_private h b || (is_window b && may_write_window p q h b))
-      (or-left (is_private h b) (is_window b && may_write_window p q h b)
+      or_right (is_flag h b) (is_verdict p h b || (is_private h b || (is_window b && may_write_window p q h b)))
+      (or_right (is_verdict p h b) (is_private h b || (is_window b && may_write_window p q h b))
+      (or_left (is_private h b) (is_window b && may_write_window p q h b)
       (within-true (private_at h) private_size b l m)))
 
   writes-own : (q : ℕ) (x : Access) → IsCalm h x → Writes (λ b. IsTrue (may_write p q h b)
@@ -184,7 +145,7 @@ module _ (p : Program) (formed : Formed p) (fit : MasksFit p.cases p.masks) (h :
       let w = u.0 in
       let m = u.1 in (
         may-own q (addr + i) (omega arith) (omega arith),
-        λ _. undeclared p (addr + i) (let k = private-low h low in
+        λ _. undeclared p (addr + i) (let k = private-below h low in
             omega arith),
       )
 
@@ -197,8 +158,9 @@ module _ (p : Program) (formed : Formed p) (fit : MasksFit p.cases p.masks) (h :
     fresh = enters;
     behind = λ c l g. s.from;
     verdict = λ c g l m f. no (not-reports c g e l m s.access) f;
-    exact = λ c m v f g. no (not-reports c h e (let n = get-short p.masks.cases c m f in
-        omega (arith, fit.count)) number s.access) (ap (writes_in (verdict_at c h) 8) g ∙ covers (verdict_at c h) v);
+    exact = λ c m v f g. no (not-reports c h e (let n = slice_get_within p.masks.cases c m f in
+        omega (arith, fit.count)) number s.access) (ap (writes_in (verdict_at c h) 8) g
+        ∙ writes-itself (verdict_at c h) v);
     halt = λ z. absurd (s.halt z);
     halted = λ z. absurd (s.halt z);
     writes = λ _. writes-own (phase_in exit past) e.access s.access;
@@ -211,9 +173,6 @@ module _ (p : Program) (formed : Formed p) (fit : MasksFit p.cases p.masks) (h :
     sets = λ z. no (not-signals e s.access) z;
   }
     where
-      covers : (a v : ℕ) → writes_in a 8 (Write a 8 v) ≡ true
-      covers a v = grind (arith, nat_tests)
-
       gathers : (o : Option ℕ) → round_before p (phase_in exit past) ≡ o → IfSome o (λ c. Gathering p h past e)
       gathers None f = tt
       gathers (Some c) f = record {
@@ -228,7 +187,8 @@ module _ (p : Program) (formed : Formed p) (fit : MasksFit p.cases p.masks) (h :
   calm-fact past e s silent =
       mild-fact past e (record { from = s.from; halt = s.halt; access = s.access }) silent
       (λ c stream f g. let r = case-of p.cases c h stream f in
-      absurd (s.start c (get-short p.cases.cases c r.0 r.1) (eqb-true e.next (start_of p h c) (and-left _ _ g))))
+      absurd (s.start c (slice_get_within p.cases.cases c r.0 r.1)
+      (eqb-true e.next (start_of p h c) (and_parts _ _ g).0)))
 
   -- ---- what a calm entry leaves
 
@@ -268,7 +228,7 @@ module _ (p : Program) (formed : Formed p) (fit : MasksFit p.cases p.masks) (h :
       way = whole ∙ a.way;
       silent = ap (any (signals_in h)) (now-stays past e s.from) ∙ ap₂ (λ (x y : Bool). x || y) (not-signals e s.access)
           a.silent;
-      judged = λ d m. or-right (reports d h e) (any (reports d h) past) (a.judged d m);
+      judged = λ d m. or_right (reports d h e) (any (reports d h) past) (a.judged d m);
       unjudged = λ d m n. ap₂ (λ (x y : Bool). x || y) (not-reports d h e n number s.access) (a.unjudged d m n);
       few = here q (phase_in exit past == q) (eq-eqb (phase_in exit past) q a.phase);
       told = record {

@@ -1,8 +1,8 @@
 -- The part that compares the passes of a case, from what its block's law tells at its end.
 use Rattle.std.proofs.Common.{◌≡◌, ◌≢◌, ◌⊎◌, inl, inr, ℕ, suc, ◌+◌, ◌<◌, ◌≤◌, Bool, true, false, ◌||◌, List, ◌∷◌}
-use Rattle.std.proofs.Common.{◌++◌, length, Option, None, Some, refl, sym, ap, ap₂, ◌∙◌, subst, arith, length-append}
-use Rattle.std.specs.Prelude.{slice_get, slice_index, slice_index_or, IfSome}
-use Rattle.std.proofs.lemmas.Bool.{cases_lt}
+use Rattle.std.proofs.Common.{◌++◌, length, Option, Some, refl, sym, ap, ap₂, ◌∙◌, subst, arith, length-append}
+use Rattle.std.specs.Prelude.{slice_get, slice_index, IfSome}
+use Rattle.std.proofs.lemmas.Bool.{cases_lt, or_right}
 use Rattle.tm_plan_cases.specs.declared.masks.CaseMask.{CaseMask}
 use Rattle.tm_plan_cases.specs.declared.program.Program.{Program}
 use Rattle.tm_plan_map.specs.Map.{verdict_at}
@@ -12,14 +12,14 @@ use Rattle.tm_plan_cases.specs.Shaped.{MasksFit}
 use Rattle.tm_world.specs.Lists.{IsFront}
 use Rattle.tm_world.specs.Place.{harts, case_count, passes, start_of, exit_of, halt_of}
 use Rattle.tm_world.specs.Marks.{Mark, arrivals, whole_way}
-use Rattle.tm_world.specs.Course.{round_before, writes_in, reads_in}
+use Rattle.tm_world.specs.Course.{round_before, writes_in}
 use Rattle.tm_world.specs.Kinds.{writes_flag}
+use Rattle.tm_world.proofs.Accesses.{writes-itself}
 use Rattle.tm_runs.specs.Machine.{State, Entry}
 use Rattle.tm_runs.specs.Runs.{Takes}
 use Rattle.tm_runs.specs.World.{world_of}
 use Rattle.tm_runs.specs.Course.{trail}
 use Rattle.tm_runs.proofs.Split.{takes_count}
-use Rattle.tm_runs.proofs.Places.{or-right}
 use Rattle.tm_runs.proofs.Compose.{keeps_after, keeps_now, takes_map}
 use Rattle.tm_legal.proofs.Formed.{formed-sizes}
 use Rattle.tm_legal.specs.Tame.{Formed}
@@ -29,10 +29,12 @@ use Rattle.tm_pass_way.specs.Facts.{Fact, Told, Gathered}
 use Rattle.tm_pass_way.specs.Parts.{Hold, Ready, Passes, PassTold, Leads, phase_at, way_to}
 use Rattle.tm_pass_way.specs.Calm.{Clear, Steady, ComparesTo}
 use Rattle.tm_runs.proofs.Ahead.{Small, takes_told, world-low}
-use Rattle.tm_pass_way.proofs.Calm.{phase-stays, now-stays, steady-part, owned-above}
+use Rattle.tm_pass_way.proofs.Calm.{phase-stays, now-stays, steady-part}
+use Rattle.tm_plan_owned.proofs.Collected.{owned-above}
 use Rattle.tm_pass_way.proofs.Lift.{told-drop, left-same, read-same, gathered-more}
 use Rattle.tm_pass_way.proofs.Steady.{paces}
-use Rattle.tm_pass_way.proofs.Special.{verdict-fact, cell-flag, cell-covers, same-cell}
+use Rattle.tm_pass_way.proofs.Special.{verdict-fact, cell-flag, same-cell}
+use Rattle.tm_pass_way.proofs.Gathered.{gathered-one}
 
 module _ (p : Program) (formed : Formed p) (fit : MasksFit p.cases p.masks) (h : ℕ) (number : h < harts p) (limit : ℕ
     → ℕ) (c lo hi place n o : ℕ) (m : CaseMask) (here : c < case_count p) (mask : slice_get p.masks.cases c
@@ -127,11 +129,11 @@ module _ (p : Program) (formed : Formed p) (fit : MasksFit p.cases p.masks) (h :
     judges d l = by (cases_lt d c)
       where
         by : (d < c) ⊎ (c ≤ d) → any (reports d h) (a.last ∷ (a.entries ++ s.log)) ≡ true
-        by (inl x) = or-right (reports d h a.last) (any (reports d h) (a.entries ++ s.log)) (before.judged d x)
+        by (inl x) = or_right (reports d h a.last) (any (reports d h) (a.entries ++ s.log)) (before.judged d x)
         by (inr x) = let e : c ≡ d = omega arith in
             subst (λ (k : ℕ). any (reports k h) (a.last ∷ (a.entries ++ s.log))
             ≡ true) e (ap (λ (b : Bool). b || any (reports c h) (a.entries ++ s.log))
-            (ap (writes_in (verdict_at c h) 8) a.access ∙ cell-covers c h))
+            (ap (writes_in (verdict_at c h) 8) a.access ∙ writes-itself (verdict_at c h) 0))
 
     there : Small (world_of p h) t → Ready p h place q (suc c) (o + n) (ms ++ new) t
     there small =
@@ -159,16 +161,10 @@ module _ (p : Program) (formed : Formed p) (fit : MasksFit p.cases p.masks) (h :
           };
           gathered = subst (λ (l : List Entry). IfSome (round_before p q) (λ d. Gathered p h (now_in exit l)))
               (sym a.log) (subst (λ (l : List Entry). IfSome (round_before p q) (λ d. Gathered p h l)) (sym now)
-              (one-more (round_before p q) (gathered-more p formed fit h number limit lo hi clear (round_before p q)
-              a.entries s.log a.each ready.gathered)));
+              (gathered-one p h (round_before p q) a.last (now_in exit (a.entries ++ s.log))
+              (gathered-more p formed fit h number limit lo hi clear (round_before p q) a.entries s.log a.each
+              ready.gathered)));
         }
-      where
-        one-more : (x : Option ℕ) → IfSome x (λ d. Gathered p h (now_in exit (a.entries ++ s.log)))
-            → IfSome x (λ d. Gathered p h (a.last ∷ now_in exit (a.entries ++ s.log)))
-        one-more None g = g
-        one-more (Some d) g = λ k e l. or-right (reads_in (slice_index_or (owned p.cases h) k e) 8 a.last.access)
-            (any (λ (x : Entry). reads_in (slice_index_or (owned p.cases h) k e) 8 x.access)
-            (now_in exit (a.entries ++ s.log))) (g k e l)
 
   some-of : {P : Type 0} (x : Option ℕ) → x ≡ Some c → IfSome x (λ d. P) → P
   some-of {P = P} x e g = subst (λ (y : Option ℕ). IfSome y (λ d. P)) e g

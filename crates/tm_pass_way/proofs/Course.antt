@@ -1,20 +1,20 @@
 -- What the whole way tells is the hart's course, on each half run.
-use Rattle.std.proofs.Common.{◌≡◌, ◌≢◌, ℕ, zero, suc, ◌+◌, ◌-◌, ◌/◌, ◌^◌, ◌<◌, ◌≤◌, true, ◌==◌, List, [], ◌∷◌, length}
+use Rattle.std.proofs.Common.{◌≡◌, ◌≢◌, ℕ, zero, suc, ◌+◌, ◌-◌, ◌/◌, ◌^◌, ◌<◌, ◌≤◌, List, [], ◌∷◌, length}
 use Rattle.std.proofs.Common.{Option, None, Some, refl, sym, ap, ◌∙◌, subst, arith}
-use Rattle.std.proofs.lemmas.Bool.Decides.{nat_tests}
 use Rattle.std.specs.Prelude.{slice_get, slice_index, slice_index_or, IsTrue, IfSome, All}
+use Rattle.std.proofs.lemmas.Option.{IfSome_then}
 use Rattle.tm_table.specs.State.{Hart}
 use Rattle.tm_table.specs.declared.state.Access.TheVariants.{Write}
 use Rattle.tm_plan_cases.specs.declared.cases.Case.{Case}
 use Rattle.tm_plan_cases.specs.declared.cases.Stream.{Stream}
 use Rattle.tm_plan_cases.specs.declared.masks.CaseMask.{CaseMask}
 use Rattle.tm_plan_cases.specs.declared.program.Program.{Program}
-use Rattle.tm_plan_map.specs.Map.{flag_at, verdict_at, private_at, private_size, windows_base}
+use Rattle.tm_plan_map.specs.Map.{verdict_at, private_at, private_size, windows_base}
 use Rattle.tm_plan_cases.specs.Collected.{owned}
 use Rattle.tm_base.specs.Lists.{any}
 use Rattle.tm_plan_cases.specs.Shaped.{MasksFit}
-use Rattle.tm_world.specs.Lists.{front_to, IsFront}
-use Rattle.tm_world.specs.Place.{harts, case_count, passes, end_of, exit_of, halt_of, byte_of}
+use Rattle.tm_world.specs.Lists.{IsFront}
+use Rattle.tm_world.specs.Place.{harts, case_count, passes, exit_of, halt_of, byte_of}
 use Rattle.tm_world.specs.Run.{Step, Always, now, first_state, pc_of, access_of, phase, in_phase, last_write}
 use Rattle.tm_world.specs.Writers.{case_of_phase}
 use Rattle.tm_plan_cases.specs.Streams.{stream_in}
@@ -22,14 +22,15 @@ use Rattle.tm_world.specs.Kinds.{IsOpening, HalfPath, stream_at}
 use Rattle.tm_world.specs.Marks.{Mark, Enter, comes_to, arrivals, whole_way}
 use Rattle.tm_world.specs.Course.{OnHalf, KeepsOrder, EntersFresh, KeepsVerdicts, HasAllVerdicts, KeepsWrites}
 use Rattle.tm_world.specs.Course.{KeepsBarrier, KeepsCollecting, CollectsBeforeHalt, IsFresh, WritesVerdict}
-use Rattle.tm_world.specs.Course.{OutsideWrites, Barrier, Signal, Leaves, Collects, HasCollected, writes_in, reads_in}
-use Rattle.tm_world.specs.Course.{signals, this_phase, is_write, is_fence, gets, round_before}
+use Rattle.tm_world.specs.Course.{OutsideWrites, Barrier, Collects, HasCollected, writes_in, reads_in}
+use Rattle.tm_world.specs.Course.{signals, this_phase, round_before}
 use Rattle.tm_world.specs.Verdict.{WritesExactly, IsVerdict}
 use Rattle.tm_world.specs.Writers.{run_phase}
 use Rattle.tm_world.specs.Work.{GoesOn}
+use Rattle.tm_world.proofs.Accesses.{writes-itself}
 use Rattle.tm_runs.specs.Machine.{State, Entry, get}
 use Rattle.tm_runs.specs.Runs.{Stopped}
-use Rattle.tm_runs.specs.Runs.{Keeps as KeepsRuns}
+use Rattle.tm_runs.specs.Runs.{KeepsUntil}
 use Rattle.tm_runs.specs.World.{world_of, start, image_dword}
 use Rattle.tm_runs.specs.Shadow.{entry_of, entries_of}
 use Rattle.tm_runs.specs.Course.{trail, Story}
@@ -39,21 +40,16 @@ use Rattle.tm_runs.proofs.Paths.{always, told-log, goes-on, on-half, any-entries
 use Rattle.tm_legal.proofs.Formed.{formed-sizes}
 use Rattle.tm_legal.specs.Tame.{Formed}
 use Rattle.tm_pass_way.specs.Logs.{reports, work_in}
-use Rattle.tm_runs.specs.Phases.{phase_in, steps_in, now_in, signals_in}
+use Rattle.tm_runs.specs.Phases.{phase_in, steps_in, now_in}
 use Rattle.tm_pass_way.specs.Facts.{Fact, Told, Gathered, Gathering, AreSet, last_in}
-use Rattle.tm_runs.specs.Phases.{Signalling, Leaving, Keeping}
 use Rattle.tm_pass_way.specs.Parts.{Places, Costs, Turns, Rooms, Opens, AtHead}
-use Rattle.tm_pass_way.specs.Meets.{SetsDwords, EntersBehindExit, WritesLate, phase_work, Keeps, Halts, PartsKeep}
-use Rattle.tm_pass_way.proofs.Entries.{in-phase, now-entries, any-now, front-entries, last-entries, verdict-entries}
+use Rattle.tm_pass_way.specs.Meets.{WritesLate, KeepsOwed, Halts, PartsKeep}
+use Rattle.tm_stays.specs.First.{SetsDwords, EntersBehindExit}
+use Rattle.tm_stays.specs.Pace.{phase_work}
+use Rattle.tm_pass_way.proofs.Entries.{last-entries, verdict-entries}
+use Rattle.tm_runs.proofs.Entries.{phase-steps, phase-now, now-any, keeping-tells}
 use Rattle.tm_pass_way.proofs.Entries.{work-entries}
 use Rattle.tm_pass_way.proofs.Way.{whole}
-
-covers : (a v : ℕ) → writes_in a 8 (Write a 8 v) ≡ true
-covers a v = grind (arith, nat_tests)
-
-some-map : {A : Type 0} {P Q : A → Type 0} (o : Option A) → ((x : A) → P x → Q x) → IfSome o P → IfSome o Q
-some-map None f s = s
-some-map (Some x) f s = f x s
 
 some-at : {A : Type 0} (P : A → Type 0) (o : Option A) (x : A) → o ≡ Some x → IfSome o P → P x
 some-at {A = A} P o x e s = subst (λ (t : Option A). IfSome t P) e s
@@ -95,7 +91,7 @@ module _ (p : Program) (formed : Formed p) (fit : MasksFit p.cases p.masks) (h :
         fits zero = omega arith
         fits (suc r) = o.fits (suc r)
 
-    way : (x : List ℕ) → IsOpening h x → KeepsRuns (world_of p h) Tells Ends (start p x)
+    way : (x : List ℕ) → IsOpening h x → KeepsUntil (world_of p h) Tells Ends (start p x)
     way x o = whole p h at cost limit parts rooms (let s = formed.program.cases.passes.0 in
         omega arith) masks formed.program.cases.count.0 (start p x) (opens x o)
 
@@ -160,7 +156,8 @@ module _ (p : Program) (formed : Formed p) (fit : MasksFit p.cases p.masks) (h :
     has-collected q own g k d l =
         any-entries (λ t. reads_in (slice_index_or (owned p.cases h) k d) 8 (access_of t))
         (λ (t : Entry). reads_in (slice_index_or (owned p.cases h) k d) 8 t.access) (λ t. refl) (in_phase exit q own)
-        ∙ (ap (any (λ (t : Entry). reads_in (slice_index_or (owned p.cases h) k d) 8 t.access)) (in-phase exit q own) ∙ g
+        ∙ (ap (any (λ (t : Entry). reads_in (slice_index_or (owned p.cases h) k d) 8 t.access))
+        (phase-steps exit q own) ∙ g
         k d l)
 
     -- ---- verdicts
@@ -171,7 +168,7 @@ module _ (p : Program) (formed : Formed p) (fit : MasksFit p.cases p.masks) (h :
         (λ x o past s path c v l e.
         let some = formed.program.cases.passes.0 in
         let r = (fact x o past s path).verdict c h l number
-        (ap (writes_in (verdict_at c h) 8) e ∙ covers (verdict_at c h) v) in
+        (ap (writes_in (verdict_at c h) 8) e ∙ writes-itself (verdict_at c h) v) in
         let m = r.1.ended (passes p - 1) (omega arith) in
         subst (λ (q : ℕ). run_phase p c (passes p - 1) < q) (sym (phase-entries exit past)) m)
 
@@ -223,43 +220,7 @@ module _ (p : Program) (formed : Formed p) (fit : MasksFit p.cases p.masks) (h :
 
     barrier : OnHalf p h (KeepsBarrier p h)
     barrier = stepwise (λ first past s. Barrier p h (phase exit past) past s)
-        (λ x o past s path. by past s (fact x o past s path).barrier)
-      where
-        signal-of : (past : List Step) (s : Step) → Signalling p h (phase_in exit (entries_of past)) (entries_of past)
-            (entry_of s) → Signal p h (phase_in exit (entries_of past)) past s
-        signal-of past s g = record {
-          value = g.value;
-          once = any-now p h (signals h) (signals_in h) (λ t. refl) past ∙ g.once;
-          fence = λ _. any-entries is_fence (λ (t : Entry). t.word == 0x0330000F) (λ t. refl)
-              (front_to (λ t. is_write (access_of t)) past) ∙
-              (ap (any (λ (t : Entry). t.word == 0x0330000F))
-              (front-entries (λ t. is_write (access_of t)) (λ (t : Entry). is_write t.access) (λ t. refl) past) ∙
-              g.fence);
-          ended = some-map (case_of_phase p (phase_in exit (entries_of past)))
-              (λ c e. any-now p h (λ t. t.after.pc == end_of p h c) (λ (t : Entry). t.next == end_of p h c) (λ t. refl)
-              past ∙ e) g.ended;
-          more = g.more;
-        }
-
-        leaves-of : (past : List Step) → Leaving p h (phase_in exit (entries_of past)) (entries_of past)
-            → Leaves p h (phase_in exit (entries_of past)) past
-        leaves-of past g = record {
-          signalled = any-now p h (signals h) (signals_in h) (λ t. refl) past ∙ g.signalled;
-          met = λ i l n. any-entries (λ t. gets (flag_at i) (phase_in exit (entries_of past) + 1) (access_of t))
-              (λ (t : Entry). gets (flag_at i) (phase_in exit (entries_of past) + 1) t.access) (λ t. refl)
-              (front_to (signals h) past)
-              ∙ (ap (any (λ (t : Entry). gets (flag_at i) (phase_in exit (entries_of past) + 1) t.access))
-              (front-entries (signals h) (signals_in h) (λ t. refl) past) ∙ g.met i l n);
-        }
-
-        by : (past : List Step) (s : Step) → Keeping p h (entries_of past) (entry_of s)
-            → Barrier p h (phase exit past) past s
-        by past s k = record {
-          signal = λ e. subst (λ (q : ℕ). Signal p h q past s) (sym (phase-entries exit past))
-              (signal-of past s (k.signal e));
-          still = λ e. k.still (sym (any-now p h (signals h) (signals_in h) (λ t. refl) past) ∙ e);
-          leave = λ e. subst (λ (q : ℕ). Leaves p h q past) (sym (phase-entries exit past)) (leaves-of past (k.leave e));
-        }
+        (λ x o past s path. keeping-tells p h past s (fact x o past s path).barrier)
 
     -- ---- collecting
 
@@ -269,8 +230,8 @@ module _ (p : Program) (formed : Formed p) (fit : MasksFit p.cases p.masks) (h :
       where
         read-now : (a : ℕ) (past : List Step) → any (λ t. reads_in a 8 (access_of t)) (this_phase p h past)
             ≡ any (λ (t : Entry). reads_in a 8 t.access) (now_in exit (entries_of past))
-        read-now a past = any-now p h (λ t. reads_in a 8 (access_of t)) (λ (t : Entry). reads_in a 8 t.access) (λ t. refl)
-            past
+        read-now a past = now-any (λ t. reads_in a 8 (access_of t)) (λ (t : Entry). reads_in a 8 t.access)
+            (λ t. refl) exit past
 
         gathered : (past : List Step) → Gathered p h (now_in exit (entries_of past))
             → HasCollected p h (phase exit past) past
@@ -287,9 +248,9 @@ module _ (p : Program) (formed : Formed p) (fit : MasksFit p.cases p.masks) (h :
         by : (past : List Step) (s : Step) → IfSome (round_before p (phase_in exit (entries_of past)))
             (λ c. Gathering p h (entries_of past) (entry_of s))
             → IfSome (round_before p (phase exit past)) (λ e. Collects p h (phase exit past) past s)
-        by past s g = some-map (round_before p (phase exit past)) (λ c. of-case past s)
+        by past s g = IfSome_then (round_before p (phase exit past))
             (subst (λ (q : ℕ). IfSome (round_before p q) (λ c. Gathering p h (entries_of past) (entry_of s)))
-            (sym (phase-entries exit past)) g)
+            (sym (phase-entries exit past)) g) (λ c. of-case past s)
 
     collected : OnHalf p h (CollectsBeforeHalt p h)
     collected = stepwise (λ first past s. s.after.pc ≡ halt_of p h
@@ -301,8 +262,8 @@ module _ (p : Program) (formed : Formed p) (fit : MasksFit p.cases p.masks) (h :
             → IfSome (round_before p (phase exit own)) (λ e. HasCollected p h (phase exit own) own)
         of-now own g = subst (λ (q : ℕ). IfSome (round_before p q) (λ e. HasCollected p h q own))
             (sym (phase-entries exit own))
-            (some-map (round_before p (phase_in exit (entries_of own)))
-            (λ c. has-collected (phase_in exit (entries_of own)) own) g)
+            (IfSome_then (round_before p (phase_in exit (entries_of own))) g
+            (λ c. has-collected (phase_in exit (entries_of own)) own))
 
     -- ---- first bytes
 
@@ -317,7 +278,7 @@ module _ (p : Program) (formed : Formed p) (fit : MasksFit p.cases p.masks) (h :
         (case_of_phase p (suc (phase_in exit (entries_of past)))) c
         (ap (λ (q : ℕ). case_of_phase p (suc q)) (sym (phase-entries exit past)) ∙ e)
         ((fact x o past s path).sets sig) in
-        last-entries _ (this_phase p h past) ∙ (ap (last_in _) (now-entries p h past) ∙ set case f k d l i m))
+        last-entries _ (this_phase p h past) ∙ (ap (last_in _) (phase-now exit past) ∙ set case f k d l i m))
 
     -- ---- work, and next steps
 
@@ -332,7 +293,7 @@ module _ (p : Program) (formed : Formed p) (fit : MasksFit p.cases p.masks) (h :
 
     -- ---- all of it
 
-    pub keeps : Keeps p h limit
+    pub keeps : KeepsOwed p h limit
     keeps = record {
       course = record {
         order = order;

@@ -1,11 +1,12 @@
 -- Each pass stands in the whole way, and a run phase isn't behind one; so a stay is the part that the way asks for.
-use Rattle.std.proofs.Common.{◌≡◌, ℕ, zero, suc, ◌+◌, ◌-◌, ◌*◌, ◌/◌, ◌%◌, ◌<◌, ◌≤◌, Bool, true, false, ◌&&◌, nat_lt}
-use Rattle.std.proofs.Common.{◌==◌, ne_eqb, List, [], ◌∷◌, ◌++◌, length, None, Some, refl, sym, ap, ◌∙◌, subst, arith}
+use Rattle.std.proofs.Common.{◌≡◌, ℕ, zero, suc, ◌+◌, ◌-◌, ◌*◌, ◌/◌, ◌%◌, ◌<◌, ◌≤◌, Bool, ◌&&◌, nat_lt}
+use Rattle.std.proofs.Common.{◌==◌, ne_eqb, List, [], ◌∷◌, ◌++◌, None, Some, refl, sym, ap, ◌∙◌, subst, arith}
 use Rattle.std.proofs.Common.{append_assoc, append-nil}
-use Rattle.std.specs.Prelude.{flat_map, filter, map, if◌then◌else◌}
+use Rattle.std.specs.Prelude.{flat_map, map, if◌then◌else◌}
 use Rattle.tm_plan_cases.specs.declared.program.Program.{Program}
 use Rattle.tm_plan_cases.specs.Collected.{owned, window_dwords, is_declared, collector}
 use Rattle.tm_base.specs.Lists.{count_from}
+use Rattle.tm_base.proofs.ListLemmas.{length-filter-le, length-counted}
 use Rattle.tm_plan_map.specs.Map.{windows_base}
 use Rattle.tm_plan_cases.specs.Shaped.{MasksFit}
 use Rattle.tm_world.specs.Lists.{IsFront}
@@ -82,27 +83,14 @@ none-before-run p n =
 
 -- ---- how much a hart saves
 
-filter-short : (t : ℕ → Bool) (xs : List ℕ) → length (filter t xs) ≤ length xs
-filter-short t [] = omega arith
-filter-short t (x ∷ xs) = by (t x) (filter-short t xs)
-  where
-    by : (b : Bool) → length (filter t xs) ≤ length xs → length (if b then x ∷ filter t xs else filter t xs)
-        ≤ suc (length xs)
-    by true l = omega arith
-    by false l = omega arith
-
-map-length : (f : ℕ → ℕ) (n a : ℕ) → length (map f (count_from a n)) ≡ n
-map-length f zero a = refl
-map-length f (suc n) a = ap suc (map-length f n (suc a))
-
 pub saves-few : (p : Program) (h : ℕ) → saved p h ≤ 798
 unfolding owned window_dwords
 saves-few p h =
     omega (
       arith,
-      filter-short (λ a. is_declared p.cases a && (collector p.cases a == h))
+      length-filter-le (λ a. is_declared p.cases a && (collector p.cases a == h))
           (map (λ q. windows_base + 8 * q) (count_from 0 768)),
-      map-length (λ q. windows_base + 8 * q) 768 0,
+      length-counted (λ q. windows_base + 8 * q) 768 0,
     )
 
 -- ---- a stay

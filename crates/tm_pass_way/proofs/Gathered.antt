@@ -2,9 +2,10 @@
 -- that phase.
 use Rattle.std.proofs.Common.{◌≡◌, ℕ, ◌+◌, Bool, true, false, ◌&&◌, ◌||◌, nat_lt, nat_le, ◌==◌, ◌-◌, List, [], ◌∷◌}
 use Rattle.std.proofs.Common.{Option, None, Some, refl, sym, ap, ◌∙◌, subst, arith}
-use Rattle.std.specs.Prelude.{slice_index, slice_index_or, if◌then◌else◌}
+use Rattle.std.specs.Prelude.{slice_index, slice_index_or, IfSome, if◌then◌else◌}
 use Rattle.std.proofs.lemmas.Bool.Decides.{nat_tests}
 use Rattle.std.proofs.lemmas.Grind.{get_or_default_zero}
+use Rattle.std.proofs.lemmas.Bool.{or_right}
 use Rattle.tm_table.specs.declared.state.Access.{Access}
 use Rattle.tm_table.specs.declared.state.Access.TheVariants.{Quiet, Read, Write}
 use Rattle.tm_plan_cases.specs.declared.program.Program.{Program}
@@ -17,11 +18,17 @@ use Rattle.tm_world.specs.Run.{got}
 use Rattle.tm_world.specs.Writers.{run_phase}
 use Rattle.tm_world.specs.Course.{reads_in}
 use Rattle.tm_runs.specs.Machine.{Entry, Table}
-use Rattle.tm_runs.proofs.Places.{or-right}
 use Rattle.tm_pass_way.specs.Logs.{read_in}
 use Rattle.tm_runs.specs.Phases.{phase_in, steps_in}
 use Rattle.tm_pass_way.specs.Facts.{Gathered}
 use Rattle.tm_pass_way.specs.Parts.{PassTold}
+
+-- what was gathered is so behind one entry more
+pub gathered-one : (p : Program) (h : ℕ) (o : Option ℕ) (e : Entry) (es : List Entry) → IfSome o (λ d. Gathered p h es)
+    → IfSome o (λ d. Gathered p h (e ∷ es))
+gathered-one p h None e es g = tt
+gathered-one p h (Some d) e es g = λ k x l. or_right (reads_in (slice_index_or (owned p.cases h) k x) 8 e.access)
+    (any (λ (t : Entry). reads_in (slice_index_or (owned p.cases h) k x) 8 t.access) es) (g k x l)
 
 none-some : {v : ℕ} {A : Type 0} → ◌≡◌ {A = Option ℕ} None (Some v) → A
 none-some e = absurd (cc)
@@ -54,7 +61,7 @@ read-any p h q a v (x ∷ past) e = by (read_in p h q a past) refl (phase_in (ex
         → any (λ (t : Entry). reads_in a 8 t.access) (if b then x ∷ steps_in (exit_of p h) q past
         else steps_in (exit_of p h) q past) ≡ true
     by (Some w) f true r g =
-        or-right (reads_in a 8 x.access) (any (λ (t : Entry). reads_in a 8 t.access) (steps_in (exit_of p h) q past))
+        or_right (reads_in a 8 x.access) (any (λ (t : Entry). reads_in a 8 t.access) (steps_in (exit_of p h) q past))
         (r w f)
     by (Some w) f false r g = r w f
     by None f true r g =

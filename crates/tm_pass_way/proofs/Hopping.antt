@@ -1,23 +1,22 @@
 -- A calm part whose last step leads to another place, at which there is no mark.
 use Rattle.std.proofs.Common.{◌≡◌, ◌≢◌, ◌⊎◌, inl, inr, ℕ, suc, ◌+◌, ◌<◌, ◌≤◌, Bool, true, false, ◌&&◌, not, ◌==◌}
-use Rattle.std.proofs.Common.{List, [], ◌∷◌, ◌++◌, length, Option, None, Some, refl, sym, ap, ap₂, ◌∙◌, subst, arith}
+use Rattle.std.proofs.Common.{List, [], ◌++◌, length, Option, None, Some, refl, sym, ap, ap₂, ◌∙◌, subst, arith}
 use Rattle.std.proofs.Common.{length-append}
-use Rattle.std.specs.Prelude.{slice_index, slice_index_or, IfSome, if◌then◌else◌}
+use Rattle.std.specs.Prelude.{slice_index, IfSome, if◌then◌else◌}
 use Rattle.tm_plan_cases.specs.declared.program.Program.{Program}
 use Rattle.tm_plan_map.specs.Map.{windows_base}
 use Rattle.tm_plan_cases.specs.Collected.{owned}
-use Rattle.tm_base.specs.Lists.{any}
 use Rattle.tm_plan_cases.specs.Shaped.{MasksFit}
 use Rattle.tm_world.specs.Lists.{or_else}
 use Rattle.tm_world.specs.Place.{harts, case_count, start_of, end_of, exit_of, halt_of, inside}
 use Rattle.tm_world.specs.Marks.{Mark, arrivals}
-use Rattle.tm_world.specs.Course.{round_before, reads_in}
+use Rattle.tm_world.specs.Course.{round_before}
+use Rattle.tm_world.proofs.Options.{or_else-none}
 use Rattle.tm_runs.specs.Machine.{State, Entry, Table}
 use Rattle.tm_runs.specs.Runs.{Takes}
 use Rattle.tm_runs.specs.World.{world_of}
 use Rattle.tm_runs.proofs.Arrivals.{inside-false}
 use Rattle.tm_runs.proofs.Split.{takes_count}
-use Rattle.tm_runs.proofs.Places.{or-right}
 use Rattle.tm_runs.proofs.Compose.{keeps_after, keeps_now, takes_map}
 use Rattle.tm_legal.proofs.Formed.{formed-sizes}
 use Rattle.tm_legal.specs.Tame.{Formed}
@@ -27,8 +26,10 @@ use Rattle.tm_pass_way.specs.Facts.{Told, Gathered}
 use Rattle.tm_pass_way.specs.Parts.{Hold, Ready, Leads}
 use Rattle.tm_pass_way.specs.Calm.{Clear, Steady, HopsTo, Recalls}
 use Rattle.tm_runs.proofs.Ahead.{Small, takes_told, world-low}
-use Rattle.tm_pass_way.proofs.Calm.{Still, steady-part, steady-one, now-stays, owned-above}
-use Rattle.tm_pass_way.proofs.Lift.{told-drop, left-same, read-same, got-low, or-none, none-either, gathered-more}
+use Rattle.tm_pass_way.proofs.Calm.{Still, steady-part, steady-one, now-stays}
+use Rattle.tm_plan_owned.proofs.Collected.{owned-above}
+use Rattle.tm_pass_way.proofs.Lift.{told-drop, left-same, read-same, got-low, none-either, gathered-more}
+use Rattle.tm_pass_way.proofs.Gathered.{gathered-one}
 
 module _ (p : Program) (formed : Formed p) (fit : MasksFit p.cases p.masks) (h : ℕ) (number : h < harts p) (limit : ℕ
     → ℕ) (lo hi place : ℕ) (clear : Clear p h lo hi) (off : hi ≢ exit_of p h) (some : lo ≤ hi) (beyond : (d : ℕ)
@@ -86,7 +87,7 @@ module _ (p : Program) (formed : Formed p) (fit : MasksFit p.cases p.masks) (h :
           then Some a.last.regs else None)) (outside d l)
           ∙ (ap (λ (o : Option Table). or_else (left_in p h d r (a.entries ++ s.log)) o)
           (none-and (phase_in exit (a.entries ++ s.log) == r)) ∙
-          (or-none (left_in p h d r (a.entries ++ s.log)) ∙ left-same p formed fit h number limit lo hi clear d r l
+          (or_else-none (left_in p h d r (a.entries ++ s.log)) ∙ left-same p formed fit h number limit lo hi clear d r l
           a.entries s.log a.each)));
       read = λ r j i l m.
           let b = slice_index (owned p.cases h) j + i in
@@ -96,7 +97,7 @@ module _ (p : Program) (formed : Formed p) (fit : MasksFit p.cases p.masks) (h :
           == r then o else None)) (got-low h a.last.access b high a.access)
           ∙ (ap (λ (o : Option ℕ). or_else (read_in p h r b (a.entries ++ s.log)) o)
           (none-either (phase_in exit (a.entries ++ s.log) == r)) ∙
-          (or-none (read_in p h r b (a.entries ++ s.log)) ∙ read-same p formed fit h number limit lo hi clear r b
+          (or_else-none (read_in p h r b (a.entries ++ s.log)) ∙ read-same p formed fit h number limit lo hi clear r b
           high a.entries s.log a.each)));
     }
       where
@@ -125,16 +126,10 @@ module _ (p : Program) (formed : Formed p) (fit : MasksFit p.cases p.masks) (h :
           };
           gathered = subst (λ (l : List Entry). IfSome (round_before p q) (λ d. Gathered p h (now_in exit l)))
               (sym a.log) (subst (λ (l : List Entry). IfSome (round_before p q) (λ d. Gathered p h l)) (sym now)
-              (one-more (round_before p q) (gathered-more p formed fit h number limit lo hi clear (round_before p q)
-              a.entries s.log a.each ready.gathered)));
+              (gathered-one p h (round_before p q) a.last (now_in exit (a.entries ++ s.log))
+              (gathered-more p formed fit h number limit lo hi clear (round_before p q) a.entries s.log a.each
+              ready.gathered)));
         }
-      where
-        one-more : (x : Option ℕ) → IfSome x (λ d. Gathered p h (now_in exit (a.entries ++ s.log)))
-            → IfSome x (λ d. Gathered p h (a.last ∷ now_in exit (a.entries ++ s.log)))
-        one-more None g = g
-        one-more (Some d) g = λ k e l. or-right (reads_in (slice_index_or (owned p.cases h) k e) 8 a.last.access)
-            (any (λ (x : Entry). reads_in (slice_index_or (owned p.cases h) k e) 8 x.access)
-            (now_in exit (a.entries ++ s.log))) (g k e l)
 
   -- So it leaves the way where it was, but for the place.
   pub hop-part : {Q : State → Type 0} (s : State) → Ready p h lo q c o ms s → Told p h limit s.log

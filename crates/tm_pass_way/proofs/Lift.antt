@@ -3,10 +3,12 @@ use Rattle.std.proofs.Common.{◌≡◌, ◌≢◌, ◌⊎◌, inl, inr, ℕ, �
 use Rattle.std.proofs.Common.{List, [], ◌∷◌, ◌++◌, length, Option, None, Some, refl, sym, ap, ◌∙◌, subst, arith}
 use Rattle.std.proofs.Common.{append_assoc, length-append}
 use Rattle.std.specs.Prelude.{slice_index, slice_index_or, IsTrue, IfSome, if◌then◌else◌}
+use Rattle.std.proofs.lemmas.Bool.{or_right}
 use Rattle.tm_table.specs.declared.state.Access.{Access}
 use Rattle.tm_table.specs.declared.state.Access.TheVariants.{Quiet, Read, Write}
 use Rattle.tm_plan_cases.specs.declared.program.Program.{Program}
 use Rattle.tm_plan_map.specs.Map.{windows_base}
+use Rattle.tm_plan_map.proofs.Within.{within-false}
 use Rattle.tm_plan_cases.specs.Collected.{owned}
 use Rattle.tm_base.specs.Lists.{any}
 use Rattle.tm_plan_cases.specs.Shaped.{MasksFit}
@@ -16,13 +18,12 @@ use Rattle.tm_world.specs.Run.{got}
 use Rattle.tm_world.specs.Kinds.{stream_at}
 use Rattle.tm_world.specs.Marks.{Mark, arrivals}
 use Rattle.tm_world.specs.Course.{round_before, reads_in}
+use Rattle.tm_world.proofs.Options.{or_else-none}
 use Rattle.tm_runs.specs.Machine.{State, Entry, Table}
 use Rattle.tm_runs.specs.Runs.{Takes, Within, Does, Each, Since}
 use Rattle.tm_runs.specs.World.{world_of}
 use Rattle.tm_runs.specs.Course.{trail}
 use Rattle.tm_runs.proofs.Arrivals.{inside-false}
-use Rattle.tm_runs.proofs.Bytes.{within-false}
-use Rattle.tm_runs.proofs.Places.{or-right}
 use Rattle.tm_runs.proofs.Split.{takes_since, takes_count}
 use Rattle.tm_runs.proofs.Compose.{keeps_after, keeps_now, takes_map}
 use Rattle.tm_legal.proofs.Formed.{formed-sizes}
@@ -34,7 +35,8 @@ use Rattle.tm_pass_way.specs.Facts.{Told, Gathered}
 use Rattle.tm_pass_way.specs.Parts.{Hold, Ready, Leads}
 use Rattle.tm_pass_way.specs.Calm.{Clear, Steady, LeavesTo, Recalls}
 use Rattle.tm_runs.proofs.Ahead.{Small, takes_told, world-low}
-use Rattle.tm_pass_way.proofs.Calm.{IsCalm, owned-above, steady-part, now-stays}
+use Rattle.tm_pass_way.proofs.Calm.{IsCalm, steady-part, now-stays}
+use Rattle.tm_plan_owned.proofs.Collected.{owned-above}
 
 -- ---- what a log told before its newest entry
 
@@ -59,10 +61,6 @@ told-drop p h limit e past t = record {
   story = t.story.1;
   pace = λ r. let l = work-less p h r e past in let m = t.pace r in omega arith;
 }
-
-pub or-none : {A : Type 0} (o : Option A) → or_else o None ≡ o
-or-none None = refl
-or-none (Some x) = refl
 
 pub none-either : {A : Type 0} (b : Bool) → ◌≡◌ {A = Option A} (if b then None else None) None
 none-either true = refl
@@ -93,7 +91,7 @@ module _ (p : Program) (formed : Formed p) (fit : MasksFit p.cases p.masks) (h :
       ap (λ (b : Bool). or_else (left_in p h c q (es ++ past)) (if (phase_in exit (es ++ past) == q)
       && (b && not (inside p h c e.next)) then Some e.regs else None)) (outside c e l each.0)
       ∙ (ap (λ (o : Option Table). or_else (left_in p h c q (es ++ past)) o) (by (phase_in exit (es ++ past) == q)) ∙
-      (or-none (left_in p h c q (es ++ past)) ∙ left-same c q l es past each.1))
+      (or_else-none (left_in p h c q (es ++ past)) ∙ left-same c q l es past each.1))
     where
       by : (b : Bool) → (if b && false then Some e.regs else None) ≡ None
       by true = refl
@@ -106,7 +104,7 @@ module _ (p : Program) (formed : Formed p) (fit : MasksFit p.cases p.masks) (h :
       ap (λ (o : Option ℕ). or_else (read_in p h q b (es ++ past)) (if phase_in exit (es ++ past) == q then o
       else None)) (got-low h e.access b l each.0.access)
       ∙ (ap (λ (o : Option ℕ). or_else (read_in p h q b (es ++ past)) o) (none-either (phase_in exit (es ++ past) == q))
-      ∙ (or-none (read_in p h q b (es ++ past)) ∙ read-same q b l es past each.1))
+      ∙ (or_else-none (read_in p h q b (es ++ past)) ∙ read-same q b l es past each.1))
 
   pub recalls : (s t : State) → Since (Does lo hi (IsCalm h)) s t → Recalls p h s t
   recalls s t since = record {
@@ -130,7 +128,7 @@ module _ (p : Program) (formed : Formed p) (fit : MasksFit p.cases p.masks) (h :
 
   pub any-more : (f : Entry → Bool) (es past : List Entry) → any f past ≡ true → any f (es ++ past) ≡ true
   any-more f [] past e = e
-  any-more f (x ∷ es) past e = or-right (f x) (any f (es ++ past)) (any-more f es past e)
+  any-more f (x ∷ es) past e = or_right (f x) (any f (es ++ past)) (any-more f es past e)
 
   pub gathered-more : (o : Option ℕ) (es past : List Entry) → Each (Does lo hi (IsCalm h)) es
       → IfSome o (λ d. Gathered p h (now_in exit past)) → IfSome o (λ d. Gathered p h (now_in exit (es ++ past)))

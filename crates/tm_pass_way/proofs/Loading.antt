@@ -10,6 +10,7 @@ use Rattle.tm_plan_cases.specs.Shaped.{MasksFit}
 use Rattle.tm_world.specs.Lists.{or_else, IsFront}
 use Rattle.tm_world.specs.Place.{harts, case_count, passes, start_of, end_of, exit_of, halt_of, inside}
 use Rattle.tm_world.specs.Marks.{Mark, Exit, Enter, End, arrivals, whole_way}
+use Rattle.tm_world.proofs.Options.{or_else-none}
 use Rattle.tm_runs.specs.Machine.{State, Entry, Table}
 use Rattle.tm_runs.specs.Runs.{Takes}
 use Rattle.tm_runs.specs.World.{world_of}
@@ -24,8 +25,9 @@ use Rattle.tm_pass_way.specs.Facts.{Told}
 use Rattle.tm_pass_way.specs.Parts.{Hold, Same, Leads, phase_at, way_to}
 use Rattle.tm_pass_way.specs.Calm.{Clear, StreamClear, Steady, LoadsInto}
 use Rattle.tm_runs.proofs.Ahead.{Small, takes_told, world-low}
-use Rattle.tm_pass_way.proofs.Calm.{Mild, not-reports, not-signals, steady-part, owned-above}
-use Rattle.tm_pass_way.proofs.Lift.{told-drop, left-same, read-same, got-low, or-none, none-either}
+use Rattle.tm_pass_way.proofs.Calm.{Mild, not-reports, not-signals, steady-part}
+use Rattle.tm_plan_owned.proofs.Collected.{owned-above}
+use Rattle.tm_pass_way.proofs.Lift.{told-drop, left-same, read-same, got-low, none-either}
 use Rattle.tm_pass_way.proofs.Steady.{steady-more}
 use Rattle.tm_pass_way.proofs.Special.{entering-fact}
 use Rattle.tm_pass_way.proofs.Fronts.{front-then, pass-front}
@@ -113,7 +115,7 @@ module _ (p : Program) (formed : Formed p) (fit : MasksFit p.cases p.masks) (h :
           then Some a.last.regs else None)) (outside d l)
           ∙ (ap (λ (o : Option Table). or_else (left_in p h d r (a.entries ++ s.log)) o)
           (none-and (phase_in (exit_of p h) (a.entries ++ s.log) == r)) ∙
-          (or-none (left_in p h d r (a.entries ++ s.log)) ∙ left-same p formed fit h number limit lo
+          (or_else-none (left_in p h d r (a.entries ++ s.log)) ∙ left-same p formed fit h number limit lo
           (start_of p h c - 4) clear d r l a.entries s.log a.each)));
       read = λ r j i l m.
           let b = slice_index (owned p.cases h) j + i in
@@ -124,7 +126,7 @@ module _ (p : Program) (formed : Formed p) (fit : MasksFit p.cases p.masks) (h :
           (got-low h a.last.access b high a.access)
           ∙ (ap (λ (o : Option ℕ). or_else (read_in p h r b (a.entries ++ s.log)) o)
           (none-either (phase_in (exit_of p h) (a.entries ++ s.log) == r)) ∙
-          (or-none (read_in p h r b (a.entries ++ s.log)) ∙ read-same p formed fit h number limit lo
+          (or_else-none (read_in p h r b (a.entries ++ s.log)) ∙ read-same p formed fit h number limit lo
           (start_of p h c - 4) clear r b high a.entries s.log a.each)));
       memos = a.memos;
     }

@@ -1,5 +1,5 @@
 -- What is told and saved of earlier passes stays so.
-use Rattle.std.proofs.Common.{◌≡◌, ◌≢◌, ℕ, suc, ◌+◌, ◌*◌, ◌<◌, ◌≤◌, Bool, true, false, ◌&&◌, not, ◌==◌, List, [], ◌∷◌}
+use Rattle.std.proofs.Common.{◌≡◌, ◌≢◌, ℕ, ◌+◌, ◌*◌, ◌<◌, Bool, true, false, ◌&&◌, not, ◌==◌, List, [], ◌∷◌}
 use Rattle.std.proofs.Common.{Option, None, Some, refl, sym, ap, ◌∙◌, arith}
 use Rattle.std.specs.Prelude.{slice_index, if◌then◌else◌}
 use Rattle.tm_plan_cases.specs.declared.program.Program.{Program}
@@ -15,13 +15,6 @@ use Rattle.tm_runs.specs.Phases.{phase_in, steps_in}
 use Rattle.tm_pass_way.specs.Parts.{Same, Counts, Stayed, Saves, CollectsTo, PassTold, RegistersTold}
 
 -- ---- a phase of which there is no entry yet
-
-phase-grows : (exit : ℕ) (e : Entry) (log : List Entry) → phase_in exit log ≤ phase_in exit (e ∷ log)
-phase-grows exit e log = by (e.pc == exit)
-  where
-    by : (b : Bool) → phase_in exit log ≤ (if b then suc (phase_in exit log) else phase_in exit log)
-    by true = omega arith
-    by false = omega arith
 
 cons-nil : {A : Type 0} (x : A) (xs : List A) → ◌≡◌ {A = List A} (x ∷ xs) [] → ⊥
 cons-nil x xs e = cc

@@ -6,12 +6,13 @@ use Rattle.std.proofs.Math.Nat.{mul-div_cancel_left}
 use Rattle.std.proofs.lemmas.Nat.{mod-mul-add}
 use Rattle.tm_table.specs.State.{Hart}
 use Rattle.tm_world.specs.Run.{Step}
-use Rattle.tm_pass_way.specs.Meets.{phase_work}
+use Rattle.tm_stays.specs.Pace.{phase_work}
 use Rattle.tm_plan_cases.specs.declared.program.Program.{Program}
 use Rattle.tm_world.specs.Place.{case_count, passes}
 use Rattle.tm_world.specs.Writers.{run_phase}
 use Rattle.tm_pass_way.specs.Parts.{Rooms, phase_at, turns}
-use Rattle.tm_pass_way.specs.Pace.{Pace, KeepsPace, pace_of, limit_at, LimitsAreServed}
+use Rattle.tm_pass_way.specs.Pace.{pace_of, limit_at, LimitsAreServed}
+use Rattle.tm_stays.specs.Pace.{Pace, KeepsPace}
 
 module _ (p : Program) (pace : Pace) (some : 2 ≤ passes p) where
   abbrev K : ℕ

@@ -1,17 +1,14 @@
 -- The phase behind the last pass of a case stands behind a run phase of the case.
-use Rattle.std.proofs.Common.{◌≡◌, ℕ, suc, ◌+◌, ◌-◌, ◌*◌, ◌/◌, ◌%◌, ◌<◌, ◌≤◌, Bool, true, ◌&&◌, nat_lt, eq-eqb, None}
+use Rattle.std.proofs.Common.{◌≡◌, ℕ, suc, ◌+◌, ◌-◌, ◌*◌, ◌/◌, ◌%◌, ◌<◌, ◌≤◌, Bool, ◌&&◌, nat_lt, eq-eqb, None}
 use Rattle.std.proofs.Common.{Some, ap, ap₂, ◌∙◌, arith}
 use Rattle.std.specs.Prelude.{if◌then◌else◌}
-use Rattle.std.proofs.lemmas.Bool.Decides.{nat_tests}
 use Rattle.std.proofs.lemmas.Nat.{div-mul-add}
+use Rattle.std.proofs.lemmas.Bool.{lt-ltb}
 use Rattle.tm_plan_cases.specs.declared.program.Program.{Program}
 use Rattle.tm_world.specs.Place.{case_count, passes}
 use Rattle.tm_world.specs.Writers.{case_of_phase}
 use Rattle.tm_world.specs.Course.{round_before}
 use Rattle.tm_pass_way.specs.Parts.{phase_at}
-
-less-true : (a b : ℕ) → a < b → nat_lt a b ≡ true
-less-true a b l = grind (arith, nat_tests)
 
 half-odd : (i : ℕ) → (2 * i + 1) / 2 ≡ i
 half-odd i = omega arith
@@ -30,7 +27,7 @@ run-case p c k l m =
     let e : (2 * i + 1) / 2 ≡ i = half-odd i in
     ap₂ (λ (a b : Bool). if a && b then Some ((2 * i + 1) / 2 / passes p)
     else None) (eq-eqb ((2 * i + 1) % 2) 1 (omega arith))
-    (ap (λ (j : ℕ). nat_lt j (case_count p * passes p)) e ∙ less-true i (case_count p * passes p)
+    (ap (λ (j : ℕ). nat_lt j (case_count p * passes p)) e ∙ lt-ltb i (case_count p * passes p)
     (fewer c k (passes p) (case_count p) l m))
     ∙ ap (λ (j : ℕ). Some j) (ap (λ (j : ℕ). j / passes p) e ∙ divided c k (passes p) m)
 

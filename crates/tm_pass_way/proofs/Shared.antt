@@ -1,16 +1,18 @@
 -- The entries of support code that write or read shared memory: the one that sets a dword that the hart collects, and
 -- the one that collects it.
-use Rattle.std.proofs.Common.{◌≡◌, ◌≢◌, ℕ, zero, suc, ◌+◌, ◌*◌, ◌%◌, ◌<◌, ◌≤◌, Bool, true, false, true≢false, ◌&&◌}
-use Rattle.std.proofs.Common.{◌||◌, ◌==◌, eqb-true, eq-eqb, List, [], ◌∷◌, length, Option, None, Some, refl, sym, ap}
+use Rattle.std.proofs.Common.{◌≡◌, ◌≢◌, ℕ, ◌+◌, ◌*◌, ◌%◌, ◌<◌, ◌≤◌, Bool, true, false, ◌&&◌}
+use Rattle.std.proofs.Common.{◌||◌, ◌==◌, eqb-true, eq-eqb, List, Option, None, Some, refl, sym, ap}
 use Rattle.std.proofs.Common.{ap₂, ◌∙◌, subst, arith}
-use Rattle.std.specs.Prelude.{slice_get, slice_index_or, IsTrue, IsFalse, IfSome, All, map, if◌then◌else◌}
+use Rattle.std.specs.Prelude.{slice_index_or, IsTrue, IsFalse, IfSome, if◌then◌else◌}
 use Rattle.std.proofs.lemmas.Bool.Decides.{nat_tests}
-use Rattle.std.proofs.lemmas.List.Elements.{All-filter, All-map}
+use Rattle.std.proofs.lemmas.Bool.{or_right, and_parts}
+use Rattle.std.proofs.lemmas.Option.{slice_get_within, IfSome_then}
 use Rattle.tm_table.specs.declared.state.Access.TheVariants.{Read, Write}
 use Rattle.tm_plan_cases.specs.declared.program.Program.{Program}
 use Rattle.tm_plan_map.specs.Map.{verdict_at, flag_at, window_at, windows_base}
-use Rattle.tm_plan_cases.specs.Collected.{is_declared, owned, window_dwords, collector}
-use Rattle.tm_base.specs.Lists.{any, count_from}
+use Rattle.tm_plan_cases.specs.Collected.{is_declared, owned, collector}
+use Rattle.tm_base.specs.Lists.{any}
+use Rattle.tm_base.proofs.ListLemmas.{no}
 use Rattle.tm_plan_cases.specs.Shaped.{MasksFit}
 use Rattle.tm_world.specs.Place.{harts, case_count, passes, start_of, exit_of, halt_of, is_private, is_flag}
 use Rattle.tm_world.specs.Place.{is_verdict, is_window}
@@ -18,51 +20,22 @@ use Rattle.tm_world.specs.Run.{Writes}
 use Rattle.tm_world.specs.Writers.{may_write, may_write_window, may_write_running, case_of_phase}
 use Rattle.tm_world.specs.Kinds.{writes_flag}
 use Rattle.tm_world.specs.Course.{writes_in, reads_in, writes_shared, round_before}
+use Rattle.tm_world.proofs.Streams.{case-of}
+use Rattle.tm_world.proofs.Accesses.{one-dword, writes-itself}
 use Rattle.tm_runs.specs.Machine.{Entry}
-use Rattle.tm_runs.proofs.Places.{or-right}
 use Rattle.tm_legal.proofs.Formed.{formed-sizes}
 use Rattle.tm_legal.specs.Tame.{Formed}
-use Rattle.tm_legal.proofs.Streams.{case-of}
 use Rattle.tm_runs.specs.Phases.{phase_in, now_in, signals_in}
+use Rattle.tm_plan_owned.proofs.Collected.{owned-even}
 use Rattle.tm_pass_way.specs.Facts.{Fact, Gathered, Gathering}
 use Rattle.tm_pass_way.proofs.Calm.{verdict-low, flag-low, any-none}
-use Rattle.tm_pass_way.proofs.Stream.{private-below}
-
-get-short : {A : Type 0} (xs : List A) (k : ℕ) (x : A) → slice_get xs k ≡ Some x → k < length xs
-get-short [] k x e = cc
-get-short (y ∷ xs) zero x e = omega arith
-get-short (y ∷ xs) (suc k) x e = let l = get-short xs k x e in omega arith
-
-and-left : (a b : Bool) → (a && b) ≡ true → a ≡ true
-and-left true b e = refl
-and-left false b e = absurd (true≢false (sym e))
-
-no : {A : Type 0} {b : Bool} → b ≡ false → b ≡ true → A
-no e f = absurd (true≢false (sym f ∙ e))
-
-some-map : {P Q : ℕ → Type 0} (o : Option ℕ) → ((x : ℕ) → P x → Q x) → IfSome o P → IfSome o Q
-some-map None f s = s
-some-map (Some x) f s = f x s
-
--- the collected dwords stand at multiples of 8
-pub owned-even : (p : Program) (h : ℕ) → All (λ a. a % 8 ≡ 0) (owned p.cases h)
-unfolding owned window_dwords windows_base
-owned-even p h = All-filter (λ a. is_declared p.cases a && (collector p.cases a == h)) (λ a. a % 8
-    ≡ 0) (map (λ q. windows_base + 8 * q) (count_from 0 768))
-    (All-map (λ a. a % 8 ≡ 0) (λ q. windows_base + 8 * q) (count_from 0 768) (λ k d l. omega arith))
+use Rattle.tm_pass_way.proofs.Calm.{private-below}
 
 above-writes : (a b v : ℕ) → a + 8 ≤ b → writes_in a 8 (Write b 8 v) ≡ false
 above-writes a b v l = grind (arith, nat_tests)
 
 above-flag : (h b v : ℕ) → flag_at h + 8 ≤ b → writes_flag h (Write b 8 v) ≡ false
 above-flag h b v l = grind (arith, nat_tests)
-
--- dwords that overlap are one
-one-dword : (a b v : ℕ) → a % 8 ≡ 0 → b % 8 ≡ 0 → reads_in a 8 (Read b 8 v) ≡ true → b ≡ a
-one-dword a b v e f g =
-    let x : b < a + 8 = grind (arith, nat_tests) in
-    let y : a < b + 8 = grind (arith, nat_tests) in
-    omega arith
 
 module _ (p : Program) (formed : Formed p) (fit : MasksFit p.cases p.masks) (h : ℕ) (number : h < harts p) where
   abbrev exit : ℕ
@@ -91,28 +64,27 @@ module _ (p : Program) (formed : Formed p) (fit : MasksFit p.cases p.masks) (h :
       → IfSome (round_before p (phase_in exit past)) (λ d. Gathered p h (now_in exit past)) → Fact p h past e
   set-fact past e a v s is high mine even silent gathered = record {
     fresh = λ c stream f g. let r = case-of p.cases c h stream f in
-        absurd (s.start c (get-short p.cases.cases c r.0 r.1) (eqb-true e.next (start_of p h c) (and-left _ _ g)));
+        absurd (s.start c (slice_get_within p.cases.cases c r.0 r.1)
+        (eqb-true e.next (start_of p h c) (and_parts _ _ g).0));
     behind = λ c l g. s.from;
     verdict = λ d g l m f. no (not-cell d g l m) f;
-    exact = λ d m u f g. let l : d < case_count p = let n = get-short p.masks.cases d m f in omega (arith, fit.count) in
-        no (not-cell d h l number) (ap (writes_in (verdict_at d h) 8) g ∙ covers (verdict_at d h) u);
+    exact = λ d m u f g. let l : d < case_count p = let n = slice_get_within p.masks.cases d m f in omega
+        (arith, fit.count) in
+        no (not-cell d h l number) (ap (writes_in (verdict_at d h) 8) g ∙ writes-itself (verdict_at d h) u);
     halt = λ z. absurd (s.halt z);
     halted = λ z. absurd (s.halt z);
     writes = λ _. subst (Writes (λ b. IsTrue (may_write p (phase_in exit past) h b)
         × (phase_in exit past % 2 ≡ 1 → IsFalse (is_declared p.cases b)))) (sym is)
         (λ i l. (may i l, λ z. absurd (omega (arith, z, even))));
     barrier = record { signal = λ z. no not-flag z; still = λ z. no silent z; leave = λ z. absurd (s.from z) };
-    collects = some-map (round_before p (phase_in exit past)) (λ d g. record {
+    collects = IfSome_then (round_before p (phase_in exit past)) gathered (λ d g. record {
       once = λ k x l z. no (ap (reads_in (slice_index_or (owned p.cases h) k x) 8) is) z;
       before_writes = λ z. g;
       before_exit = λ z. absurd (s.from z);
-    }) gathered;
+    });
     sets = λ z. no not-flag z;
   }
     where
-      covers : (b u : ℕ) → writes_in b 8 (Write b 8 u) ≡ true
-      covers b u = grind (arith, nat_tests)
-
       not-cell : (d g : ℕ) → d < case_count p → g < harts p → writes_in (verdict_at d g) 8 e.access ≡ false
       not-cell d g l m = ap (writes_in (verdict_at d g) 8) is ∙ above-writes (verdict_at d g) a v
           (let z = cell-below d g l m in omega arith)
@@ -126,9 +98,9 @@ module _ (p : Program) (formed : Formed p) (fit : MasksFit p.cases p.masks) (h :
           let q = phase_in exit past in
           let b = a + i in
           let m = mine i l in
-          or-right (is_flag h b) (is_verdict p h b || (is_private h b || (is_window b && may_write_window p q h b)))
-          (or-right (is_verdict p h b) (is_private h b || (is_window b && may_write_window p q h b))
-          (or-right (is_private h b) (is_window b && may_write_window p q h b)
+          or_right (is_flag h b) (is_verdict p h b || (is_private h b || (is_window b && may_write_window p q h b)))
+          (or_right (is_verdict p h b) (is_private h b || (is_window b && may_write_window p q h b))
+          (or_right (is_private h b) (is_window b && may_write_window p q h b)
           (ap₂ (λ (x y : Bool). x && y) m.0 (ap (λ (x : Bool). if x then collector p.cases b == h
           else may_write_running p (case_of_phase p q) h b) (eq-eqb (q % 2) 0 even) ∙ eq-eqb (collector p.cases b) h
           m.1))))
@@ -139,11 +111,12 @@ module _ (p : Program) (formed : Formed p) (fit : MasksFit p.cases p.masks) (h :
       → any (signals_in h) (now_in exit past) ≡ false → Fact p h past e
   collect-fact past e a v s is aligned unread silent = record {
     fresh = λ c stream f g. let r = case-of p.cases c h stream f in
-        absurd (s.start c (get-short p.cases.cases c r.0 r.1) (eqb-true e.next (start_of p h c) (and-left _ _ g)));
+        absurd (s.start c (slice_get_within p.cases.cases c r.0 r.1)
+        (eqb-true e.next (start_of p h c) (and_parts _ _ g).0));
     behind = λ c l g. s.from;
     verdict = λ d g l m f. no (ap (writes_in (verdict_at d g) 8) is) f;
     exact = λ d m u f g. no (ap (writes_in (verdict_at d h) 8) is)
-        (ap (writes_in (verdict_at d h) 8) g ∙ covers (verdict_at d h) u);
+        (ap (writes_in (verdict_at d h) 8) g ∙ writes-itself (verdict_at d h) u);
     halt = λ z. absurd (s.halt z);
     halted = λ z. absurd (s.halt z);
     writes = λ _. subst (Writes (λ b. IsTrue (may_write p (phase_in exit past) h b)
@@ -157,9 +130,6 @@ module _ (p : Program) (formed : Formed p) (fit : MasksFit p.cases p.masks) (h :
     sets = λ z. no (ap (writes_flag h) is) z;
   }
     where
-      covers : (b u : ℕ) → writes_in b 8 (Write b 8 u) ≡ true
-      covers b u = grind (arith, nat_tests)
-
       gathers : (o : Option ℕ) → round_before p (phase_in exit past) ≡ o → IfSome o (λ d. Gathering p h past e)
       gathers None f = tt
       gathers (Some d) f = record {

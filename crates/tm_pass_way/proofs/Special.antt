@@ -1,18 +1,20 @@
 -- The two entries of support code that calm parts don't have: the one that enters a stream, and the one that writes a
 -- verdict.
-use Rattle.std.proofs.Common.{◌≡◌, ◌≢◌, ◌⊎◌, inl, inr, ℕ, zero, suc, ◌+◌, ◌*◌, ◌%◌, ◌<◌, ◌≤◌, Bool, true, false}
-use Rattle.std.proofs.Common.{true≢false, ◌&&◌, ◌||◌, nat_lt, eqb-true, List, [], ◌∷◌, length, Option, None, Some}
-use Rattle.std.proofs.Common.{refl, sym, ap, ◌∙◌, subst, arith}
+use Rattle.std.proofs.Common.{◌≡◌, ◌≢◌, ◌⊎◌, inl, inr, ℕ, suc, ◌+◌, ◌*◌, ◌%◌, ◌<◌, ◌≤◌, Bool, true, false}
+use Rattle.std.proofs.Common.{◌&&◌, ◌||◌, nat_lt, eqb-true, List, ◌∷◌, Option, None, Some}
+use Rattle.std.proofs.Common.{sym, ap, ◌∙◌, subst, arith}
 use Rattle.std.specs.Prelude.{slice_get, slice_index, slice_index_or, IsTrue, IsFalse, IfSome}
-use Rattle.std.proofs.lemmas.Bool.{cases_lt, cases_eq}
+use Rattle.std.proofs.lemmas.Bool.{cases_lt, cases_eq, or_right, and_parts}
 use Rattle.std.proofs.lemmas.Bool.Decides.{nat_tests}
+use Rattle.std.proofs.lemmas.Option.{slice_get_within}
 use Rattle.tm_table.specs.declared.state.Access.TheVariants.{Write}
 use Rattle.tm_plan_cases.specs.declared.cases.Stream.{Stream}
 use Rattle.tm_plan_cases.specs.declared.masks.CaseMask.{CaseMask}
 use Rattle.tm_plan_cases.specs.declared.program.Program.{Program}
 use Rattle.tm_plan_map.specs.Map.{verdict_at, flag_at, window_at, windows_base, within}
 use Rattle.tm_plan_cases.specs.Collected.{is_declared, owned}
-use Rattle.tm_base.specs.Lists.{any, count_from}
+use Rattle.tm_base.specs.Lists.{any}
+use Rattle.tm_base.proofs.ListLemmas.{any-number, no}
 use Rattle.tm_plan_cases.specs.Shaped.{MasksFit}
 use Rattle.tm_world.specs.Place.{harts, case_count, passes, start_of, end_of, exit_of, halt_of, is_private, is_flag}
 use Rattle.tm_world.specs.Place.{is_verdict, is_window}
@@ -21,12 +23,12 @@ use Rattle.tm_world.specs.Writers.{may_write, may_write_window}
 use Rattle.tm_plan_cases.specs.Streams.{stream_in}
 use Rattle.tm_world.specs.Kinds.{writes_flag}
 use Rattle.tm_world.specs.Course.{writes_in, reads_in, writes_shared, round_before}
+use Rattle.tm_world.proofs.Streams.{case-of}
+use Rattle.tm_world.proofs.Accesses.{writes-itself}
 use Rattle.tm_runs.specs.Machine.{Entry, Table}
-use Rattle.tm_runs.proofs.Bytes.{within-true}
-use Rattle.tm_runs.proofs.Places.{or-right}
+use Rattle.tm_plan_map.proofs.Within.{within-true}
 use Rattle.tm_legal.proofs.Formed.{formed-sizes}
 use Rattle.tm_legal.specs.Tame.{Formed}
-use Rattle.tm_legal.proofs.Streams.{case-of}
 use Rattle.tm_pass_way.specs.Logs.{reports, IsVerdictIn}
 use Rattle.tm_runs.specs.Phases.{phase_in, now_in, signals_in}
 use Rattle.tm_pass_way.specs.Facts.{Fact, Gathered, Gathering, Reporting}
@@ -35,26 +37,6 @@ use Rattle.tm_pass_way.specs.Calm.{StreamClear}
 use Rattle.tm_pass_way.proofs.Gathered.{told-gathered}
 use Rattle.tm_pass_way.proofs.Calm.{Mild, mild-fact, now-stays, undeclared, window-high, any-none}
 use Rattle.tm_pass_way.proofs.Judged.{found-verdict}
-
-get-short : {A : Type 0} (xs : List A) (k : ℕ) (x : A) → slice_get xs k ≡ Some x → k < length xs
-get-short [] k x e = cc
-get-short (y ∷ xs) zero x e = omega arith
-get-short (y ∷ xs) (suc k) x e = let l = get-short xs k x e in omega arith
-
-and-left : (a b : Bool) → (a && b) ≡ true → a ≡ true
-and-left true b e = refl
-and-left false b e = absurd (true≢false (sym e))
-
-no : {A : Type 0} {b : Bool} → b ≡ false → b ≡ true → A
-no e f = absurd (true≢false (sym f ∙ e))
-
-any-at : (f : ℕ → Bool) (n a c : ℕ) → a ≤ c → c < a + n → f c ≡ true → any f (count_from a n) ≡ true
-any-at f zero a c l m e = absurd (omega arith)
-any-at f (suc n) a c l m e = by (cases_eq a c) (λ k. any-at f n (suc a) c k (omega arith) e)
-  where
-    by : (a ≡ c) ⊎ (a ≡ c → ⊥) → (suc a ≤ c → any f (count_from (suc a) n) ≡ true) → any f (count_from a (suc n)) ≡ true
-    by (inl x) later = ap (λ (b : Bool). b || any f (count_from (suc a) n)) (ap f x ∙ e)
-    by (inr x) later = or-right (f a) (any f (count_from (suc a) n)) (later (omega arith))
 
 -- ---- verdict cells
 
@@ -66,10 +48,6 @@ same-cell c d g h l m e =
     let a : 2160070656 + 8 * (16 * c + h) < 2160070656 + 8 * (16 * d + g) + 8 = grind (arith, nat_tests) in
     let b : 2160070656 + 8 * (16 * d + g) < 2160070656 + 8 * (16 * c + h) + 8 = grind (arith, nat_tests) in
     (omega arith, omega arith)
-
-pub cell-covers : (c h : ℕ)
-    → (nat_lt (verdict_at c h) (verdict_at c h + 8) && nat_lt (verdict_at c h) (verdict_at c h + 8)) ≡ true
-cell-covers c h = grind (arith, nat_tests)
 
 cell-low : (c h : ℕ) → c < 32 → h < 16 → verdict_at c h + 8 ≤ windows_base
 unfolding verdict_at windows_base
@@ -96,7 +74,7 @@ module _ (p : Program) (formed : Formed p) (fit : MasksFit p.cases p.masks) (h :
       → any (signals_in h) (now_in exit past) ≡ false → Fact p h past e
   entering-fact past e c clear mild to fresh silent =
       mild-fact p formed fit h number past e mild silent
-      (λ d stream f g. by d stream f (eqb-true e.next (start_of p h d) (and-left _ _ g)) (cases_eq d c))
+      (λ d stream f g. by d stream f (eqb-true e.next (start_of p h d) (and_parts _ _ g).0) (cases_eq d c))
     where
       off : (d : ℕ) → d < case_count p → e.next ≡ start_of p h d → (end_of p h c < start_of p h d)
           ⊎ (end_of p h d < start_of p h c) → ⊥
@@ -106,7 +84,9 @@ module _ (p : Program) (formed : Formed p) (fit : MasksFit p.cases p.masks) (h :
       by : (d : ℕ) (stream : Stream) → stream_in p.cases d h ≡ Some stream → e.next ≡ start_of p h d → (d ≡ c)
           ⊎ (d ≡ c → ⊥) → (r : ℕ) → 1 ≤ r → r < 32 → e.regs r ≡ slice_index stream.regs r
       by d stream f z (inl x) = fresh stream (ap (λ (k : ℕ). stream_in p.cases k h) (sym x) ∙ f)
-      by d stream f z (inr x) = let r = case-of p.cases d h stream f in let l = get-short p.cases.cases d r.0 r.1 in
+      by d stream f z (inr x) =
+          let r = case-of p.cases d h stream f in
+          let l = slice_get_within p.cases.cases d r.0 r.1 in
           absurd (off d l z (clear.others d l x))
 
   -- ---- the verdict
@@ -122,8 +102,9 @@ module _ (p : Program) (formed : Formed p) (fit : MasksFit p.cases p.masks) (h :
       → ((j : ℕ) → j < passes p → PassTold p h c j past mem) → IsFound p m h mem v → Fact p h past e
   verdict-fact past e c v m mem here mask is from starts halts phase silent judged once gathered told finds = record {
     fresh = λ d stream f g. let r = case-of p.cases d h stream f in
-        absurd (starts d (get-short p.cases.cases d r.0 r.1) (eqb-true e.next (start_of p h d) (and-left _ _ g)));
-    behind = λ d l g. absurd (starts d l (eqb-true e.next (start_of p h d) (and-left _ _ g)));
+        absurd (starts d (slice_get_within p.cases.cases d r.0 r.1)
+        (eqb-true e.next (start_of p h d) (and_parts _ _ g).0));
+    behind = λ d l g. absurd (starts d l (eqb-true e.next (start_of p h d) (and_parts _ _ g).0));
     verdict = λ d g l n f.
         let s = same d g n (sym (ap (writes_in (verdict_at d g) 8) is) ∙ f) in (
           s.1,
@@ -137,7 +118,7 @@ module _ (p : Program) (formed : Formed p) (fit : MasksFit p.cases p.masks) (h :
     exact = λ d n u f g.
         let z : Write (verdict_at c h) 8 v ≡ Write (verdict_at d h) 8 u = sym is ∙ g in
         let s = same d h number (ap (λ (b : ℕ). nat_lt (verdict_at c h) (b + 8) && nat_lt b (verdict_at c h + 8))
-        (sym (address z)) ∙ cell-covers c h) in
+        (sym (address z)) ∙ writes-itself (verdict_at c h) 0) in
         let f2 : slice_get p.masks.cases c ≡ Some n = ap (slice_get p.masks.cases) (sym s.0) ∙ f in
         let w : m ≡ n = some-same (sym mask ∙ f2) in
         subst (λ (x : ℕ). IsVerdictIn p n h x past u) (sym s.0) (subst (λ (x : CaseMask). IsVerdictIn p x h c past u) w
@@ -181,21 +162,22 @@ module _ (p : Program) (formed : Formed p) (fit : MasksFit p.cases p.masks) (h :
 
       may-verdict : (q i : ℕ) → i < 8 → may_write p q h (verdict_at c h + i) ≡ true
       may-verdict q i l =
-          or-right (is_flag h (verdict_at c h + i)) (is_verdict p h (verdict_at c h + i)
+          or_right (is_flag h (verdict_at c h + i)) (is_verdict p h (verdict_at c h + i)
           || (is_private h (verdict_at c h + i)
           || (is_window (verdict_at c h + i) && may_write_window p q h (verdict_at c h + i))))
           (ap (λ (b : Bool). b || (is_private h (verdict_at c h + i)
           || (is_window (verdict_at c h + i) && may_write_window p q h (verdict_at c h + i))))
-          (any-at (λ d. within (verdict_at d h) 8 (verdict_at c h + i)) (case_count p) 0 c (omega arith)
+          (any-number (λ d. within (verdict_at d h) 8 (verdict_at c h + i)) (case_count p) 0 c (omega arith)
           (omega arith) (within-true (verdict_at c h) 8 (verdict_at c h + i) (omega arith) (omega arith))))
 
       by-halt : (d : ℕ) → d < case_count p → suc c ≡ case_count p → (d < c) ⊎ (c ≤ d) → any (reports d h) (e ∷ past)
           ≡ true
-      by-halt d l z (inl x) = or-right (reports d h e) (any (reports d h) past) (judged d x)
+      by-halt d l z (inl x) = or_right (reports d h e) (any (reports d h) past) (judged d x)
       by-halt d l z (inr x) =
           let s : c ≡ d = omega arith in
           subst (λ (k : ℕ). any (reports k h) (e ∷ past) ≡ true) s
-          (ap (λ (b : Bool). b || any (reports c h) past) (ap (writes_in (verdict_at c h) 8) is ∙ cell-covers c h))
+          (ap (λ (b : Bool). b || any (reports c h) past) (ap (writes_in (verdict_at c h) 8) is
+          ∙ writes-itself (verdict_at c h) 0))
 
       not-read : (a : ℕ) → reads_in a 8 e.access ≡ false
       not-read a = ap (reads_in a 8) is
@@ -207,7 +189,7 @@ module _ (p : Program) (formed : Formed p) (fit : MasksFit p.cases p.masks) (h :
 
       all-more : (o : Option ℕ) → IfSome o (λ d. Gathered p h (e ∷ now_in exit past))
       all-more None = tt
-      all-more (Some d) = λ k x l. or-right (reads_in (slice_index_or (owned p.cases h) k x) 8 e.access)
+      all-more (Some d) = λ k x l. or_right (reads_in (slice_index_or (owned p.cases h) k x) 8 e.access)
           (any (λ (t : Entry). reads_in (slice_index_or (owned p.cases h) k x) 8 t.access) (now_in exit past))
           (gathered k x l)
 

@@ -3,7 +3,7 @@ use Rattle.std.proofs.Common.{◌≡◌, ◌≢◌, ◌⊎◌, inl, inr, ℕ, �
 use Rattle.std.proofs.Common.{◌==◌, eq-eqb, ne_eqb, List, [], ◌∷◌, ◌++◌, Option, None, Some, refl, sym, ap, ap₂, ◌∙◌}
 use Rattle.std.proofs.Common.{subst, arith, append-nil}
 use Rattle.std.specs.Prelude.{IsTrue, if◌then◌else◌}
-use Rattle.std.proofs.lemmas.Bool.{cases_lt}
+use Rattle.std.proofs.lemmas.Bool.{cases_lt, or_right}
 use Rattle.tm_plan_cases.specs.declared.program.Program.{Program}
 use Rattle.tm_plan_map.specs.Map.{private_at, private_size, save_at}
 use Rattle.tm_base.specs.Lists.{any}
@@ -14,11 +14,11 @@ use Rattle.tm_world.specs.Run.{got}
 use Rattle.tm_world.specs.Marks.{Mark, End, arrivals, whole_way}
 use Rattle.tm_world.specs.Course.{round_before}
 use Rattle.tm_world.specs.Verdict.{saved}
+use Rattle.tm_world.proofs.Options.{or_else-none}
 use Rattle.tm_runs.specs.Machine.{World, State, Entry, Table, Strays, get}
 use Rattle.tm_runs.specs.World.{world_of, is_fixed_dword, is_private_dword}
 use Rattle.tm_runs.specs.Course.{trail, Story}
 use Rattle.tm_runs.proofs.Arrivals.{inside-true, inside-false}
-use Rattle.tm_runs.proofs.Places.{or-right}
 use Rattle.tm_runs.proofs.Worlds.{private-dword}
 use Rattle.tm_runs.proofs.Compose.{keeps_map, keeps_stream}
 use Rattle.tm_legal.specs.Tame.{Formed}
@@ -29,7 +29,7 @@ use Rattle.tm_pass_way.specs.Parts.{Hold, Stayed, Leads}
 use Rattle.tm_pass_way.specs.Calm.{StreamClear}
 use Rattle.tm_pass_way.proofs.Calm.{phase-stays, now-stays}
 use Rattle.tm_pass_way.proofs.Stream.{held-bounds, Strolls, strolls, stroll-fact, mark-in, mark-end, work-same}
-use Rattle.tm_pass_way.proofs.Stream.{no-exit, not-flag, not-reports, or-none}
+use Rattle.tm_pass_way.proofs.Stream.{no-exit, not-flag, not-reports}
 
 module _ (p : Program) (formed : Formed p) (fit : MasksFit p.cases p.masks) (h : ℕ) (number : h < harts p) (limit : ℕ
     → ℕ) (c : ℕ) (here : c < case_count p) (clear : StreamClear p h c) (q d o : ℕ) (ms : List Mark)
@@ -121,11 +121,12 @@ module _ (p : Program) (formed : Formed p) (fit : MasksFit p.cases p.masks) (h :
             (ap (any (signals_in h)) (now-stays p formed fit h number t.log r.entry
             (no-exit p formed fit h number limit c here clear r.entry walk).0) ∙ ap₂ (λ (x y : Bool). x || y)
             (not-flag p formed fit h number limit c here clear r.entry.access walk.access) a.silent);
-        judged = λ e l. ap (any (reports e h)) r.log ∙ or-right (reports e h r.entry) (any (reports e h) t.log)
+        judged = λ e l. ap (any (reports e h)) r.log ∙ or_right (reports e h r.entry) (any (reports e h) t.log)
             (a.judged e l);
         unjudged = λ e l m. ap (any (reports e h)) r.log ∙ ap₂ (λ (x y : Bool). x || y)
             (not-reports p formed fit h number limit c here clear e h r.entry m number walk) (a.unjudged e l m);
-        work = λ j. ap (work_in p h j) r.log ∙ (work-same p formed fit h number limit c here clear j t.log r.entry walk ∙
+        work = λ j. ap (work_in p h j) r.log
+            ∙ (work-same p formed fit h number limit c here clear j t.log r.entry walk ∙
             a.work j);
         told = record {
           order = front;
@@ -139,10 +140,10 @@ module _ (p : Program) (formed : Formed p) (fit : MasksFit p.cases p.masks) (h :
               (a.told.pace j);
         };
         others = λ e j l n. left-as e j false (inside p h e r.entry.pc && not (inside p h e r.entry.next))
-            (other-phase j n) refl ∙ (or-none (left_in p h e j t.log) ∙ a.others e j l n);
+            (other-phase j n) refl ∙ (or_else-none (left_in p h e j t.log) ∙ a.others e j l n);
         read = λ j b n. ap (read_in p h j b) r.log ∙
             (ap (λ (x : Bool). or_else (read_in p h j b t.log) (if x then got r.entry.access b else None))
-            (other-phase j n) ∙ (or-none (read_in p h j b t.log) ∙ a.read j b n));
+            (other-phase j n) ∙ (or_else-none (read_in p h j b t.log) ∙ a.read j b n));
       }
 
       here-phase : (phase_in exit t.log == q) ≡ true
@@ -162,7 +163,7 @@ module _ (p : Program) (formed : Formed p) (fit : MasksFit p.cases p.masks) (h :
             left = left-as c q true false here-phase
                 (ap₂ (λ (m n : Bool). m && not n) from-in
                 (inside-true p h c r.entry.next walk.least (omega (arith, r.next)))) ∙
-                (or-none (left_in p h c q t.log) ∙ g.left);
+                (or_else-none (left_in p h c q t.log) ∙ g.left);
           })
           by (inr x) =
               let e : r.entry.next ≡ hi = omega (arith, r.next, r.most) in
@@ -178,7 +179,8 @@ module _ (p : Program) (formed : Formed p) (fit : MasksFit p.cases p.masks) (h :
                     (no-exit p formed fit h number limit c here clear r.entry walk).0) ∙ ap (λ (b : Bool). b
                     || any (λ (f : Entry). f.next == hi) (now_in exit t.log)) (eq-eqb r.entry.next hi e));
                 left = left-as c q true true here-phase
-                    (ap₂ (λ (m n : Bool). m && not n) from-in (inside-false p h c r.entry.next (inr (omega arith)))) ∙ ap
+                    (ap₂ (λ (m n : Bool). m && not n) from-in (inside-false p h c r.entry.next (inr (omega arith))))
+                    ∙ ap
                     (λ (x : Option Table). or_else x (Some r.entry.regs)) g.left;
               })
 
@@ -198,7 +200,8 @@ module _ (p : Program) (formed : Formed p) (fit : MasksFit p.cases p.masks) (h :
     unfolding private_size save_at
     stay hold told =
         keeps_map (λ t g. g) (λ t g. at-end t g.0 g.1)
-        (keeps_stream w (λ t. Told p h limit t.log) On lo hi (held-bounds p formed fit h number limit c here clear) step s
+        (keeps_stream w (λ t. Told p h limit t.log) On lo hi
+        (held-bounds p formed fit h number limit c here clear) step s
         (record {
           in' = record {
             base = hold.base;
@@ -232,7 +235,7 @@ module _ (p : Program) (formed : Formed p) (fit : MasksFit p.cases p.masks) (h :
                 base = i.base;
                 exits = i.own (private_at h + 256) (own-dword (private_at h + 256) (omega arith) (omega arith)) ∙
                     hold.exits;
-                fixed = λ x y. i.own x (or-right (is_private_dword h x) (is_fixed_dword p x) y) ∙ hold.fixed x y;
+                fixed = λ x y. i.own x (or_right (is_private_dword h x) (is_fixed_dword p x) y) ∙ hold.fixed x y;
                 regs = i.regs;
                 mem = λ x y. subst (λ (n : ℕ). n < 2 ^ 64) (sym (i.own x y)) (hold.mem x y);
                 phase = i.phase;

@@ -3,6 +3,7 @@
 use Rattle.std.proofs.Common.{◌≡◌, ◌≢◌, ℕ, suc, ◌<◌, ◌≤◌, Bool, true, false, ◌||◌, ◌==◌, eqb-true, eq-eqb, ne_eqb}
 use Rattle.std.proofs.Common.{List, [], ◌∷◌, ◌++◌, refl, sym, ap, ap₂, ◌∙◌, subst, arith, append-nil}
 use Rattle.std.specs.Prelude.{if◌then◌else◌}
+use Rattle.std.proofs.lemmas.Bool.{or_right}
 use Rattle.tm_plan_cases.specs.declared.program.Program.{Program}
 use Rattle.tm_base.specs.Lists.{any}
 use Rattle.tm_plan_cases.specs.Shaped.{MasksFit}
@@ -12,7 +13,6 @@ use Rattle.tm_world.specs.Kinds.{stream_at}
 use Rattle.tm_world.specs.Marks.{Mark, arrivals, whole_way}
 use Rattle.tm_runs.specs.Machine.{Entry}
 use Rattle.tm_runs.specs.Course.{trail}
-use Rattle.tm_runs.proofs.Places.{or-right}
 use Rattle.tm_legal.specs.Tame.{Formed}
 use Rattle.tm_stays.specs.Stays.{one_outside}
 use Rattle.tm_pass_way.specs.Logs.{reports, work_in}
@@ -57,7 +57,7 @@ module _ (p : Program) (formed : Formed p) (fit : MasksFit p.cases p.masks) (h :
         way = way;
         silent = ap (any (signals_in h)) (now-stays p formed fit h number past e from) ∙ ap₂ (λ (x y : Bool). x || y)
             still a.silent;
-        judged = λ d m. or-right (reports d h e) (any (reports d h) past) (a.judged d m);
+        judged = λ d m. or_right (reports d h e) (any (reports d h) past) (a.judged d m);
         unjudged = λ d m n. ap₂ (λ (x y : Bool). x || y) (none d n) (a.unjudged d m n);
         few = w.0;
         told = record {
@@ -122,7 +122,7 @@ module _ (p : Program) (formed : Formed p) (fit : MasksFit p.cases p.masks) (h :
           phase = more ∙ ap suc phase;
           way = same ∙ way;
           silent = ap (any (signals_in h)) now;
-          judged = λ d m. or-right (reports d h e) (any (reports d h) past) (judged d m);
+          judged = λ d m. or_right (reports d h e) (any (reports d h) past) (judged d m);
           unjudged = λ d m n. ap₂ (λ (x y : Bool). x || y) (none d n) (unjudged d m n);
           few = let z : work_in p h (suc q) (e ∷ past) ≡ 0 =
               subst (λ (r : ℕ). work_in p h (suc r) (e ∷ past) ≡ 0) phase work in omega arith;

@@ -1,62 +1,37 @@
 -- A stay in a stream tells what it should.
-use Rattle.std.proofs.Common.{◌≡◌, ◌≢◌, ◌⊎◌, inl, inr, ℕ, zero, suc, ◌+◌, ◌<◌, ◌≤◌, Bool, true, false, true≢false}
-use Rattle.std.proofs.Common.{◌&&◌, not, ◌==◌, eqb-true, List, [], ◌∷◌, length, Option, None, Some, refl, sym, ap}
+use Rattle.std.proofs.Common.{◌≡◌, ◌≢◌, ◌⊎◌, inl, inr, ℕ, ◌+◌, ◌<◌, ◌≤◌, Bool, true, false, true≢false}
+use Rattle.std.proofs.Common.{not, ◌==◌, eqb-true, List, [], ◌∷◌, Option, None, Some, refl, sym, ap}
 use Rattle.std.proofs.Common.{◌∙◌, subst, arith}
-use Rattle.std.specs.Prelude.{slice_get, IsTrue, IfSome, if◌then◌else◌}
-use Rattle.std.proofs.lemmas.Bool.{cases_eq}
+use Rattle.std.specs.Prelude.{IsTrue, IfSome, if◌then◌else◌}
+use Rattle.std.proofs.lemmas.Bool.{cases_eq, and_parts}
 use Rattle.std.proofs.lemmas.Bool.Decides.{nat_tests}
+use Rattle.std.proofs.lemmas.Option.{slice_get_within}
 use Rattle.tm_table.specs.declared.state.Access.{Access}
 use Rattle.tm_table.specs.declared.state.Access.TheVariants.{Quiet, Read, Write}
 use Rattle.tm_plan_cases.specs.declared.program.Program.{Program}
-use Rattle.tm_plan_map.specs.Map.{verdict_at, flag_at, private_at, private_size, windows_base, windows_size}
+use Rattle.tm_plan_map.specs.Map.{verdict_at, flag_at, windows_base, windows_size}
 use Rattle.tm_base.specs.Lists.{any}
+use Rattle.tm_base.proofs.ListLemmas.{no}
 use Rattle.tm_plan_cases.specs.Shaped.{MasksFit}
-use Rattle.tm_world.specs.Lists.{or_else}
 use Rattle.tm_world.specs.Place.{harts, case_count, start_of, end_of, exit_of, halt_of, inside, is_window}
 use Rattle.tm_world.specs.Kinds.{stream_at, writes_flag}
 use Rattle.tm_world.specs.Marks.{Enter, End, comes_to, arrivals}
 use Rattle.tm_world.specs.Course.{writes_in, round_before}
+use Rattle.tm_world.proofs.Streams.{case-of}
+use Rattle.tm_world.proofs.Accesses.{writes-itself}
 use Rattle.tm_runs.specs.Machine.{World, State, Entry, Strays, StreamAccess}
 use Rattle.tm_runs.specs.World.{world_of, bounds, bounds_at}
 use Rattle.tm_runs.proofs.Arrivals.{Quiet as Unmarked, quiet-off, quiet-in, ends, arrivals-none, arrivals-end}
 use Rattle.tm_runs.proofs.Arrivals.{stream-some, inside-true, inside-false}
-use Rattle.tm_runs.proofs.Places.{within-parts}
+use Rattle.tm_plan_map.proofs.Within.{within-parts}
 use Rattle.tm_legal.proofs.Formed.{formed-sizes}
 use Rattle.tm_legal.specs.Tame.{Formed}
-use Rattle.tm_legal.proofs.Streams.{case-of}
 use Rattle.tm_stays.specs.Stays.{one_outside}
 use Rattle.tm_pass_way.specs.Logs.{work_in}
 use Rattle.tm_runs.specs.Phases.{phase_in, now_in, signals_in, lately_at}
 use Rattle.tm_pass_way.specs.Facts.{Fact, Gathering}
 use Rattle.tm_pass_way.specs.Calm.{StreamClear}
-use Rattle.tm_pass_way.proofs.Calm.{verdict-low, flag-low}
-
-get-short : {A : Type 0} (xs : List A) (k : ℕ) (x : A) → slice_get xs k ≡ Some x → k < length xs
-get-short [] k x e = cc
-get-short (y ∷ xs) zero x e = omega arith
-get-short (y ∷ xs) (suc k) x e = let l = get-short xs k x e in omega arith
-
-and-left : (a b : Bool) → (a && b) ≡ true → a ≡ true
-and-left true b e = refl
-and-left false b e = absurd (true≢false (sym e))
-
-and-right : (a b : Bool) → (a && b) ≡ true → b ≡ true
-and-right true b e = e
-and-right false b e = absurd (true≢false (sym e))
-
-no : {A : Type 0} {b : Bool} → b ≡ false → b ≡ true → A
-no e f = absurd (true≢false (sym f ∙ e))
-
-pub or-none : {A : Type 0} (o : Option A) → or_else o None ≡ o
-or-none None = refl
-or-none (Some x) = refl
-
-covers : (a v : ℕ) → writes_in a 8 (Write a 8 v) ≡ true
-covers a v = grind (arith, nat_tests)
-
-pub private-below : (h : ℕ) → h < 16 → private_at h + private_size ≤ windows_base
-unfolding private_at private_size windows_base
-private-below h m = omega arith
+use Rattle.tm_pass_way.proofs.Calm.{verdict-low, flag-low, private-below}
 
 -- a stream writes windows alone
 window-above : (b : ℕ) → is_window b ≡ true → windows_base ≤ b
@@ -152,7 +127,7 @@ module _ (p : Program) (formed : Formed p) (fit : MasksFit p.cases p.masks) (h :
   no-enter d e l s z = by (cases_eq d c)
     where
       at : e.next ≡ start_of p h d
-      at = eqb-true e.next (start_of p h d) (and-left (e.next == start_of p h d) (not (inside p h d e.pc)) z)
+      at = eqb-true e.next (start_of p h d) ((and_parts (e.next == start_of p h d) (not (inside p h d e.pc)) z).0)
 
       off : (hi < start_of p h d) ⊎ (end_of p h d < lo) → ⊥
       off (inl x) = omega (arith, at, s.most)
@@ -162,18 +137,18 @@ module _ (p : Program) (formed : Formed p) (fit : MasksFit p.cases p.masks) (h :
       by (inl x) =
           let i : inside p h d e.pc ≡ true = subst (λ (k : ℕ). inside p h k e.pc
           ≡ true) (sym x) (inside-true p h c e.pc s.from s.below) in
-          true≢false (sym (and-right (e.next == start_of p h d) (not (inside p h d e.pc)) z) ∙ ap not i)
+          true≢false (sym ((and_parts (e.next == start_of p h d) (not (inside p h d e.pc)) z).1) ∙ ap not i)
       by (inr x) = off (clear.others d l x)
 
   pub stroll-fact : (past : List Entry) (e : Entry) → Strolls e → any (signals_in h) (now_in exit past) ≡ false
       → round_before p (phase_in exit past) ≡ None → Fact p h past e
   stroll-fact past e s silent odd = record {
     fresh = λ d stream f g. let r = case-of p.cases d h stream f in
-        absurd (no-enter d e (get-short p.cases.cases d r.0 r.1) s g);
+        absurd (no-enter d e (slice_get_within p.cases.cases d r.0 r.1) s g);
     behind = λ d l g. absurd (no-enter d e l s g);
     verdict = λ d g l m f. no (not-reports d g e l m s) f;
-    exact = λ d m v f g. no (not-reports d h e (let n = get-short p.masks.cases d m f in
-        omega (arith, fit.count)) number s) (ap (writes_in (verdict_at d h) 8) g ∙ covers (verdict_at d h) v);
+    exact = λ d m v f g. no (not-reports d h e (let n = slice_get_within p.masks.cases d m f in
+        omega (arith, fit.count)) number s) (ap (writes_in (verdict_at d h) 8) g ∙ writes-itself (verdict_at d h) v);
     halt = λ z. absurd (no-halt e s z);
     halted = λ z. absurd (no-halt e s z);
     writes = λ z. let f : ◌≡◌ {A = Option ℕ} None (Some c) = sym z ∙ held e.pc s.from s.below in cc;

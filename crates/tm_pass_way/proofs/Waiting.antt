@@ -2,6 +2,7 @@
 use Rattle.std.proofs.Common.{◌≡◌, ◌≢◌, ℕ, zero, suc, ◌+◌, ◌<◌, ◌≤◌, Bool, true, false, true≢false, ◌&&◌, ◌||◌, not}
 use Rattle.std.proofs.Common.{◌==◌, List, [], ◌∷◌, ◌++◌, refl, sym, ap, ap₂, ◌∙◌, arith}
 use Rattle.std.specs.Prelude.{if◌then◌else◌}
+use Rattle.std.proofs.lemmas.Bool.{or_right}
 use Rattle.tm_plan_cases.specs.declared.program.Program.{Program}
 use Rattle.tm_plan_map.specs.Map.{flag_at}
 use Rattle.tm_base.specs.Lists.{any, count_from}
@@ -11,7 +12,6 @@ use Rattle.tm_world.specs.Work.{gets_less}
 use Rattle.tm_runs.specs.Machine.{Entry}
 use Rattle.tm_runs.specs.Runs.{Each}
 use Rattle.tm_runs.specs.Course.{Story}
-use Rattle.tm_runs.proofs.Places.{or-right}
 use Rattle.tm_legal.specs.Tame.{Formed}
 use Rattle.tm_stays.specs.Stays.{one_outside}
 use Rattle.tm_world.specs.Kinds.{stream_at}
@@ -68,7 +68,7 @@ module _ (p : Program) (formed : Formed p) (fit : MasksFit p.cases p.masks) (h :
       (ap (λ (m : ℕ). any (λ g. not (g == h) && gets_less (flag_at g) (m + 1) e.access) (count_from 0 (harts p)))
       (phase-all es each) ∙ t)
 
-  -- what each entry of a barrier keeps of waiting (Keeps-in-step.waits)
+  -- what each entry of a barrier keeps of waiting (KeepsInStep.waits)
   abbrev Waits : List Entry → Entry → Type 0
   Waits before e = test e ≡ true → any (signals_in h) before ≡ true
 
@@ -82,7 +82,7 @@ module _ (p : Program) (formed : Formed p) (fit : MasksFit p.cases p.masks) (h :
           → (lately test k es ≡ true → lately_at p h k (es ++ base) ≡ true) → lately_at p h (suc k) (x ∷ es ++ base)
           ≡ true
       by true t z g = ap (λ (a : Bool). a || lately_at p h k (es ++ base)) (idles-here es x each.1 (story.0 t) t)
-      by false t z g = or-right (idles_at p h (es ++ base) x) (lately_at p h k (es ++ base)) (g z)
+      by false t z g = or_right (idles_at p h (es ++ base) x) (lately_at p h k (es ++ base)) (g z)
 
   -- at most one step more
   one-more : (e : Entry) (log : List Entry) → work_in p h q (e ∷ log) ≤ suc (work_in p h q log)

@@ -1,23 +1,23 @@
 -- What each entry of a hart's log keeps, and what a log tells so far (this project's own). Each field is a part of
 -- the course, or of the verdicts, said of entries.
-use Rattle.std.specs.Prelude.{◌≡◌, ◌≢◌, ℕ, suc, ◌+◌, ◌%◌, ◌/◌, ◌-◌, ◌<◌, ◌≤◌, true, false, ◌==◌, List, [], ◌∷◌}
+use Rattle.std.specs.Prelude.{◌≡◌, ◌≢◌, ℕ, suc, ◌+◌, ◌%◌, ◌/◌, ◌-◌, ◌<◌, ◌≤◌, true, false, List, [], ◌∷◌}
 use Rattle.std.specs.Prelude.{slice_get, slice_index, Option, None, Some, IsTrue, IsFalse, IfSome, All}
 use Rattle.tm_table.specs.declared.state.Access.TheVariants.{Read, Write}
 use Rattle.tm_plan_cases.specs.declared.cases.Case.{Case}
 use Rattle.tm_plan_cases.specs.declared.cases.Stream.{Stream}
 use Rattle.tm_plan_cases.specs.declared.masks.CaseMask.{CaseMask}
 use Rattle.tm_plan_cases.specs.declared.program.Program.{Program}
-use Rattle.tm_plan_map.specs.Map.{flag_at, verdict_at, windows_base}
+use Rattle.tm_plan_map.specs.Map.{verdict_at, windows_base}
 use Rattle.tm_plan_cases.specs.Collected.{is_declared, owned}
 use Rattle.tm_base.specs.Lists.{any}
-use Rattle.tm_world.specs.Lists.{front_to, or_else, IsFront}
-use Rattle.tm_world.specs.Place.{harts, case_count, passes, end_of, exit_of, halt_of, byte_of}
+use Rattle.tm_world.specs.Lists.{or_else, IsFront}
+use Rattle.tm_world.specs.Place.{harts, case_count, passes, exit_of, halt_of, byte_of}
 use Rattle.tm_world.specs.Run.{Writes, written}
 use Rattle.tm_world.specs.Writers.{may_write, case_of_phase}
 use Rattle.tm_plan_cases.specs.Streams.{stream_in}
 use Rattle.tm_world.specs.Kinds.{stream_at}
 use Rattle.tm_world.specs.Marks.{Enter, comes_to, arrivals, whole_way}
-use Rattle.tm_world.specs.Course.{writes_in, reads_in, is_write, gets, IsStill, last_phase, writes_shared, round_before}
+use Rattle.tm_world.specs.Course.{writes_in, reads_in, writes_shared, round_before}
 use Rattle.tm_world.specs.Writers.{run_phase}
 use Rattle.tm_runs.specs.Machine.{Entry}
 use Rattle.tm_runs.specs.Course.{trail, Story}

@@ -1,18 +1,16 @@
 -- What the log of a hart tells (this project's own). It is that of tm_world's words on steps, said of entries.
-use Rattle.std.specs.Prelude.{◌≡◌, ℕ, zero, suc, ◌+◌, ◌*◌, ◌^◌, ◌<◌, Bool, false, ◌&&◌, ◌||◌, not, ◌==◌, List, []}
+use Rattle.std.specs.Prelude.{◌≡◌, ℕ, ◌+◌, ◌*◌, ◌^◌, ◌<◌, Bool, ◌&&◌, not, ◌==◌, List, []}
 use Rattle.std.specs.Prelude.{◌∷◌, Option, None, Some, IsTrue, All, if◌then◌else◌, option_map}
 use Rattle.tm_plan_cases.specs.declared.masks.CaseMask.{CaseMask}
 use Rattle.tm_plan_cases.specs.declared.program.Program.{Program}
-use Rattle.tm_plan_map.specs.Map.{flag_at, verdict_at}
-use Rattle.tm_base.specs.Lists.{any, count_from}
-use Rattle.tm_world.specs.Lists.{count, or_else}
-use Rattle.tm_world.specs.Place.{harts, passes, exit_of, inside}
+use Rattle.tm_plan_map.specs.Map.{verdict_at}
+use Rattle.tm_world.specs.Lists.{or_else}
+use Rattle.tm_world.specs.Place.{passes, exit_of, inside}
 use Rattle.tm_world.specs.Run.{got}
-use Rattle.tm_world.specs.Kinds.{stream_at, writes_flag}
+use Rattle.tm_world.specs.Kinds.{stream_at}
 use Rattle.tm_world.specs.Course.{writes_in}
 use Rattle.tm_world.specs.Verdict.{Part, Register, Byte, parts, saved, is_checked}
 use Rattle.tm_world.specs.Writers.{run_phase}
-use Rattle.tm_world.specs.Work.{gets_less}
 use Rattle.tm_stays.specs.Stays.{one_outside}
 use Rattle.tm_runs.specs.Machine.{Entry, Table}
 use Rattle.tm_runs.specs.Phases.{phase_in, lately_at}

@@ -1,31 +1,12 @@
--- The limits of work that the costs of the parts make up (this project's own). `Pace` and `KeepsPace` stand in
--- tm_meet's specs.
-use Rattle.std.specs.Prelude.{◌≡◌, ℕ, ◌+◌, ◌*◌, ◌/◌, ◌%◌, ◌<◌, ◌≤◌, ◌==◌, List, if◌then◌else◌}
+-- The limits of work that the costs of the parts make up (this project's own).
+use Rattle.std.specs.Prelude.{ℕ, ◌+◌, ◌*◌, ◌/◌, ◌%◌, ◌≤◌, ◌==◌, List, if◌then◌else◌}
 use Rattle.tm_table.specs.State.{Hart}
 use Rattle.tm_plan_cases.specs.declared.program.Program.{Program}
 use Rattle.tm_world.specs.Place.{case_count, passes}
 use Rattle.tm_world.specs.Run.{Step}
-use Rattle.tm_world.specs.Writers.{run_phase}
-use Rattle.tm_pass_way.specs.Meets.{phase_work}
+use Rattle.tm_stays.specs.Pace.{phase_work}
 use Rattle.tm_pass_way.specs.Parts.{Costs, Rooms}
-
--- At most so much work outside streams: to set up a pass, to run it, to end it, and to compare the passes of a case.
-pub record Pace : Type 0 where
-  pub sets : ℕ
-  pub runs : ℕ
-  pub ends : ℕ
-  pub compares : ℕ
-
--- The hart works no more than that in each phase.
-pub record KeepsPace (p : Program) (h : ℕ) (pace : Pace) (first : Hart) (own : List Step) : Type 0 where
-  pub begin : phase_work p h first 0 own ≤ 64 + pace.sets
-  pub run : (c k : ℕ) → c < case_count p → k < passes p → phase_work p h first (run_phase p c k) own ≤ pace.runs
-  pub between : (c k : ℕ) → c < case_count p → k + 1 < passes p
-      → phase_work p h first (run_phase p c k + 1) own ≤ pace.ends + pace.sets
-  pub next : (c k : ℕ) → c + 1 < case_count p → k + 1 ≡ passes p
-      → phase_work p h first (run_phase p c k + 1) own ≤ pace.ends + pace.compares + pace.sets
-  pub last : (c k : ℕ) → c + 1 ≡ case_count p → k + 1 ≡ passes p
-      → phase_work p h first (run_phase p c k + 1) own ≤ pace.ends + pace.compares
+use Rattle.tm_stays.specs.Pace.{phase_work, Pace, KeepsPace}
 
 -- what the parts of one pass cost
 abbrev pub pace_of : Costs → Pace

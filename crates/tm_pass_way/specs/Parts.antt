@@ -26,7 +26,7 @@ use Rattle.tm_world.specs.Marks.{Mark, Exit, Enter, End, Halt, pass_way, arrival
 use Rattle.tm_world.specs.Verdict.{Register, Byte, saved, is_checked}
 use Rattle.tm_world.specs.Writers.{run_phase}
 use Rattle.tm_runs.specs.Machine.{State, Entry, Table, get}
-use Rattle.tm_runs.specs.Runs.{Keeps}
+use Rattle.tm_runs.specs.Runs.{KeepsUntil}
 use Rattle.tm_runs.specs.World.{world_of, is_fixed_dword, image_dword}
 use Rattle.tm_runs.specs.Course.{trail}
 use Rattle.tm_pass_way.specs.Logs.{left_in, read_in, reports, work_in}
@@ -203,7 +203,7 @@ pub data IsFound (p : Program) (m : CaseMask) (h : ℕ) (mem : Table) : ℕ → 
 
 -- from a state with P, each run's log tells what it should until it comes to one with Q
 abbrev pub Leads : Program → ℕ → (ℕ → ℕ) → State → (State → Type 0) → Type 0
-Leads p h limit s Q = Keeps (world_of p h) (λ t. Told p h limit t.log) Q s
+Leads p h limit s Q = KeepsUntil (world_of p h) (λ t. Told p h limit t.log) Q s
 
 -- the state in which a hart begins
 pub record Opens (p : Program) (h : ℕ) (s : State) : Type 0 where

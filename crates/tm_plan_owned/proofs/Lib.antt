@@ -2,3 +2,4 @@ pub mod Strides
 pub mod Windows
 pub mod Reach
 pub mod Places
+pub mod Collected

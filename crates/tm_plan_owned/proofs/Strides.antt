@@ -2,7 +2,7 @@
 use Rattle.std.proofs.Common.{◌≡◌, ◌≢◌, ℕ, zero, suc, ◌+◌, ◌-◌, ◌*◌, ◌/◌, ◌<◌, ◌≤◌, List, [], ◌∷◌, ◌++◌, map, Bool}
 use Rattle.std.proofs.Common.{true, false, ◌||◌, ◌==◌, ◌⊎◌, inl, inr, refl, sym, ap, ap₂, ◌∙◌, subst, arith, eqb-true}
 use Rattle.std.specs.Prelude.{filter, cond, if◌then◌else◌, All, AllPairs}
-use Rattle.std.proofs.lemmas.Bool.{cases_lt, eqb-false}
+use Rattle.std.proofs.lemmas.Bool.{cases_lt, eqb-false, or_right}
 use Rattle.std.proofs.lemmas.List.Elements.{filter-append}
 use Rattle.std.proofs.Math.Nat.{mul-le-mul_left, div-eq_of_lt, add-div_right}
 use Rattle.tm_plan_map.specs.declared.windows.Window.{Window}
@@ -10,7 +10,7 @@ use Rattle.tm_plan_map.specs.Map.{windows_base, window_at}
 use Rattle.tm_plan_cases.specs.Shaped.{IsShapedWindow}
 use Rattle.tm_plan_cases.specs.Collected.{declares}
 use Rattle.tm_base.specs.Lists.{count_from, any}
-use Rattle.tm_runs.proofs.Bytes.{within-true, within-false}
+use Rattle.tm_plan_map.proofs.Within.{within-true, within-false}
 use Rattle.tm_plan_owned.specs.Lines.{lines_of, line_dwords, lines_dwords}
 
 -- ---- every N-th line
@@ -160,10 +160,6 @@ differ (w ∷ ws) h = (
   differ ws (λ i j d x y. h (suc i) (suc j) d (omega arith) (omega arith)),
 )
 
-or-true : (a b : Bool) → b ≡ true → (a || b) ≡ true
-or-true true b e = refl
-or-true false b e = e
-
 -- Byte r of line j of window v, of which a byte's place is told.
 module _ (line v j r a : ℕ) (low : v < 3) (small : r < line) (within_window : line * j + r < 2048) (at : a
     ≡ windows_base + (2048 * v + (line * j + r))) where
@@ -200,7 +196,7 @@ module _ (line v j r a : ℕ) (low : v < 3) (small : r < line) (within_window : 
           → (j < lines_of v ws → any (declares line a) ws ≡ true) → (declares line a w || any (declares line a) ws)
           ≡ true
       by true e k f = ap (λ (b : Bool). b || any (declares line a) ws) (declares-yes w (eqb-true w.number v e) k)
-      by false e k f = or-true (declares line a w) _ (f k)
+      by false e k f = or_right (declares line a w) _ (f k)
 
   none-declares : (ws : List Window) → EachWindow (IsShapedWindow line) ws → (u : ℕ) → u ≡ v
       → EachWindow (λ w. u ≢ w.number) ws → any (declares line a) ws ≡ false

@@ -10,7 +10,7 @@ use Rattle.std.proofs.lemmas.Bool.{not-true, false≢true, true≢false, false_f
 use Rattle.std.proofs.lemmas.Nat.Bits.{shr_and_one}
 use Rattle.tm_plan_map.specs.Map.{windows_base, windows_size, within}
 use Rattle.tm_base.specs.Lists.{any, count_from}
-use Rattle.tm_plan_cases.proofs.Within.{within-parts, within-true}
+use Rattle.tm_plan_map.proofs.Within.{within-parts, within-true}
 use Rattle.tm_plane.proofs.WordLemmas.{bit-none, bit-and, bit-or}
 use Rattle.tm_plane.specs.Plane.{Bit, in_plane, IsNear, Spans, Overwritten}
 use Rattle.tm_plane.specs.declared.planes.TheConstants.{PLANE_WORDS}
@@ -240,16 +240,6 @@ has-told plane addr base same low =
     == 1)) (le-leb windows_base addr low)))
 
 -- ---- planes made element by element
-
--- one element more
-pub more : (P : ℕ → ℕ → Type 0) (out : List ℕ) (e v : ℕ) → e < length out → ((k : ℕ) → k < e → P k (slice_index out k))
-    → P e v
-    → (k : ℕ) → k < e + 1 → P k (slice_index (set out e v) k)
-more P out e v room f p k l = elim (cases_eq k e) [
-  | inl s ↦ subst (λ (i : ℕ). P i (slice_index (set out e v) i)) (sym s)
-      (subst (P e) (sym (get_or-set_same out e v 0 room)) p)
-  | inr n ↦ subst (P k) (sym (get_or-set_other out e k v 0 n)) (f k (omega arith))
-]
 
 below-or-past : (k : ℕ) → (k < PLANE_WORDS) ⊎ (PLANE_WORDS ≤ k)
 below-or-past k = grind arith

@@ -23,9 +23,9 @@ use Rattle.tm_world.specs.Slots.{another_may_store}
 use Rattle.tm_world.specs.Checked.{IsCheckedByte}
 use Rattle.tm_world.specs.Verdict.{Part, Register, Byte, end_value, is_checked, left_with}
 use Rattle.tm_world.specs.Writers.{run_phase}
-use Rattle.tm_runs.proofs.Places.{within-parts}
+use Rattle.tm_world.proofs.Streams.{case-of, stream-of}
+use Rattle.tm_plan_map.proofs.Within.{within-parts}
 use Rattle.tm_legal.specs.Tame.{Formed}
-use Rattle.tm_legal.proofs.Streams.{stream-of, case-of}
 use Rattle.tm_legal.proofs.Order.{none-holds, one-holds}
 use Rattle.tm_quiet.specs.Laws.{IsCompared, Tracked, PassesAgree}
 use Rattle.tm_quiet.proofs.Lists.{any-each, range-in}

@@ -18,9 +18,9 @@ use Rattle.tm_world.specs.Kinds.{Legal, phase_of, legal_owed, another, flag_writ
 use Rattle.tm_world.specs.Course.{KeepsCollecting}
 use Rattle.tm_world.specs.Whole.{Course, first_byte}
 use Rattle.tm_world.proofs.Prefix.{earlier, Legal-earlier}
+use Rattle.tm_world.proofs.Streams.{stream-of}
 use Rattle.tm_legal.specs.Tame.{Formed}
 use Rattle.tm_legal.proofs.Own.{own-here, own-there}
-use Rattle.tm_legal.proofs.Streams.{stream-of}
 use Rattle.tm_quiet.proofs.Slots.{is_calm}
 use Rattle.tm_quiet.proofs.Settled.{Ready, ready-more, settled-kept}
 use Rattle.tm_quiet.proofs.Legal.{barriers, holds-on}

@@ -15,13 +15,13 @@ use Rattle.tm_world.specs.Lists.{or_else}
 use Rattle.tm_world.specs.Place.{case_count, passes, exit_of, byte_of}
 use Rattle.tm_world.specs.Run.{Step, access_of, phase, in_phase, written, last_write, got, earliest, Reads}
 use Rattle.tm_world.specs.Course.{KeepsCollecting, Collects, round_before, writes_in, reads_in, writes_shared}
-use Rattle.tm_runs.proofs.Places.{within-parts}
-use Rattle.tm_runs.proofs.Bytes.{within-true}
+use Rattle.tm_world.proofs.Options.{or_else-neither}
+use Rattle.tm_plan_map.proofs.Within.{within-parts}
+use Rattle.tm_plan_map.proofs.Within.{within-true}
 use Rattle.tm_legal.specs.Tame.{Formed}
 use Rattle.tm_legal.proofs.Phases.{in_phase-here, in_phase-there}
 use Rattle.tm_legal.proofs.Streams.{any-one}
 use Rattle.tm_stays.proofs.Dwords.{lies, dword_of, dword-place, of-owned}
-use Rattle.tm_stays.proofs.Options.{or-none}
 use Rattle.tm_quiet.proofs.Halves.{runs}
 use Rattle.tm_meet.proofs.Dwords.{dword-collector}
 
@@ -75,7 +75,7 @@ module _ (p : Program) (formed : Formed p) (g : ℕ) (first : Hart) (c b : ℕ) 
       → any (λ t. reads_in (dword_of b) 8 (access_of t)) (in_phase (exit_of p g) n steps) ≡ false
   unread [] k unmet = refl
   unread (s ∷ past) k unmet =
-      let parts = or-none (earliest (reading p g b n) past) (reading p g b n past s) unmet in
+      let parts = or_else-neither (earliest (reading p g b n) past) (reading p g b n past s) unmet in
       let later = unread past k.1 parts.0 in
       let test = λ (t : Step). reads_in (dword_of b) 8 (access_of t) in
       elim (cases_eq (phase (exit_of p g) past) n) [
@@ -120,7 +120,7 @@ module _ (p : Program) (formed : Formed p) (g : ℕ) (first : Hart) (c b : ℕ) 
       → last_write b (in_phase (exit_of p g) n steps) ≡ None
   unread-unwritten [] k unmet = refl
   unread-unwritten (s ∷ past) k unmet =
-      let parts = or-none (earliest (reading p g b n) past) (reading p g b n past s) unmet in
+      let parts = or_else-neither (earliest (reading p g b n) past) (reading p g b n past s) unmet in
       let later = unread-unwritten past k.1 parts.0 in
       elim (cases_eq (phase (exit_of p g) past) n) [
         | inl e ↦ ap (last_write b) (in_phase-here (exit_of p g) n s past e) ∙

@@ -1,4 +1,3 @@
-pub mod Trails
 pub mod Walks
 pub mod Lists
 pub mod Slots

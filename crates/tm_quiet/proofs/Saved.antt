@@ -12,8 +12,8 @@ use Rattle.tm_plan_cases.specs.Collected.{is_declared, collector, window_dwords,
 use Rattle.tm_base.specs.Lists.{count_from}
 use Rattle.tm_plan_cases.specs.Shaped.{AreShaped}
 use Rattle.tm_world.specs.Verdict.{Part, Register, Byte, saved, parts}
-use Rattle.tm_runs.proofs.Places.{within-parts}
-use Rattle.tm_runs.proofs.Bytes.{within-true}
+use Rattle.tm_plan_map.proofs.Within.{within-parts}
+use Rattle.tm_plan_map.proofs.Within.{within-true}
 use Rattle.tm_legal.proofs.Streams.{window-declared}
 use Rattle.tm_stays.proofs.Dwords.{lies}
 use Rattle.tm_quiet.specs.Laws.{IsCompared}

@@ -3,6 +3,7 @@ use Rattle.std.proofs.Common.{◌≡◌, ℕ, ◌<◌, List, [], ◌∷◌, Opti
 use Rattle.std.specs.Prelude.{IsTrue, All, slice_get}
 use Rattle.std.specs.List.{AllByRecursion as Each}
 use Rattle.std.proofs.lemmas.List.Elements.{All-from_recursion, recursion_from_All}
+use Rattle.tm_base.proofs.ListLemmas.{none-past}
 use Rattle.tm_table.specs.declared.state.Access.TheVariants.{Write}
 use Rattle.tm_table.specs.State.{Hart}
 use Rattle.tm_plan_cases.specs.declared.program.Program.{Program}
@@ -17,7 +18,6 @@ use Rattle.tm_world.specs.Verdict.{WritesExactly}
 use Rattle.tm_world.specs.Reported.{NotReported}
 use Rattle.tm_world.proofs.Prefix.{earlier, Legal-earlier}
 use Rattle.tm_legal.proofs.Own.{own-here}
-use Rattle.tm_legal.proofs.Streams.{none-past}
 use Rattle.tm_world.specs.Verdict.{HasEnds}
 use Rattle.tm_quiet.specs.Laws.{IsCompared, Tracked, Silent}
 use Rattle.tm_quiet.proofs.Legal.{holds-on}

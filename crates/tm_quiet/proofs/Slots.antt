@@ -16,9 +16,9 @@ use Rattle.tm_world.specs.Writers.{may_store}
 use Rattle.tm_plan_cases.specs.Streams.{stream_in}
 use Rattle.tm_world.specs.Slots.{named, another_may_store, is_own_byte, load_bytes, store_bytes, slot_of}
 use Rattle.tm_world.specs.Slots.{slot_or_none, word_slot, words_slots, slots_in}
-use Rattle.tm_runs.proofs.Places.{within-parts}
-use Rattle.tm_runs.proofs.Bytes.{within-true}
-use Rattle.tm_legal.proofs.Streams.{shaped-stream}
+use Rattle.tm_world.proofs.Streams.{shaped-stream}
+use Rattle.tm_plan_map.proofs.Within.{within-parts}
+use Rattle.tm_plan_map.proofs.Within.{within-true}
 use Rattle.tm_stays.proofs.Dwords.{lies}
 use Rattle.tm_quiet.specs.Walks.{IsForward}
 use Rattle.tm_quiet.proofs.Lists.{cons-cases, first-in, none-in, range-to, range-in, those-to, those-from, any-each}

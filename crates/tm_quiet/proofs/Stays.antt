@@ -11,7 +11,6 @@ use Rattle.tm_plan_cases.specs.declared.program.Program.{Program}
 use Rattle.tm_plan_cases.specs.declared.cases.Case.{Case}
 use Rattle.tm_plan_cases.specs.declared.cases.Stream.{Stream}
 use Rattle.tm_plan_map.specs.Slots.{instr_of}
-use Rattle.tm_world.specs.Lists.{or_else}
 use Rattle.tm_world.specs.Place.{harts, case_count, start_of, end_of, exit_of, inside}
 use Rattle.tm_world.specs.Run.{Step, now, first_state, pc_of, access_of, phase, in_phase, written, last_write}
 use Rattle.tm_plan_cases.specs.Streams.{stream_in}
@@ -19,6 +18,7 @@ use Rattle.tm_world.specs.Kinds.{IsOpening}
 use Rattle.tm_world.specs.Whole.{first_byte}
 use Rattle.tm_world.specs.Slots.{slots_in}
 use Rattle.tm_world.specs.Trails.{RaceDependent}
+use Rattle.tm_world.proofs.Options.{unwrap_or-or_else}
 use Rattle.tm_runs.proofs.Places.{word-place}
 use Rattle.tm_runs.proofs.Rows.{word-reach}
 use Rattle.tm_legal.specs.Tame.{Formed}
@@ -51,10 +51,6 @@ joint-byte test reg byte r l t = ap₂ (λ (a b : Bool). if a then reg r else (i
 
 joint-other : (test : ℕ → Bool) (reg byte : ℕ → ℕ) (r : ℕ) → 32 ≤ r → test r ≡ false → joint test reg byte r ≡ 0
 joint-other test reg byte r l t = ap₂ (λ (a b : Bool). if a then reg r else (if b then byte r else 0)) (le-ltb r 32 l) t
-
-unwrap-twice : (w o : Option ℕ) (d : ℕ) → unwrap_or (or_else w o) d ≡ unwrap_or w (unwrap_or o d)
-unwrap-twice None o d = refl
-unwrap-twice (Some v) o d = refl
 
 module _ (p : Program) (formed : Formed p) (h : ℕ) (number : h < harts p) (c : ℕ) (case : Case)
     (at : slice_get p.cases.cases c ≡ Some case) (stream : Stream) (is : stream_in p.cases c h
@@ -105,7 +101,8 @@ module _ (p : Program) (formed : Formed p) (h : ℕ) (number : h < harts p) (c :
         (phase-other (exit_of p h) s past stays-phase)
         ∙ (ap (λ (l : List Step). unwrap_or (last_write b l) (first_byte case.first b))
         (in_phase-here (exit_of p h) (phase (exit_of p h) past) s past refl)
-        ∙ unwrap-twice (written (access_of s) b) (last_write b (in_phase (exit_of p h) (phase (exit_of p h) past) past))
+        ∙ unwrap_or-or_else (written (access_of s) b) (last_write b
+        (in_phase (exit_of p h) (phase (exit_of p h) past) past))
         (first_byte case.first b))
 
     high : (b : ℕ) → is_calm p.cases c h b ≡ true → 32 ≤ b

@@ -9,6 +9,7 @@ use Rattle.tm_table.specs.declared.state.Access.TheVariants.{Quiet, Read, Write}
 use Rattle.tm_plan_cases.specs.declared.program.Program.{Program}
 use Rattle.tm_plan_map.specs.Map.{flag_at, verdict_at, private_at, private_size, windows_base, windows_size, within}
 use Rattle.tm_base.specs.Lists.{any, count_from}
+use Rattle.tm_base.proofs.ListLemmas.{any-no-number}
 use Rattle.tm_world.specs.Lists.{or_else}
 use Rattle.tm_world.specs.Place.{harts, case_count, exit_of, is_flag, is_verdict, is_private, byte_of}
 use Rattle.tm_world.specs.Run.{Step, Always, own, first_state, hart_of, pc_of, access_of, phase, in_phase, last_write}
@@ -18,8 +19,7 @@ use Rattle.tm_world.specs.Kinds.{Legal, Path, Met, phase_of, legal_owed, another
 use Rattle.tm_world.specs.Course.{KeepsBarrier, IsStill}
 use Rattle.tm_world.specs.Whole.{Course}
 use Rattle.tm_world.proofs.Prefix.{earlier, Legal-earlier, own-append}
-use Rattle.tm_runs.proofs.Places.{within-parts}
-use Rattle.tm_runs.proofs.Bytes.{within-false}
+use Rattle.tm_plan_map.proofs.Within.{within-parts, within-false}
 use Rattle.tm_legal.specs.Tame.{Formed}
 use Rattle.tm_legal.proofs.Own.{own-here, own-there}
 use Rattle.tm_legal.proofs.Phases.{in_phase-here, in_phase-there}
@@ -29,7 +29,6 @@ use Rattle.tm_memory.proofs.Accesses.{still-writes}
 use Rattle.tm_meet.proofs.Counts.{writes-le}
 use Rattle.tm_quiet.proofs.Legal.{barriers}
 use Rattle.tm_legal.proofs.Areas.{those-one}
-use Rattle.tm_legal.proofs.Areas.{any-none}
 use Rattle.tm_legal.proofs.Formed.{formed-sizes}
 
 -- ---- flags
@@ -44,7 +43,7 @@ flag-alone p formed q g k b l m n e =
     let lo : 0x80C00000 + 128 * g ≤ b = place.0 in
     let hi : b < 0x80C00000 + 128 * g + 8 = place.1 in
     or_from (is_flag k b) _ (within-false (flag_at k) 8 b (side lo hi))
-    (or_from (is_verdict p k b) _ (any-none (λ c. within (verdict_at c k) 8 b) (case_count p) 0
+    (or_from (is_verdict p k b) _ (any-no-number (λ c. within (verdict_at c k) 8 b) (case_count p) 0
     (λ c _ _. within-false (verdict_at c k) 8 b (inl (omega arith))))
     (or_from (is_private k b) _ (within-false (private_at k) private_size b (inl (omega arith)))
     (ap (λ (t : Bool). t && may_write_window p q k b) (within-false windows_base windows_size b (inl (omega arith))))))

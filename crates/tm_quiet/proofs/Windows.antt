@@ -7,20 +7,20 @@ use Rattle.tm_plan_cases.specs.declared.program.Program.{Program}
 use Rattle.tm_plan_map.specs.Map.{flag_at, verdict_at, private_at, private_size, windows_base, windows_size, within}
 use Rattle.tm_plan_cases.specs.Collected.{is_declared, collector}
 use Rattle.tm_base.specs.Lists.{count_from}
+use Rattle.tm_base.proofs.ListLemmas.{any-no-number}
 use Rattle.tm_world.specs.Lists.{those}
 use Rattle.tm_world.specs.Place.{harts, case_count, is_flag, is_verdict, is_private, is_window}
 use Rattle.tm_world.specs.Writers.{may_store, case_of_phase, may_write, may_write_running, may_write_window, writers}
 use Rattle.tm_world.specs.Kinds.{another}
 use Rattle.tm_world.specs.Slots.{another_may_store}
-use Rattle.tm_runs.proofs.Places.{within-parts}
-use Rattle.tm_runs.proofs.Bytes.{within-false}
+use Rattle.tm_plan_map.proofs.Within.{within-parts, within-false}
 use Rattle.tm_legal.specs.Tame.{Formed}
 use Rattle.tm_legal.proofs.Streams.{declared-window}
 use Rattle.tm_stays.proofs.Right.{run-odd}
 use Rattle.tm_stays.proofs.Dwords.{lies}
 use Rattle.tm_quiet.proofs.Lists.{any-those}
 use Rattle.tm_legal.proofs.Formed.{formed-sizes}
-use Rattle.tm_legal.proofs.Areas.{any-none, those-one}
+use Rattle.tm_legal.proofs.Areas.{those-one}
 
 -- two tests that are alike pass the same
 those-alike : (f g : ℕ → Bool) (n a : ℕ) → ((c : ℕ) → a ≤ c → c < a + n → f c ≡ g c) → those f (count_from a n)
@@ -42,7 +42,7 @@ module _ (p : Program) (formed : Formed p) (b : ℕ) (shared : is_declared p.cas
       let limit = (formed-sizes formed).harts in
       let few = formed.program.cases.count in
       let a : is_flag g b ≡ false = within-false (flag_at g) 8 b (inr (omega arith)) in
-      let v : is_verdict p g b ≡ false = any-none (λ c. within (verdict_at c g) 8 b) (case_count p) 0
+      let v : is_verdict p g b ≡ false = any-no-number (λ c. within (verdict_at c g) 8 b) (case_count p) 0
       (λ c _ y. within-false (verdict_at c g) 8 b (inr (omega (arith, place, few, limit)))) in
       let d : is_private g b ≡ false = within-false (private_at g) private_size b (inr (omega (arith, place, limit))) in
       ap (λ (t : Bool). t || (is_verdict p g b || (is_private g b || (is_window b && may_write_window p q g b)))) a

@@ -12,7 +12,7 @@ use Rattle.tm_world.specs.Writers.{some_store_to, may_store}
 use Rattle.tm_plan_cases.specs.Streams.{stream_in}
 use Rattle.tm_world.specs.Slots.{slots_in, another_may_store}
 use Rattle.tm_world.specs.Trails.{RaceDependent}
-use Rattle.tm_legal.proofs.Streams.{stream-case}
+use Rattle.tm_world.proofs.Streams.{stream-case}
 use Rattle.tm_plane.specs.declared.planes.TheConstants.{PLANE_WORDS}
 use Rattle.tm_plane.specs.Plane.{Bit, in_plane}
 use Rattle.tm_race_walk.specs.declared.walking.Taint.{Taint}

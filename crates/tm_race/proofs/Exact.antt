@@ -15,14 +15,14 @@ use Rattle.tm_plan_cases.specs.declared.masks.Masks.{Masks}
 use Rattle.tm_plan_cases.specs.declared.masks.CaseMask.{CaseMask}
 use Rattle.tm_plan_cases.specs.Collected.{is_declared}
 use Rattle.tm_plan_cases.specs.Shaped.{AreShaped}
-use Rattle.tm_plan_cases.proofs.Within.{within-parts, within-true}
+use Rattle.tm_plan_map.proofs.Within.{within-parts, within-true}
 use Rattle.tm_plan_map.specs.declared.addresses.TheConstants.{WINDOWS_BYTES}
 use Rattle.tm_plan_map.specs.Map.{windows_base, windows_size}
 use Rattle.tm_base.specs.Lists.{any, count_from}
 use Rattle.tm_world.specs.Writers.{may_store}
 use Rattle.tm_world.specs.Slots.{another_may_store}
 use Rattle.tm_world.specs.Checked.{IsCheckedByte}
-use Rattle.tm_legal.proofs.Streams.{stream-of}
+use Rattle.tm_world.proofs.Streams.{stream-of}
 use Rattle.tm_plane.specs.Plane.{Bit}
 use Rattle.tm_plane.proofs.WordLemmas.{bit-none}
 use Rattle.tm_plane.proofs.PlaneLemmas.{any-counted}

@@ -14,7 +14,7 @@ use Rattle.tm_plan_map.specs.declared.addresses.TheConstants.{WINDOWS_BYTES}
 use Rattle.tm_plan_map.specs.Map.{windows_base, windows_size}
 use Rattle.tm_plan_cases.specs.Streams.{stream_in}
 use Rattle.tm_world.specs.Checked.{IsCheckedByte, AreChecked}
-use Rattle.tm_legal.proofs.Streams.{case-of}
+use Rattle.tm_world.proofs.Streams.{case-of}
 use Rattle.tm_plane.specs.Plane.{in_plane}
 use Rattle.tm_race_walk.proofs.Shaping.{case-harts}
 use Rattle.tm_race.specs.Masks.{EachIs, IsByteMark, IsMask, IsSpoil, mark_of}

@@ -8,7 +8,7 @@ use Rattle.tm_plan_map.specs.Map.{within}
 use Rattle.tm_plan_map.specs.Slots.{instr_of, store_width, slot_addr}
 use Rattle.tm_plan_cases.specs.Collected.{is_declared}
 use Rattle.tm_plan_cases.specs.Shaped.{IsShapedSlot}
-use Rattle.tm_plan_cases.proofs.Within.{within-parts}
+use Rattle.tm_plan_map.proofs.Within.{within-parts}
 use Rattle.tm_plan_cases.specs.declared.cases.Cases.{Cases}
 use Rattle.tm_world.specs.Slots.{slots_in}
 use Rattle.tm_plane.specs.Plane.{in_plane}

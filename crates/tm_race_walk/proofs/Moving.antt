@@ -8,7 +8,7 @@ use Rattle.std.proofs.lemmas.Bool.{cases_eq, false≢true, false_from_ne_true, l
 use Rattle.std.proofs.lemmas.List.Elements.{Contains-append_left, Contains-append_right, Contains-append_cases}
 use Rattle.tm_plan_map.specs.Map.{windows_base, within}
 use Rattle.tm_base.specs.Lists.{any, count_from}
-use Rattle.tm_plan_cases.proofs.Within.{within-parts, within-true}
+use Rattle.tm_plan_map.proofs.Within.{within-parts, within-true}
 use Rattle.tm_world.specs.Lists.{those}
 use Rattle.tm_world.specs.Slots.{named}
 use Rattle.tm_plane.specs.Plane.{Bit, in_plane, Overwritten}

@@ -1,13 +1,12 @@
 -- One slot of the walk.
 use Rattle.std.proofs.Common.{◌≡◌, ℕ, zero, suc, ◌+◌, ◌<◌, ◌≤◌, ◌↔◌, ◌⊎◌, inl, inr, Option, None, Some, max, refl}
 use Rattle.std.proofs.Common.{sym, subst, ◌∙◌, add-one, arith}
+use Rattle.std.proofs.lemmas.Bool.{cases_lt}
 use Rattle.tm_world.specs.Slots.{Slot, Jumps, Covers, SurelyOverwrites}
 use Rattle.tm_world.specs.Trails.{At, Steered, Follows, Derived, RaceDependent}
+use Rattle.tm_world.proofs.Trails.{one-more}
 use Rattle.tm_race_walk.specs.Forward.{IsSteered, IsReach, Stands, HeldAfter, Raised, Turns}
-use Rattle.tm_race_walk.proofs.Trails.{one-more, derived-rule}
-
-lt_or_ge : (m n : ℕ) → (m < n) ⊎ (n ≤ m)
-lt_or_ge m n = grind arith
+use Rattle.tm_race_walk.proofs.Trails.{derived-rule}
 
 lt_or_eq : (k j : ℕ) → k < suc j → (k < j) ⊎ (k ≡ j)
 lt_or_eq k j h = grind arith
@@ -101,7 +100,7 @@ module _ (stream : ℕ → Slot) (j : ℕ) (Held : ℕ → Type 0) (reach cover 
     follows_after r (Follows.passed i x s d a w) = inl (w, inr (inl (s, a, (stands.held s).1 d)))
     follows_after r (Follows.missed i x k d c w) =
         inl (w, inr (inr (covered_below stream (IsSteered stream) j reach stands.steered k d c)))
-    follows_after r (Follows.kept i x d n) = kept_after r ((stands.held r).1 d) n (lt_or_ge j cover)
+    follows_after r (Follows.kept i x d n) = kept_after r ((stands.held r).1 d) n (cases_lt j cover)
 
     pub after_is : (r : ℕ) → HeldAfter (stream j) j Held reach cover r ↔ RaceDependent stream r (suc j)
     after_is r = (after_derived r, λ d. follows_after r (derived-rule stream _ d))

@@ -14,10 +14,10 @@ use Rattle.tm_plan_cases.specs.declared.cases.Stream.{Stream}
 use Rattle.tm_plan_map.specs.Map.{window_at, windows_size, within}
 use Rattle.tm_plan_cases.specs.Collected.{declares, is_declared}
 use Rattle.tm_base.specs.Lists.{any}
+use Rattle.tm_base.proofs.ListLemmas.{all-at}
 use Rattle.tm_plan_map.specs.Slots.{instr_of, load_width, store_width, is_access, slot_addr}
 use Rattle.tm_plan_cases.specs.Shaped.{IsPlaced, IsShapedSlot, IsShapedStream, IsShapedCase, IsShapedWindow, AreShaped}
-use Rattle.tm_plan_cases.proofs.Within.{within-parts, within-true}
-use Rattle.tm_legal.proofs.Streams.{all-at}
+use Rattle.tm_plan_map.proofs.Within.{within-parts, within-true}
 use Rattle.tm_plane.specs.Plane.{IsNear}
 use Rattle.tm_race_walk.specs.Slots.{IsLoad, IsStore, IsStoreWord, IsTracked}
 

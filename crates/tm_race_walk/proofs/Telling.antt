@@ -11,12 +11,12 @@ use Rattle.tm_plan_map.specs.Slots.{instr_of, store_width, slot_addr}
 use Rattle.tm_plan_cases.specs.Collected.{is_declared}
 use Rattle.tm_base.specs.Lists.{any, count_from}
 use Rattle.tm_plan_cases.specs.Shaped.{AreShaped}
-use Rattle.tm_plan_cases.proofs.Within.{within-parts, within-true}
+use Rattle.tm_plan_map.proofs.Within.{within-parts, within-true}
 use Rattle.tm_world.specs.Lists.{those}
 use Rattle.tm_world.specs.Writers.{some_store_to, may_store}
 use Rattle.tm_world.specs.Slots.{another_may_store, is_own_byte, named, load_bytes, target_of, slot_of, word_slot}
 use Rattle.tm_world.specs.Slots.{words_slots, slots_in}
-use Rattle.tm_legal.proofs.Streams.{stream-case}
+use Rattle.tm_world.proofs.Streams.{stream-case}
 use Rattle.tm_plane.specs.Plane.{in_plane}
 use Rattle.tm_race_walk.specs.Slots.{plane_slot, reads_of}
 use Rattle.tm_race_walk.specs.Shapes.{another_in, own_in}

@@ -8,8 +8,9 @@ ghost use Rattle.tm_race_walk.specs.Slots.{IsTracked, reads_of, plane_slot};
 ghost use Rattle.tm_race_walk.specs.Shapes.{IsOfShaped, another_in, own_in};
 ghost use Rattle.tm_race_walk.specs.Taints.{Holds, Moved, StandsAt};
 
-use crate::slots::{either, loads_any, marks_of, raised, sources, stored};
-use crate::slots::{target_of, target_register, turns};
+use crate::slots::{
+    either, loads_any, marks_of, raised, sources, stored, target_of, target_register, turns,
+};
 use crate::stores::stream_of;
 use tm_plan_cases::{Case, Stream};
 use tm_plan_map::is_branch;

@@ -30,12 +30,6 @@ byte-number s a (suc n) (suc i) small h =
     ∙ (ap (λ (x : ℕ). x / 256 ^ i % 256) e
     ∙ (byte-number s (a + 1) n i small (omega arith) ∙ ap (slice_index s) at))
 
-pub length-with : (s : List ℕ) (a n v : ℕ) → length (with_number s a n v) ≡ length s
-unfolding with_number
-length-with s a zero v = refl
-length-with s a (suc n) v =
-    length-with (slice_set s a (v % 256)) (a + 1) n (v / 256) ∙ length-set s a (v % 256)
-
 -- a byte outside the number's place stays
 pub with-outside : (s : List ℕ) (a n v k : ℕ) → (k < a) ⊎ (a + n ≤ k)
     → slice_index (with_number s a n v) k ≡ slice_index s k

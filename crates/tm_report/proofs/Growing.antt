@@ -1,5 +1,5 @@
 -- Entries that are put one behind the other.
-use Rattle.std.proofs.Common.{◌≡◌, ◌++◌, ◌∙◌, ◌+◌, ◌-◌, ◌*◌, ◌≤◌, ap, refl, subst, ℕ, zero, suc, Bool, List, [], ◌∷◌}
+use Rattle.std.proofs.Common.{◌≡◌, ◌++◌, ◌∙◌, ◌+◌, ◌-◌, ◌*◌, ◌≤◌, ap, subst, ℕ, suc, Bool, List, [], ◌∷◌}
 use Rattle.std.proofs.Common.{filter, map, append_assoc, arith}
 use Rattle.std.specs.List.{flat_map}
 use Rattle.std.proofs.lemmas.Grind.{flat_map-append}
@@ -8,21 +8,15 @@ use Rattle.std.proofs.lemmas.List.{map-append}
 use Rattle.tm_plan_map.specs.Map.{windows_base}
 use Rattle.tm_plan_cases.specs.Collected.{window_dwords}
 use Rattle.tm_base.specs.Lists.{count_from}
+use Rattle.tm_base.proofs.ListLemmas.{count_from-suc}
 use Rattle.tm_report.specs.Listing.{saved_registers}
-
--- one number more at the end
-pub count-more : (a n : ℕ) → count_from a (suc n) ≡ count_from a n ++ (a + n) ∷ []
-count-more a zero = let e : a + 0 ≡ a = omega arith in rw e refl
-count-more a (suc n) =
-    let e : a + suc n ≡ suc a + n = omega arith in
-    ap (λ rest. a ∷ rest) (rw e (count-more (suc a) n))
 
 -- the numbers from a up to n, and n
 pub count-next : (a n : ℕ) → a ≤ n → count_from a (n + 1 - a) ≡ count_from a (n - a) ++ n ∷ []
 count-next a n h =
     let longer : n + 1 - a ≡ suc (n - a) = omega arith in
     let last : a + (n - a) ≡ n = omega arith in
-    rw longer (subst (λ m. count_from a (suc (n - a)) ≡ count_from a (n - a) ++ m ∷ []) last (count-more a (n - a)))
+    rw longer (subst (λ m. count_from a (suc (n - a)) ≡ count_from a (n - a) ++ m ∷ []) last (count_from-suc a (n - a)))
 
 -- all saved registers
 pub registers-all : (n : ℕ) → n ≡ 31 → count_from 1 (n - 1) ≡ saved_registers
@@ -38,7 +32,7 @@ dwords-more n =
     let longer : n + 1 ≡ suc n = omega arith in
     let last : 0 + n ≡ n = omega arith in
     rw longer (ap (map (λ q. windows_base + 8 * q))
-    (subst (λ m. count_from 0 (suc n) ≡ count_from 0 n ++ m ∷ []) last (count-more 0 n))
+    (subst (λ m. count_from 0 (suc n) ≡ count_from 0 n ++ m ∷ []) last (count_from-suc 0 n))
     ∙ map-append (λ q. windows_base + 8 * q) (count_from 0 n) (n ∷ []))
 
 -- all dwords of the windows

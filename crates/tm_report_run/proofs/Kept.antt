@@ -11,6 +11,7 @@ use Rattle.tm_table.specs.declared.state.Access.TheVariants.{Write}
 use Rattle.tm_plan_map.specs.Map.{verdict_at}
 use Rattle.tm_plan_cases.specs.declared.event.Event.{Event}
 use Rattle.tm_world.specs.Lists.{or_else}
+use Rattle.tm_world.proofs.Options.{unwrap_or-or_else, or_else-assoc}
 use Rattle.tm_report_run.specs.Verdicts.{put_at, latest, verdict_from, verdict_in}
 
 -- ---- options
@@ -18,14 +19,6 @@ use Rattle.tm_report_run.specs.Verdicts.{put_at, latest, verdict_from, verdict_i
 or-none : {B : Type 0} → (o : Option B) → or_else None o ≡ or_else o None
 or-none None = refl
 or-none (Some x) = refl
-
-or-or : {B : Type 0} → (a b c : Option B) → or_else (or_else a b) c ≡ or_else a (or_else b c)
-or-or None b c = refl
-or-or (Some x) b c = refl
-
-or-other : (a b : Option ℕ) (other : ℕ) → unwrap_or (or_else a b) other ≡ unwrap_or a (unwrap_or b other)
-or-other None b other = refl
-or-other (Some x) b other = refl
 
 -- ---- one write
 
@@ -91,7 +84,7 @@ kept count n table access addr width cell value is wide long few e g el gl at pl
 latest-more : {A B : Type 0} → (f : A → Option B) (xs : List A) (x : A)
     → latest f (xs ++ x ∷ []) ≡ or_else (f x) (latest f xs)
 latest-more f [] x = or-none (f x)
-latest-more f (y ∷ ys) x = ap (λ z. or_else z (f y)) (latest-more f ys x) ∙ or-or (f x) (latest f ys) (f y)
+latest-more f (y ∷ ys) x = ap (λ z. or_else z (f y)) (latest-more f ys x) ∙ or_else-assoc (f x) (latest f ys) (f y)
 
 -- what is kept after one event more
 pub more-kept : (other : ℕ) (events : List Event) (place : ℕ) (e : Event) (c h : ℕ) → place < length events
@@ -102,7 +95,8 @@ more-kept other events place e c h l =
     let x = get_or events place e in
     let f = λ (x : Event). put_at (verdict_at c h) x.access in
     ap (λ (xs : List Event). verdict_from other xs c h) (take_more events place e l)
-    ∙ (ap (λ (o : Option ℕ). unwrap_or o other) (latest-more f before x) ∙ or-other (f x) (latest f before) other)
+    ∙ (ap (λ (o : Option ℕ). unwrap_or o other) (latest-more f before x)
+    ∙ unwrap_or-or_else (f x) (latest f before) other)
 
 -- ---- before all writes
 

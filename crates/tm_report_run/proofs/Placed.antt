@@ -1,5 +1,5 @@
 -- Where each verdict stands in the list of all.
-use Rattle.std.proofs.Common.{◌≡◌, ℕ, zero, suc, ◌+◌, ◌*◌, ◌/◌, ◌%◌, ◌<◌, ◌≤◌, List, length, map, refl, sym, ap, ap₂}
+use Rattle.std.proofs.Common.{◌≡◌, ℕ, zero, suc, ◌+◌, ◌*◌, ◌/◌, ◌%◌, ◌<◌, ◌≤◌, List, length, map, sym, ap, ap₂}
 use Rattle.std.proofs.Common.{◌∙◌, arith}
 use Rattle.std.specs.Prelude.{slice_index, flat_map}
 use Rattle.std.proofs.lemmas.List.{get_or_append_left, get_or-append-add, length-append, length-map}
@@ -9,27 +9,17 @@ use Rattle.std.proofs.Math.Nat.{mod-lt, div-lt_iff_lt-mul}
 use Rattle.tm_plan_cases.specs.declared.event.Event.{Event}
 use Rattle.tm_plan_cases.specs.declared.cases.Cases.{Cases}
 use Rattle.tm_base.specs.Lists.{count_from}
+use Rattle.tm_base.proofs.ListLemmas.{index-counted, length-count_from}
 use Rattle.tm_report_run.specs.Verdicts.{verdict_in, verdicts_of}
 
 -- ---- rows
-
-length-from : (n a : ℕ) → length (count_from a n) ≡ n
-length-from zero a = refl
-length-from (suc n) a = ap (λ (k : ℕ). suc k) (length-from n (suc a))
-
-from-at : (f : ℕ → ℕ) (n a j : ℕ) → j < n → slice_index (map f (count_from a n)) j ≡ f (a + j)
-from-at f zero a j l = absurd (omega arith)
-from-at f (suc n) a zero l = ap f (let e : a ≡ a + 0 = omega arith in e)
-from-at f (suc n) a (suc j) l =
-    let next : suc a + j ≡ a + suc j = omega arith in
-    from-at f n (suc a) j (omega arith) ∙ ap f next
 
 -- so many rows of n numbers, from row a on
 abbrev rows : (ℕ → ℕ → ℕ) → (n m a : ℕ) → List ℕ
 rows f n m a = flat_map (λ c. map (f c) (count_from 0 n)) (count_from a m)
 
 row-long : (f : ℕ → ℕ) (n : ℕ) → length (map f (count_from 0 n)) ≡ n
-row-long f n = length-map (count_from 0 n) f ∙ length-from n 0
+row-long f n = length-map (count_from 0 n) f ∙ length-count_from 0 n
 
 rows-long : (f : ℕ → ℕ → ℕ) (n m a : ℕ) → length (rows f n m a) ≡ m * n
 rows-long f n zero a = omega arith
@@ -45,7 +35,8 @@ row-at f n (suc m) a zero h l k =
     let long = row-long (f a) n in
     ap (slice_index (rows f n (suc m) a)) place
     ∙ (get_or_append_left (map (f a) (count_from 0 n)) (rows f n m (suc a)) 0 h (omega arith)
-    ∙ (from-at (f a) n 0 h k ∙ ap₂ f (let e : a ≡ a + 0 = omega arith in e) (let e : 0 + h ≡ h = omega arith in e)))
+    ∙ (index-counted (f a) n 0 h k ∙ ap₂ f (let e : a ≡ a + 0 = omega arith in e)
+    (let e : 0 + h ≡ h = omega arith in e)))
 row-at f n (suc m) a (suc c) h l k =
     let place : suc c * n + h ≡ n + (c * n + h) = omega arith in
     let row = map (f a) (count_from 0 n) in

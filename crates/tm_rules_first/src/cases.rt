@@ -9,8 +9,8 @@ ghost use Rattle.tm_rules_first.specs.Rules as rules;
 use crate::RuleAt;
 use crate::bodies::bodies_broken;
 use tm_base::{IMAGE_VERSION, most_cases};
-use tm_refusals::RuleFault;
 use tm_place::Placement;
+use tm_refusals::RuleFault;
 use tm_tmpl_types::CaseDecl;
 use tm_topo::Topology;
 

@@ -5,8 +5,8 @@ ghost use Rattle.tm_rules_first.specs.Rules as rules;
 
 use crate::RuleAt;
 use tm_base::MOST_SLOTS;
-use tm_refusals::RuleFault;
 use tm_place::Placement;
+use tm_refusals::RuleFault;
 use tm_rules_slot::{emit_fault, mix_fault};
 use tm_tmpl_types::{Selector, SlotDecl, SlotText};
 use tm_topo::Topology;

@@ -7,9 +7,9 @@ ghost use Rattle.tm_rules_slot.specs.Slots as rules;
 
 use crate::teams::is_in_team;
 use tm_base::{WINDOW_BYTES, WINDOWS};
-use tm_refusals::RuleFault;
 use tm_place::{Placement, may_load, may_store};
 use tm_plan_map::{is_access, load_width, slot_addr, store_width, window_base};
+use tm_refusals::RuleFault;
 use tm_table::Instr;
 use tm_tmpl_types::Selector;
 use tm_topo::Topology;

@@ -4,8 +4,8 @@ ghost use Rattle.tm_rules_slot.specs.Slots as rules;
 ghost use Rattle.tm_rules_slot.specs.Laws.{AreRuledWeights};
 
 use tm_base::MOST_WEIGHTS;
-use tm_refusals::RuleFault;
 use tm_place::Placement;
+use tm_refusals::RuleFault;
 
 /// The first rule that the four weights of a drawn slot break.
 #[tactic(auto, unfolding(crate::specs::Slots::mix_fault))]

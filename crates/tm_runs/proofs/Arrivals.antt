@@ -4,6 +4,7 @@ use Rattle.std.proofs.Common.{true≢false, ◌&&◌, not, nat_le, nat_lt, ◌==
 use Rattle.std.proofs.Common.{◌∙◌, arith, eq-eqb, ne_eqb, eqb-true, append-nil}
 use Rattle.std.specs.Prelude.{flat_map, if◌then◌else◌}
 use Rattle.std.proofs.lemmas.Bool.Decides.{nat_tests}
+use Rattle.std.proofs.lemmas.Bool.{and_right}
 use Rattle.tm_plan_cases.specs.declared.program.Program.{Program}
 use Rattle.tm_base.specs.Lists.{count_from}
 use Rattle.tm_world.specs.Lists.{first_of, those}
@@ -158,10 +159,6 @@ inside-true p h c pc l m = between-true (start_of p h c) (end_of p h c) pc l m
 pub inside-false : (p : Program) (h c pc : ℕ) → (pc < start_of p h c) ⊎ (end_of p h c ≤ pc) → inside p h c pc ≡ false
 inside-false p h c pc l = between-false (start_of p h c) (end_of p h c) pc l
 
-and-false : (a b : Bool) → b ≡ false → (a && b) ≡ false
-and-false true b e = e
-and-false false b e = refl
-
 off : (lo hi to : ℕ) → lo ≤ hi → (to < lo) ⊎ (hi < to) → (to ≢ lo) × (to ≢ hi) × ((to < lo) ⊎ (hi ≤ to))
 off lo hi to l (inl q) = (λ z. omega arith, λ z. omega arith, inl q)
 off lo hi to l (inr q) = (λ z. omega arith, λ z. omega arith, inr (omega arith))
@@ -181,9 +178,9 @@ quiet-off p h from to c l q =
 -- a step inside a stream
 pub quiet-in : (p : Program) (h from to c : ℕ) → inside p h c from ≡ true → to < end_of p h c → Quiet p h from to c
 quiet-in p h from to c e l = record {
-  enter = and-false (to == start_of p h c) (not (inside p h c from)) (ap not e);
+  enter = and_right (to == start_of p h c) (not (inside p h c from)) (ap not e);
   end = ne_eqb to (end_of p h c) (λ z. omega arith);
-  stray = and-false (inside p h c to) (not (inside p h c from) && not (to == start_of p h c))
+  stray = and_right (inside p h c to) (not (inside p h c from) && not (to == start_of p h c))
       (ap (λ (b : Bool). not b && not (to == start_of p h c)) e);
 }
 
@@ -195,7 +192,7 @@ enters p h from to c l e f =
     let same : (to == start_of p h c) ≡ true = eq-eqb to (start_of p h c) e in (
       ap (λ (b : Bool). b && not (inside p h c from)) same ∙ ap not f,
       ne_eqb to (end_of p h c) (λ z. omega arith),
-      and-false (inside p h c to) _ (and-false (not (inside p h c from)) (not (to == start_of p h c)) (ap not same)),
+      and_right (inside p h c to) _ (and_right (not (inside p h c from)) (not (to == start_of p h c)) (ap not same)),
     )
 
 -- a step from inside a stream to its end
@@ -203,7 +200,7 @@ pub ends : (p : Program) (h from to c : ℕ) → to ≡ end_of p h c → inside 
     → (comes_to p h (Enter c) from to ≡ false) × (comes_to p h (End c) from to ≡ true)
     × (comes_to p h (Stray c) from to ≡ false)
 ends p h from to c e f = (
-  and-false (to == start_of p h c) (not (inside p h c from)) (ap not f),
+  and_right (to == start_of p h c) (not (inside p h c from)) (ap not f),
   eq-eqb to (end_of p h c) e,
   ap (λ (b : Bool). b && (not (inside p h c from) && not (to == start_of p h c)))
       (inside-false p h c to (inr (omega arith))),

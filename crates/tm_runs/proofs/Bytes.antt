@@ -1,14 +1,8 @@
 -- Numbers and their bytes, the lowest first.
-use Rattle.std.proofs.Common.{◌≡◌, ℕ, zero, suc, ◌+◌, ◌-◌, ◌*◌, ◌/◌, ◌%◌, ◌^◌, ◌<◌, ◌≤◌, Bool, false, None}
-use Rattle.std.proofs.Common.{Some, ◌⊎◌, sym, ap, ◌∙◌, arith}
-use Rattle.std.specs.Prelude.{if◌then◌else◌}
+use Rattle.std.proofs.Common.{◌≡◌, ℕ, zero, suc, ◌+◌, ◌-◌, ◌*◌, ◌/◌, ◌%◌, ◌^◌, ◌<◌}
+use Rattle.std.proofs.Common.{sym, ap, ◌∙◌, arith}
 use Rattle.std.proofs.Math.Nat.{div-div-eq-div-mul, pow-succ'}
-use Rattle.std.proofs.lemmas.Bool.Decides.{nat_tests}
-use Rattle.tm_table.specs.declared.state.Access.TheVariants.{Write}
-use Rattle.tm_plan_map.specs.Map.{within}
-pub use Rattle.tm_plan_cases.proofs.Within.{within-true}
 use Rattle.tm_world.specs.Place.{byte_of}
-use Rattle.tm_world.specs.Run.{written}
 use Rattle.tm_runs.specs.World.{joined}
 
 pub byte-shift : (v i : ℕ) → byte_of v (suc i) ≡ byte_of (v / 256) i
@@ -51,13 +45,3 @@ joined-lt f (suc n) h =
     let q = joined-lt (λ j. f (suc j)) n (λ j. h (suc j)) in
     let e = pow-succ' 256 n in
     omega arith
-
-pub within-false : (a n b : ℕ) → (b < a) ⊎ (a + n ≤ b) → within a n b ≡ false
-within-false a n b h = grind (arith, nat_tests)
-
--- what a write leaves at a byte
-pub written-inside : (a n v b : ℕ) → a ≤ b → b < a + n → written (Write a n v) b ≡ Some (byte_of v (b - a))
-written-inside a n v b p q = ap (λ (c : Bool). if c then Some (byte_of v (b - a)) else None) (within-true a n b p q)
-
-pub written-outside : (a n v b : ℕ) → (b < a) ⊎ (a + n ≤ b) → written (Write a n v) b ≡ None
-written-outside a n v b h = ap (λ (c : Bool). if c then Some (byte_of v (b - a)) else None) (within-false a n b h)

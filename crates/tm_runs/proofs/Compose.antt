@@ -1,10 +1,10 @@
 -- The laws by which runs compose.
-use Rattle.std.proofs.Common.{◌≡◌, ℕ, zero, suc, ◌+◌, ◌*◌, ◌<◌, ◌≤◌, Some, ◌⊎◌, inl, inr, arith, suc-add, List, []}
+use Rattle.std.proofs.Common.{◌≡◌, ℕ, zero, suc, ◌+◌, ◌<◌, ◌≤◌, Some, ◌⊎◌, inl, inr, arith, suc-add, List, []}
 use Rattle.std.proofs.Common.{◌∷◌, length}
 use Rattle.std.proofs.lemmas.Bool.{cases_lt}
 use Rattle.tm_table.specs.declared.state.Access.{Access}
 use Rattle.tm_runs.specs.Machine.{World, State, Entry, Strays}
-use Rattle.tm_runs.specs.Runs.{Takes, Now, Step, Upto, Unwatched, Came, Went, Strayed, Keeps, Newest, Does, Within}
+use Rattle.tm_runs.specs.Runs.{Takes, Now, Step, Upto, Unwatched, Came, Went, Strayed, KeepsUntil, Newest, Does, Within}
 
 -- more steps are allowed
 pub takes_more : {w : World} {G Q : State → Type 0} {n : ℕ} {s : State} (k : ℕ) → n ≤ k → Takes w G Q n s
@@ -18,14 +18,6 @@ pub takes_then : {w : World} {G P Q : State → Type 0} {n k : ℕ} {s : State} 
     → ((t : State) → P t → Takes w G Q k t) → Takes w G Q (n + k) s
 takes_then {n = n} {k = k} (Now p) f = takes_more (n + k) (omega arith) (f _ p)
 takes_then {k = k} (Step {n = n} i e g h r) f = rw suc-add (Step i e g h (λ v a. takes_then (r v a) f))
-
--- the counted loop: each turn keeps the fact J and lowers its number
-pub takes_loop : {w : World} {G : State → Type 0} (J : ℕ → State → Type 0) (n : ℕ)
-    → ((k : ℕ) (t : State) → J (suc k) t → Takes w G (J k) n t) → (k : ℕ) (s : State) → J k s
-    → Takes w G (J 0) (k * n) s
-takes_loop J n turn zero s j = Now j
-takes_loop J n turn (suc k) s j =
-    takes_more (suc k * n) (omega arith) (takes_then (turn k s j) (takes_loop J n turn k))
 
 -- weaker facts
 pub takes_map : {w : World} {G H P Q : State → Type 0} {n : ℕ} {s : State} → ((t : State) → G t → H t)
@@ -48,7 +40,7 @@ upto_after (suc k) (Step i e fine g h) f = Went i e fine g (λ v r. upto_after k
     upto_less (suc n) (Strayed lo hi e g h) = Strayed lo hi e g (λ t r. upto_less n (h t r))
 
 pub keeps_after : {w : World} {G P Q : State → Type 0} {n : ℕ} {s : State} → Takes w G P n s
-    → ((t : State) → P t → Keeps w G Q t) → Keeps w G Q s
+    → ((t : State) → P t → KeepsUntil w G Q t) → KeepsUntil w G Q s
 keeps_after h f = record { upto = λ k. upto_after k h (λ t p. (f t p).upto k) }
 
 -- what follows a part that may go on for ever
@@ -59,8 +51,9 @@ upto_then (Came {n = n} p) f = f n _ p
 upto_then (Went i e fine g h) f = Went i e fine g (λ v r. upto_then (h v r) f)
 upto_then (Strayed lo hi e g h) f = Strayed lo hi e g (λ t r. upto_then (h t r) f)
 
-pub keeps_then : {w : World} {G P Q : State → Type 0} {s : State} → Keeps w G P s → ((t : State) → P t → Keeps w G Q t)
-    → Keeps w G Q s
+pub keeps_then : {w : World} {G P Q : State → Type 0} {s : State} → KeepsUntil w G P s
+    → ((t : State) → P t → KeepsUntil w G Q t)
+    → KeepsUntil w G Q s
 keeps_then h f = record { upto = λ k. upto_then (h.upto k) (λ j t p. (f t p).upto j) }
 
 -- weaker facts
@@ -72,17 +65,11 @@ upto_map g f (Went i e fine now r) = Went i e fine (λ v a. g _ (now v a)) (λ v
 upto_map g f (Strayed lo hi e now r) = Strayed lo hi e (λ t a. g t (now t a)) (λ t a. upto_map g f (r t a))
 
 pub keeps_map : {w : World} {G H P Q : State → Type 0} {s : State} → ((t : State) → G t → H t)
-    → ((t : State) → P t → Q t) → Keeps w G P s → Keeps w H Q s
+    → ((t : State) → P t → Q t) → KeepsUntil w G P s → KeepsUntil w H Q s
 keeps_map g f h = record { upto = λ n. upto_map g f (h.upto n) }
 
-pub keeps_now : {w : World} {G Q : State → Type 0} {s : State} → Q s → Keeps w G Q s
+pub keeps_now : {w : World} {G Q : State → Type 0} {s : State} → Q s → KeepsUntil w G Q s
 keeps_now q = record { upto = λ n. Came q }
-
--- a counted loop whose turns may go on for ever
-pub keeps_loop : {w : World} {G : State → Type 0} (J : ℕ → State → Type 0)
-    → ((k : ℕ) (t : State) → J (suc k) t → Keeps w G (J k) t) → (k : ℕ) (s : State) → J k s → Keeps w G (J 0) s
-keeps_loop J turn zero s j = keeps_now j
-keeps_loop J turn (suc k) s j = keeps_then (turn k s j) (keeps_loop J turn k)
 
 -- a stream, of whose steps J is a fact that they keep
 module _ (w : World) (G J : State → Type 0) (lo hi : ℕ) (held : (p : ℕ) → lo ≤ p → p < hi → w.stream p
@@ -95,7 +82,7 @@ module _ (w : World) (G J : State → Type 0) (lo hi : ℕ) (held : (p : ℕ) �
       Strayed lo hi (held s.pc a b) (λ t r. (step s t j a b r).1)
       (λ t r. stays k t (step s t j a b r).0 r.least (cases_lt t.pc hi) r.most)
 
-  pub keeps_stream : (s : State) → J s → lo ≤ s.pc → s.pc ≤ hi → Keeps w G (λ t. J t × (t.pc ≡ hi)) s
+  pub keeps_stream : (s : State) → J s → lo ≤ s.pc → s.pc ≤ hi → KeepsUntil w G (λ t. J t × (t.pc ≡ hi)) s
   keeps_stream s j a c = record { upto = λ k. stays k s j a (cases_lt s.pc hi) c }
 
 -- a turn comes back with J after at least one step, or leaves with Q
@@ -118,11 +105,11 @@ upto_spin {w = w} {G = G} {J = K} {Q = Q} turn (suc k) s j = first (turn s j) (u
 
 -- a loop that may go on for ever
 pub keeps_spin : {w : World} {G J Q : State → Type 0} {n : ℕ} → ((t : State) → J t → Takes w G (Turned J Q t) n t)
-    → (s : State) → J s → Keeps w G Q s
+    → (s : State) → J s → KeepsUntil w G Q s
 keeps_spin turn s j = record { upto = λ k. upto_spin turn k s j }
 
 -- wider words, and more accesses
-newest_map : (lo hi lo' hi' : ℕ) {A B : Access → Type 0} → lo' ≤ lo → hi ≤ hi' → ((a : Access) → A a → B a)
+pub newest_map : (lo hi lo' hi' : ℕ) {A B : Access → Type 0} → lo' ≤ lo → hi ≤ hi' → ((a : Access) → A a → B a)
     → (es : List Entry) → Newest (Does lo hi A) es → Newest (Does lo' hi' B) es
 newest_map lo hi lo' hi' p q f [] h = tt
 newest_map lo hi lo' hi' p q f (e ∷ es) h = record {

@@ -29,10 +29,12 @@ use Rattle.tm_runs.specs.Shadow.{entry_of, entries_of, HalfRunsAreRuns}
 use Rattle.tm_runs.proofs.Split.{run_more}
 use Rattle.tm_runs.proofs.Bytes.{same_dword}
 use Rattle.tm_runs.proofs.Rows.{InReach, IsPlain, plain, word-reach, row-decoded, target-word64}
-use Rattle.tm_runs.proofs.Places.{within-parts, private-window, word-place, guest-true}
+use Rattle.tm_runs.proofs.Places.{private-window, word-place, guest-true}
+use Rattle.tm_plan_map.proofs.Within.{within-parts}
 use Rattle.tm_runs.proofs.Worlds.{fetched, held}
 use Rattle.tm_runs.proofs.Memory.{Memory, owed, memory-start, memory-same, told, memory-told, memory-store}
-use Rattle.tm_runs.proofs.Registers.{get-list, put-list, put-length, put-fits, value-fits}
+use Rattle.tm_runs.proofs.Registers.{get-list, put-list, put-length, value-fits}
+use Rattle.tm_runs.proofs.Tables.{get_put_fits}
 
 -- ---- one step
 
@@ -121,7 +123,7 @@ module _ (p : Program) (h : ℕ) (first : Hart) (sizes : Sizes p) (low-number : 
             (onward past t f.kept f.most ∙ ap (λ (x : Hart). x.pc) hart)
             (λ r. put-list t.regs (now first past).x i.rd value f.kept.regs f.kept.count f.reach.rd r ∙ ap
             (λ (x : Hart). slice_index x.x r) hart)
-            (put-fits t.regs i.rd value f.kept.fits small)
+            (get_put_fits t.regs i.rd value f.kept.fits small)
             (ap (λ (x : Hart). length x.x) (sym hart) ∙ (put-length (now first past).x i.rd value ∙ f.kept.count))
             (quiet-memory past s t.mem Quiet access (λ b. refl) f.kept.memory);
       }
@@ -155,7 +157,7 @@ module _ (p : Program) (h : ℕ) (first : Hart) (sizes : Sizes p) (low-number : 
             (onward past t f.kept f.most ∙ ap (λ (x : Hart). x.pc) hart)
             (λ r. put-list t.regs (now first past).x i.rd v f.kept.regs f.kept.count f.reach.rd r ∙ ap
             (λ (x : Hart). slice_index x.x r) hart)
-            (put-fits t.regs i.rd v f.kept.fits small)
+            (get_put_fits t.regs i.rd v f.kept.fits small)
             (ap (λ (x : Hart). length x.x) (sym hart) ∙ (put-length (now first past).x i.rd v ∙ f.kept.count))
             (quiet-memory past s t.mem (Read addr 8 v) access (λ b. refl) f.kept.memory);
       }
@@ -233,7 +235,7 @@ module _ (p : Program) (h : ℕ) (first : Hart) (sizes : Sizes p) (low-number : 
             (λ r. ap (λ (n : ℕ). get (put t.regs i.rd n) r) same ∙
             (put-list t.regs (now first past).x i.rd link f.kept.regs f.kept.count f.reach.rd r ∙ ap
             (λ (x : Hart). slice_index x.x r) hart))
-            (put-fits t.regs i.rd (t.pc + 4) f.kept.fits (omega (arith, f.most)))
+            (get_put_fits t.regs i.rd (t.pc + 4) f.kept.fits (omega (arith, f.most)))
             (ap (λ (x : Hart). length x.x) (sym hart) ∙ (put-length (now first past).x i.rd link ∙ f.kept.count))
             (quiet-memory past s t.mem Quiet access (λ b. refl) f.kept.memory);
       }
@@ -274,7 +276,7 @@ module _ (p : Program) (h : ℕ) (first : Hart) (sizes : Sizes p) (low-number : 
       (ap (λ (y : Hart). y.pc) hart)
       (λ r. put-list t.regs (now first past).x i.rd x f.kept.regs f.kept.count f.reach.rd r ∙ ap
       (λ (y : Hart). slice_index y.x r) hart)
-      (put-fits t.regs i.rd x f.kept.fits (value-fits with_sign width v shape))
+      (get_put_fits t.regs i.rd x f.kept.fits (value-fits with_sign width v shape))
       (ap (λ (y : Hart). length y.x) (sym hart) ∙ (put-length (now first past).x i.rd x ∙ f.kept.count))
 
   stores-narrow : (past : List Step) (s : Step) (t : State) (i : Instr) (addr width value : ℕ)

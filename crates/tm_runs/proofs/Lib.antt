@@ -14,3 +14,4 @@ pub mod Paths
 pub mod Arrivals
 pub mod Story
 pub mod Ahead
+pub mod Entries

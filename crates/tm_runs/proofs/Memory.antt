@@ -3,7 +3,7 @@ use Rattle.std.proofs.Common.{◌≡◌, ◌≢◌, ℕ, ◌+◌, ◌-◌, ◌%�
 use Rattle.std.proofs.Common.{◌||◌, Option, None, Some, ◌⊎◌, inl, inr, refl, sym, ap, ◌∙◌, subst, arith, eq-eqb}
 use Rattle.std.proofs.Common.{eqb-true}
 use Rattle.std.specs.Prelude.{IsTrue, IfSome, nat_eq, if◌then◌else◌, unwrap_or}
-use Rattle.std.proofs.lemmas.Bool.{cases_lt}
+use Rattle.std.proofs.lemmas.Bool.{cases_lt, or_cases}
 use Rattle.tm_table.specs.declared.state.Access.{Access}
 use Rattle.tm_table.specs.declared.state.Access.TheVariants.{Quiet, Read, Write}
 use Rattle.tm_plan_cases.specs.declared.program.Program.{Program}
@@ -12,11 +12,12 @@ use Rattle.tm_world.specs.Lists.{or_else}
 use Rattle.tm_world.specs.Place.{is_text, is_table, image_byte, byte_of}
 use Rattle.tm_world.specs.Run.{Step, access_of, last_write, written}
 use Rattle.tm_world.specs.Kinds.{half_owed}
+use Rattle.tm_world.proofs.Accesses.{written-inside, written-outside}
 use Rattle.tm_runs.specs.Machine.{Table, put, stored}
 use Rattle.tm_runs.specs.World.{Sizes, is_fixed_dword, is_private_dword, world_of, joined, image_dword}
 use Rattle.tm_runs.proofs.Tables.{put_same, put_other}
-use Rattle.tm_runs.proofs.Bytes.{byte-lt, joined-byte, joined-lt, written-inside, written-outside}
-use Rattle.tm_runs.proofs.Places.{or-cases, private-bytes, fixed-bytes, fixed-open, private-free, private-image}
+use Rattle.tm_runs.proofs.Bytes.{byte-lt, joined-byte, joined-lt}
+use Rattle.tm_runs.proofs.Places.{private-bytes, fixed-bytes, fixed-open, private-free, private-image}
 use Rattle.tm_runs.proofs.Places.{image-lt}
 
 pub record Memory (p : Program) (h : ℕ) (own : List Step) (mem : Table) : Type 0 where
@@ -29,7 +30,7 @@ module _ (p : Program) (h : ℕ) (sizes : Sizes p) (low : h < 16) where
   -- what a half run owes is what the memory has
   pub owed : (own : List Step) (mem : Table) (a i : ℕ) → Memory p h own mem → IsTrue ((world_of p h).own a) → a % 8 ≡ 0
       → i < 8 → half_owed p h own (a + i) ≡ Some (byte_of (mem a) i)
-  owed own mem a i m o al l = by (or-cases (is_private_dword h a) (is_fixed_dword p a) o)
+  owed own mem a i m o al l = by (or_cases (is_private_dword h a) (is_fixed_dword p a) o)
     where
       by : (is_private_dword h a ≡ true) ⊎ (is_fixed_dword p a ≡ true) → half_owed p h own (a + i)
           ≡ Some (byte_of (mem a) i)

@@ -9,7 +9,7 @@ use Rattle.tm_plan_cases.specs.declared.program.Program.{Program}
 use Rattle.tm_world.specs.Place.{case_count, passes}
 use Rattle.tm_world.specs.Marks.{Mark, End, Halt, pass_way, whole_way}
 use Rattle.tm_runs.specs.Machine.{World, State, Entry, Strays}
-use Rattle.tm_runs.specs.Runs.{Takes, Keeps, Within, Does, Each, Since}
+use Rattle.tm_runs.specs.Runs.{Takes, KeepsUntil, Within, Does, Each, Since}
 use Rattle.tm_runs.specs.Course.{trail, Grows, Part}
 use Rattle.tm_runs.proofs.Compose.{keeps_after, keeps_then, keeps_now, keeps_map, keeps_stream, takes_map}
 use Rattle.tm_runs.proofs.Split.{takes_since, keeps_since}
@@ -108,7 +108,7 @@ module _ (w : World) (m : ℕ → ℕ → List Mark) (lo hi : ℕ) (A : Access �
   }
 
   -- words that may wait
-  pub part_waiting : (P Q : State → Type 0) → ((s : State) → P s → Keeps w (Within lo hi A) Q s) → Part w m P [] Q
+  pub part_waiting : (P Q : State → Type 0) → ((s : State) → P s → KeepsUntil w (Within lo hi A) Q s) → Part w m P [] Q
   part_waiting P Q h = record {
     keeps = λ s p. keeps_map (λ t g. record { done = []; left = []; sum = refl; is = still s t g.1 })
         (λ t q. (q.0, still s t q.1)) (keeps_since (h s p));

@@ -9,7 +9,7 @@ use Rattle.tm_table.specs.Row.{Effect, Gives, Loads, Stores, Branches, Jumps, ef
 use Rattle.tm_plan_cases.specs.declared.program.Program.{Program}
 use Rattle.tm_plan_map.specs.Slots.{instr_of}
 use Rattle.tm_base.specs.Lists.{any}
-use Rattle.tm_world.specs.Lists.{IsFront, count}
+use Rattle.tm_world.specs.Lists.{count}
 use Rattle.tm_world.specs.Place.{harts, halt_of, word_at}
 use Rattle.tm_world.specs.Run.{Step, Always, now, first_state, own as own_steps, pc_of, phase}
 use Rattle.tm_world.specs.Kinds.{IsOpening, IsReachable, IsPossible, HalfPath, HalfStep, stream_at}
@@ -17,15 +17,14 @@ use Rattle.tm_world.specs.Marks.{Mark, arrivals, visited}
 use Rattle.tm_world.specs.Course.{OnHalf}
 use Rattle.tm_world.specs.Work.{HasNext, GoesOn}
 use Rattle.tm_runs.specs.Machine.{State, Entry, get, effect_in, MayAct}
-use Rattle.tm_runs.specs.Runs.{Keeps, Run, Apart, Goes, Runs, Strolls, Stopped, Passed, CanStep}
+use Rattle.tm_runs.specs.Runs.{KeepsUntil, Run, Apart, Goes, Runs, Strolls, Stopped, Passed, CanStep}
 use Rattle.tm_runs.specs.World.{Sizes, world_of, start, support, support_at, bounds, bounds_at}
 use Rattle.tm_runs.specs.Shadow.{entry_of, entries_of, Shadow, Shadowed}
-use Rattle.tm_runs.specs.Course.{trail, Grows, Part}
+use Rattle.tm_runs.specs.Course.{trail}
 use Rattle.tm_runs.proofs.Split.{keeps_run, keeps_can, end_of}
 use Rattle.tm_runs.proofs.Rows.{decoded-row}
 use Rattle.tm_runs.proofs.Places.{guest-parts}
 use Rattle.tm_runs.proofs.Half.{half-runs}
-use Rattle.std.proofs.Common.{append-nil}
 
 -- ---- places
 
@@ -111,7 +110,7 @@ pub record Told (p : Program) (h : ℕ) (x : List ℕ) (own : List Step) (P : St
   pub holds : P state
 
 module _ (p : Program) (h : ℕ) (sizes : Sizes p) (number : h < harts p) (x : List ℕ) (opening : IsOpening h x)
-    (G Q : State → Type 0) (keeps : Keeps (world_of p h) G Q (start p x)) (stops : (t : State) → Q t
+    (G Q : State → Type 0) (keeps : KeepsUntil (world_of p h) G Q (start p x)) (stops : (t : State) → Q t
     → Stopped (world_of p h) t) where
   -- A fact that the start has, and each state with G or Q, holds of each state of a half run.
   pub told : (P : State → Type 0) → P (start p x) → ((t : State) → G t → P t) → ((t : State) → Q t → P t)
@@ -200,17 +199,3 @@ visited-trail p h first [] path = refl
 visited-trail p h first (s ∷ past) path =
     ap₂ (λ (ms : List Mark) (from : ℕ). ms ++ arrivals p h from s.after.pc) (visited-trail p h first past path.1)
     (sym (stands p h (stream_at p h (now first past).pc) (now first past) past s path.0))
-
--- A way that is a part from the start to where the hart stops is the hart's way on each half run.
-pub course : (p : Program) (h : ℕ) → Sizes p → h < harts p → (x : List ℕ) → IsOpening h x
-    → (P Q : State → Type 0) (ms : List Mark) → Part (world_of p h) (arrivals p h) P ms Q
-    → ((t : State) → Q t → Stopped (world_of p h) t) → P (start p x) → (own : List Step)
-    → HalfPath p h (first_state x) own → IsFront (visited p h (first_state x) own) ms
-course p h sizes l x o P Q ms part stops at-start own path =
-    subst (λ (way : List Mark). IsFront way ms) (sym (visited-trail p h (first_state x) own path))
-    (told-log p h sizes l x o (λ t. Grows [] ms (trail (arrivals p h) t.log)) (λ t. Q t
-    × (trail (arrivals p h) t.log ≡ ms)) (part.keeps (start p x) at-start) (λ t q. stops t q.0)
-    (λ es. IsFront (trail (arrivals p h) es) ms) (ms, refl)
-    (λ t g. (g.left, sym g.sum ∙ ap (λ (way : List Mark). way ++ g.left) (sym g.is)))
-    (λ t q. ([], sym q.1 ∙ sym (append-nil (trail (arrivals p h) t.log))))
-    own path)

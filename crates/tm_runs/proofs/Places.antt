@@ -2,29 +2,19 @@
 use Rattle.std.proofs.Common.{◌≡◌, ℕ, zero, suc, ◌+◌, ◌-◌, ◌*◌, ◌/◌, ◌%◌, ◌^◌, ◌<◌, ◌≤◌, List, [], ◌∷◌, length, Bool}
 use Rattle.std.proofs.Common.{true, false, ◌&&◌, ◌||◌, ◌==◌, None, Some, ◌⊎◌, inl, inr, refl, ap, ◌∙◌, subst, arith}
 use Rattle.std.specs.Prelude.{slice_get, slice_index, if◌then◌else◌}
-use Rattle.std.proofs.lemmas.Bool.{and_parts}
+use Rattle.std.proofs.lemmas.Bool.{and_parts, or_cases, or_left, or_right}
 use Rattle.std.proofs.lemmas.Bool.Decides.{nat_tests}
 use Rattle.tm_plan_cases.specs.declared.program.Program.{Program}
 use Rattle.tm_plan_map.specs.Map.{guest_base, guest_end, text_base, tables_base, private_at, private_size}
 use Rattle.tm_plan_map.specs.Map.{windows_base, windows_size}
 use Rattle.tm_world.specs.Place.{is_text, is_table, is_private, is_window, image_byte, word_at, byte_of}
 use Rattle.tm_runs.specs.World.{Sizes, holds, is_fixed_dword, is_private_dword, is_guest_dword}
-pub use Rattle.tm_plan_cases.proofs.Within.{within-parts}
-use Rattle.tm_runs.proofs.Bytes.{within-true, within-false, byte-lt}
+use Rattle.tm_plan_map.proofs.Within.{within-parts, within-false}
+use Rattle.tm_runs.proofs.Bytes.{byte-lt}
+use Rattle.tm_plan_map.proofs.Within.{within-true}
 
 holds-true : (base n a : ℕ) → holds base n a ≡ true → (base ≤ a) × (a + 8 ≤ base + n)
 holds-true base n a h = grind (arith, nat_tests)
-
-pub or-cases : (b c : Bool) → (b || c) ≡ true → (b ≡ true) ⊎ (c ≡ true)
-or-cases true c h = inl refl
-or-cases false c h = inr h
-
-or-left : (b c : Bool) → b ≡ true → (b || c) ≡ true
-or-left b c e = ap (λ (x : Bool). x || c) e
-
-pub or-right : (b c : Bool) → c ≡ true → (b || c) ≡ true
-or-right true c e = refl
-or-right false c e = e
 
 -- where a private dword is
 private-place : (h a : ℕ) → is_private_dword h a ≡ true → h < 16 → (2160132096 ≤ a) × (a < 2162229248)
@@ -35,7 +25,7 @@ private-place h a e l = let p = holds-true _ _ a e in (omega (arith, p), omega (
 -- where a dword of text or tables is
 pub fixed-place : (p : Program) (a : ℕ) → Sizes p → is_fixed_dword p a ≡ true → a + 8 ≤ 2160066560
 unfolding is_fixed_dword text_base tables_base
-fixed-place p a s e = by (or-cases _ _ e)
+fixed-place p a s e = by (or_cases _ _ e)
   where
     by : (holds text_base (4 * length p.text) a ≡ true) ⊎ (holds tables_base (length p.tables) a ≡ true)
         → a + 8 ≤ 2160066560
@@ -51,14 +41,14 @@ private-bytes h a i e l = let p = holds-true (private_at h) private_size a e in
 pub fixed-bytes : (p : Program) (a i : ℕ) → is_fixed_dword p a ≡ true → i < 8
     → (is_text p (a + i) || is_table p (a + i)) ≡ true
 unfolding is_fixed_dword
-fixed-bytes p a i e l = by (or-cases _ _ e)
+fixed-bytes p a i e l = by (or_cases _ _ e)
   where
     by : (holds text_base (4 * length p.text) a ≡ true) ⊎ (holds tables_base (length p.tables) a ≡ true)
         → (is_text p (a + i) || is_table p (a + i)) ≡ true
     by (inl x) = let q = holds-true text_base (4 * length p.text) a x in
-        or-left _ _ (within-true text_base (4 * length p.text) (a + i) (omega arith) (omega arith))
+        or_left _ _ (within-true text_base (4 * length p.text) (a + i) (omega arith) (omega arith))
     by (inr x) = let q = holds-true tables_base (length p.tables) a x in
-        or-right (is_text p (a + i)) _ (within-true tables_base (length p.tables) (a + i) (omega arith) (omega arith))
+        or_right (is_text p (a + i)) _ (within-true tables_base (length p.tables) (a + i) (omega arith) (omega arith))
 
 -- text and tables are in no private area
 pub fixed-open : (p : Program) (h a i : ℕ) → Sizes p → is_fixed_dword p a ≡ true → i < 8 → is_private h (a + i) ≡ false

@@ -2,7 +2,7 @@
 use Rattle.std.proofs.Common.{◌≡◌, ◌≢◌, ℕ, zero, suc, ◌-◌, ◌^◌, ◌<◌, ◌≤◌, List, length, Bool}
 use Rattle.std.proofs.Common.{true, false, true≢false, ◌⊎◌, inl, inr, refl, sym, ◌∙◌}
 use Rattle.std.proofs.Common.{subst, arith, eq-eqb, eqb-true}
-use Rattle.std.specs.Prelude.{nat_eq, if◌then◌else◌, slice_index}
+use Rattle.std.specs.Prelude.{nat_eq, slice_index}
 use Rattle.std.proofs.Math.ListN.{set}
 use Rattle.std.proofs.lemmas.List.{get_or-set_same, get_or-set_other, length-set}
 use Rattle.tm_table.specs.Row.{put as set_register, loaded as value_of}
@@ -33,14 +33,6 @@ pub put-length : (x : List ℕ) (rd v : ℕ) → length (set_register x rd v) �
 unfolding set_register
 put-length x zero v = refl
 put-length x (suc q) v = length-set x (suc q) v
-
-pub put-fits : (f : Table) (r v : ℕ) → ((q : ℕ) → get f q < 2 ^ 64) → v < 2 ^ 64 → (q : ℕ) → get (put f r v) q < 2 ^ 64
-put-fits f r v h small zero = omega arith
-put-fits f r v h small (suc x) = by (nat_eq (suc x) r)
-  where
-    by : (b : Bool) → (if b then v else f (suc x)) < 2 ^ 64
-    by true = small
-    by false = h (suc x)
 
 -- what a load puts into a register
 pub width-fits : (width v : ℕ) → IsFitting width v → v < 2 ^ 64

@@ -4,7 +4,7 @@ use Rattle.std.proofs.Common.{inr, refl, sym, ap, ◌∙◌, subst, arith, appen
 use Rattle.tm_table.specs.declared.instr.Instr.{Instr}
 use Rattle.tm_table.specs.Row.{Effect, Gives, Loads, Stores, Branches, Jumps}
 use Rattle.tm_runs.specs.Machine.{World, State, Entry, Strays, act, effect_in, after, May, MayAct, Reads, IsNarrow}
-use Rattle.tm_runs.specs.Runs.{Takes, Now, Step, Upto, Unwatched, Came, Went, Strayed, Keeps, Newest, Each, Since}
+use Rattle.tm_runs.specs.Runs.{Takes, Now, Step, Upto, Unwatched, Came, Went, Strayed, KeepsUntil, Newest, Each, Since}
 use Rattle.tm_runs.specs.Runs.{Next, ByTable, InStream, Narrow, Apart, Run, Goes, Runs, Strolls, Stopped, Passed}
 use Rattle.tm_runs.proofs.Compose.{takes_map, upto_map}
 
@@ -63,8 +63,9 @@ upto_since {E = E} (Strayed {s = s} lo hi e g h) =
     (λ t r. upto_map (λ u k. (k.0, since_more r.entry r.log (g t r) k.1))
     (λ u k. (k.0, since_more r.entry r.log (g t r) k.1)) (upto_since (h t r)))
 
-pub keeps_since : {w : World} {E : Entry → Type 0} {Q : State → Type 0} {s : State} → Keeps w (λ t. Newest E t.log) Q s
-    → Keeps w (λ t. Newest E t.log × Since E s t) (λ t. Q t × Since E s t) s
+pub keeps_since : {w : World} {E : Entry → Type 0} {Q : State → Type 0} {s : State}
+    → KeepsUntil w (λ t. Newest E t.log) Q s
+    → KeepsUntil w (λ t. Newest E t.log × Since E s t) (λ t. Q t × Since E s t) s
 keeps_since h = record { upto = λ n. upto_since (h.upto n) }
 
 -- a bounded part makes at most n entries
@@ -147,7 +148,7 @@ module _ (w : World) (apart : Apart w) where
       ⊎ Passed w Q n u t) lo hi e (λ u a. upto_run (h u a) t) r.0 r.1 r.2)
 
   -- so every run of whatever length has G at its end, or has passed Q
-  pub keeps_run : {G Q : State → Type 0} {s : State} → Keeps w G Q s → (k : ℕ) (t : State) → Run w k s t
+  pub keeps_run : {G Q : State → Type 0} {s : State} → KeepsUntil w G Q s → (k : ℕ) (t : State) → Run w k s t
       → ((k ≡ 0) ⊎ G t) ⊎ Passed w Q k s t
   keeps_run h k t r = upto_run (h.upto k) t r
 
@@ -172,7 +173,7 @@ module _ (w : World) (apart : Apart w) where
       ⊎ Passed w Q k u t) lo hi e (λ u a. upto_can (h u a) (omega arith) t) r.0 r.1 r.2)
 
   -- a run that has not passed Q can go on
-  pub keeps_can : {G Q : State → Type 0} {s : State} → Keeps w G Q s → (k : ℕ) (t : State) → Run w k s t → Goes w t
+  pub keeps_can : {G Q : State → Type 0} {s : State} → KeepsUntil w G Q s → (k : ℕ) (t : State) → Run w k s t → Goes w t
       ⊎ Passed w Q k s t
   keeps_can h k t r = upto_can (h.upto (suc k)) refl t r
 

@@ -5,11 +5,22 @@ use Rattle.std.proofs.lemmas.Bool.{cases_lt}
 use Rattle.tm_world.specs.Marks.{Mark, End}
 use Rattle.tm_world.specs.Run.{Step, Always}
 use Rattle.tm_runs.specs.Machine.{World, State, Entry, Strays}
-use Rattle.tm_runs.specs.Runs.{Takes, Keeps, Newest, Each, Since}
+use Rattle.tm_runs.specs.Runs.{Takes, KeepsUntil, Newest, Each, Since}
 use Rattle.tm_runs.specs.Shadow.{entry_of, entries_of}
 use Rattle.tm_runs.specs.Course.{Story, Sofar, Good, Calm}
 use Rattle.tm_runs.proofs.Compose.{takes_map, keeps_map, keeps_stream}
 use Rattle.tm_runs.proofs.Split.{takes_since, takes_count}
+
+-- weaker facts of each entry
+pub each-map : {E F : Entry → Type 0} → ((e : Entry) → E e → F e) → (es : List Entry) → Each E es → Each F es
+each-map f [] h = tt
+each-map f (e ∷ es) h = (f e h.0, each-map f es h.1)
+
+-- and of each with what stands before it
+pub story-map : (F G : List Entry → Entry → Type 0) → ((past : List Entry) (e : Entry) → F past e → G past e)
+    → (log : List Entry) → Story F log → Story G log
+story-map F G f [] h = tt
+story-map F G f (e ∷ log) h = (f log e h.0, story-map F G f log h.1)
 
 -- the story of a hart's own steps
 pub story-own : (F : List Entry → Entry → Type 0) (P : List Step → Step → Type 0)
@@ -135,7 +146,7 @@ module _ (arrive : ℕ → ℕ → List Mark) (F : List Entry → Entry → Type
             inr (e, at-mark (End c ∷ []) p.1 (ap (λ (x : ℕ). arrive t.pc x) e ∙ ends t.pc a b))
 
     pub stream-story : (s : State) → J s → s.pc ≡ lo → lo < hi → Sofar arrive F size ms k s.log
-        → Keeps w (λ t. Good arrive F size way most t.log) (λ t. J t × (t.pc ≡ hi)
+        → KeepsUntil w (λ t. Good arrive F size way most t.log) (λ t. J t × (t.pc ≡ hi)
         × Sofar arrive F size (ms ++ End c ∷ []) k t.log) s
     stream-story s j at some so =
         keeps_map (λ t g. g) at-end (keeps_stream w (λ t. Good arrive F size way most t.log) Inside lo hi held step s

@@ -1,11 +1,10 @@
 -- What stands where in the world of a program's hart.
-use Rattle.std.proofs.Common.{◌≡◌, ◌≢◌, ℕ, ◌+◌, ◌-◌, ◌*◌, ◌/◌, ◌%◌, ◌^◌, ◌<◌, ◌≤◌, length, Bool, true, false, ◌&&◌}
+use Rattle.std.proofs.Common.{◌≡◌, ◌≢◌, ℕ, ◌+◌, ◌-◌, ◌*◌, ◌/◌, ◌%◌, ◌^◌, ◌<◌, ◌≤◌, length, Bool, true, false}
 use Rattle.std.proofs.Common.{◌||◌, ◌==◌, Option, None, Some, inr, refl, ap, ◌∙◌, arith, eq-eqb, ne_eqb}
 use Rattle.std.specs.Prelude.{slice_get, slice_index, if◌then◌else◌}
 use Rattle.std.proofs.lemmas.Bool.Decides.{nat_tests}
+use Rattle.std.proofs.lemmas.Bool.{or_right, and_from}
 use Rattle.tm_table.specs.declared.instr.Instr.{Instr}
-use Rattle.tm_table.specs.Words.{word_of, Fits}
-use Rattle.tm_table.proofs.Decoding.{decoded-word}
 use Rattle.tm_plan_cases.specs.declared.program.Program.{Program}
 use Rattle.tm_plan_map.specs.Map.{text_base, tables_base, private_at, private_size}
 use Rattle.tm_plan_map.specs.Slots.{instr_of}
@@ -16,8 +15,9 @@ use Rattle.tm_runs.specs.Machine.{State}
 use Rattle.tm_runs.specs.Runs.{Stopped}
 use Rattle.tm_runs.specs.World.{Sizes, holds, world_of, support, support_at, bounds, bounds_at, is_fixed_dword}
 use Rattle.tm_runs.specs.World.{is_private_dword, image_dword}
-use Rattle.tm_runs.proofs.Bytes.{same_dword, joined-byte, joined-lt, within-true, within-false}
-use Rattle.tm_runs.proofs.Places.{or-right, private-image, image-lt, fixed-place}
+use Rattle.tm_runs.proofs.Bytes.{same_dword, joined-byte, joined-lt}
+use Rattle.tm_plan_map.proofs.Within.{within-true, within-false}
+use Rattle.tm_runs.proofs.Places.{private-image, image-lt, fixed-place}
 
 -- the sizes of a program's parts, by what is checked of it and what its types give
 pub sizes-of : (p : Program) → IsProgram p → IsTyped p → Sizes p
@@ -39,17 +39,9 @@ fetched p h pc w i out goes word is =
     ∙ (ap (λ (b : Bool). support None b (word_at p pc)) (ne_eqb pc (halt_of p h) goes)
     ∙ (ap (λ (o : Option ℕ). support None false o) word ∙ is))
 
--- the word of an instruction
-pub instr-word : (i : Instr) → Fits i → instr_of (word_of i) ≡ Some i
-unfolding instr_of
-instr-word i f = decoded-word i f
-
 text-aligned : (n : ℕ) → ((text_base + 4 * n) % 4 == 0) ≡ true
 unfolding text_base
 text-aligned n = eq-eqb ((text_base + 4 * n) % 4) 0 (omega arith)
-
-both : {b c : Bool} → b ≡ true → c ≡ true → (b && c) ≡ true
-both p q = cc
 
 -- the k-th word of the text
 pub text-at : (p : Program) (k : ℕ) → k < length p.text → word_at p (text_base + 4 * k) ≡ slice_get p.text k
@@ -57,7 +49,8 @@ text-at p k l =
     let pc = text_base + 4 * k in
     let place : (pc - text_base) / 4 ≡ k = omega arith in
     let inside : is_text p pc ≡ true = within-true text_base (4 * length p.text) pc (omega arith) (omega arith) in
-    ap (λ (b : Bool). if b then slice_get p.text ((pc - text_base) / 4) else None) (both (text-aligned k) inside) ∙ ap
+    ap (λ (b : Bool). if b then slice_get p.text ((pc - text_base) / 4) else None)
+    (and_from _ _ (text-aligned k) inside) ∙ ap
     (λ (n : ℕ). slice_get p.text n) place
 
 -- no step is made at the halt mark, which is in no stream
@@ -79,7 +72,8 @@ held p h c pc e = ap (bounds p h) e
 
 -- ---- dwords
 
-holds-is : (base n a : ℕ) → base ≤ a → a + 8 ≤ base + n → holds base n a ≡ true
+-- 8 bytes in an area
+pub holds-is : (base n a : ℕ) → base ≤ a → a + 8 ≤ base + n → holds base n a ≡ true
 holds-is base n a p q = grind (arith, nat_tests)
 
 pub private-dword : (h a : ℕ) → private_at h ≤ a → a + 8 ≤ private_at h + private_size → is_private_dword h a ≡ true
@@ -89,13 +83,13 @@ private-dword h a p q = holds-is (private_at h) private_size a p q
 pub table-dword : (p : Program) (a : ℕ) → tables_base ≤ a → a + 8 ≤ tables_base + length p.tables
     → is_fixed_dword p a ≡ true
 unfolding is_fixed_dword
-table-dword p a l m = or-right (holds text_base (4 * length p.text) a) _ (holds-is tables_base (length p.tables) a l m)
+table-dword p a l m = or_right (holds text_base (4 * length p.text) a) _ (holds-is tables_base (length p.tables) a l m)
 
 pub own-private : (p : Program) (h a : ℕ) → is_private_dword h a ≡ true → (world_of p h).own a ≡ true
 own-private p h a e = ap (λ (b : Bool). b || is_fixed_dword p a) e
 
 pub own-fixed : (p : Program) (h a : ℕ) → is_fixed_dword p a ≡ true → (world_of p h).own a ≡ true
-own-fixed p h a e = or-right (is_private_dword h a) (is_fixed_dword p a) e
+own-fixed p h a e = or_right (is_private_dword h a) (is_fixed_dword p a) e
 
 -- flags, verdicts, private areas and windows stand behind text and tables
 pub not-fixed : (p : Program) (a : ℕ) → Sizes p → 0x80C00000 ≤ a → is_fixed_dword p a ≡ false

@@ -2,7 +2,7 @@
 use Rattle.std.specs.Prelude.{◌≡◌, ℕ, ◌≤◌, List, [], ◌∷◌, ◌++◌}
 use Rattle.tm_world.specs.Marks.{Mark}
 use Rattle.tm_runs.specs.Machine.{World, State, Entry}
-use Rattle.tm_runs.specs.Runs.{Keeps}
+use Rattle.tm_runs.specs.Runs.{KeepsUntil}
 
 -- the marks that steps come to, the first of them first, where a step from one address to another comes to some
 abbrev pub trail : (ℕ → ℕ → List Mark) → List Entry → List Mark
@@ -19,7 +19,7 @@ pub record Grows (before ms after : List Mark) : Type 0 where
 -- From P every run comes to these marks, in this order, and then to Q, if it goes on.
 pub record Part (w : World) (arrive : ℕ → ℕ → List Mark) (P : State → Type 0) (ms : List Mark) (Q : State
     → Type 0) : Type 0 where
-  pub keeps : (s : State) → P s → Keeps w (λ t. Grows (trail arrive s.log) ms (trail arrive t.log)) (λ t. Q t
+  pub keeps : (s : State) → P s → KeepsUntil w (λ t. Grows (trail arrive s.log) ms (trail arrive t.log)) (λ t. Q t
       × (trail arrive t.log ≡ trail arrive s.log ++ ms)) s
 
 -- F holds of each entry of a log and of what stands before it.

@@ -25,7 +25,7 @@ pub data Upto (w : World) (G Q : State → Type 0) : ℕ → State → Type 0 wh
       → Upto w G Q (suc n) s
 
 -- Every run from s has G after each step and never lacks a next step, until it comes to Q, if ever.
-pub record Keeps (w : World) (G Q : State → Type 0) (s : State) : Type 0 where
+pub record KeepsUntil (w : World) (G Q : State → Type 0) (s : State) : Type 0 where
   pub upto : (n : ℕ) → Upto w G Q n s
 
 -- these instructions stand in the text from this address on

@@ -1,12 +1,11 @@
 -- The headline: a round case is reported exactly where some checked part differs between two passes.
-use Rattle.std.proofs.Common.{◌≡◌, ◌≢◌, ℕ, zero, suc, ◌+◌, ◌-◌, ◌*◌, ◌/◌, ◌%◌, ◌^◌, ◌<◌, ◌≤◌, List, [], ◌∷◌, ◌++◌, map}
-use Rattle.std.proofs.Common.{length, Bool, true, false, nat_lt, ◌||◌, ◌==◌, Option, None, Some, inl, inr, refl, sym, ap, ap₂, ◌∙◌}
-use Rattle.std.proofs.Common.{subst, arith, eqb-true, eq-eqb}
+use Rattle.std.proofs.Common.{◌≡◌, ◌≢◌, ℕ, zero, suc, ◌+◌, ◌-◌, ◌*◌, ◌<◌, ◌≤◌, List, [], ◌∷◌, ◌++◌, map, length, Bool}
+use Rattle.std.proofs.Common.{true, false, ◌||◌, nat_lt, Option, None, Some, inl, inr, refl, sym, ap, ap₂, ◌∙◌, subst}
+use Rattle.std.proofs.Common.{arith, eqb-true, eq-eqb}
 use Rattle.std.specs.Prelude.{◌⊎◌, IsTrue, All, slice_get, slice_index, if◌then◌else◌, option_map}
 use Rattle.std.specs.List.{AllByRecursion as Each}
 use Rattle.std.proofs.lemmas.Bool.{cases_Bool, cases_eq, false≢true, lt-ltb, le-ltb}
 use Rattle.std.proofs.lemmas.List.Elements.{All-head, All-from_get_or, All-from_recursion, recursion_from_All}
-use Rattle.tm_table.specs.declared.state.Access.{Access}
 use Rattle.tm_table.specs.declared.state.Access.TheVariants.{Write}
 use Rattle.tm_table.specs.State.{Hart}
 use Rattle.tm_plan_cases.specs.declared.program.Program.{Program}
@@ -15,19 +14,19 @@ use Rattle.tm_plan_cases.specs.Collected.{is_declared, collector, owned}
 use Rattle.tm_plan_map.specs.Map.{verdict_at, windows_base, windows_size}
 use Rattle.tm_base.specs.Lists.{any, count_from}
 use Rattle.tm_world.specs.Lists.{or_else}
-use Rattle.tm_world.specs.Place.{harts, case_count, passes, round_count, is_window}
-use Rattle.tm_world.specs.Run.{Step, Run, Always, own, now, hart_of, access_of, earliest}
+use Rattle.tm_world.specs.Place.{harts, passes, round_count}
+use Rattle.tm_world.specs.Run.{Step, Run, Always, own, hart_of, access_of, earliest}
 use Rattle.tm_world.specs.Kinds.{Half, first_of_hart}
-use Rattle.tm_world.specs.Course.{KeepsVerdicts, HartCourse, writes_in}
-use Rattle.tm_world.specs.Verdict.{Part, Register, Byte, end_value, left_with, first_read, parts, saved, is_checked}
+use Rattle.tm_world.specs.Course.{KeepsVerdicts, writes_in}
+use Rattle.tm_world.specs.Verdict.{Part, Register, Byte, end_value, left_with, parts, saved, is_checked}
 use Rattle.tm_world.specs.Verdict.{Same, IsVerdict, agree, differ, WritesExactly, HasEnds}
-use Rattle.tm_world.specs.Checked.{IsCheckedByte, IsCheckedRegister}
 use Rattle.tm_world.specs.Reported.{Sometimes, AllAtHalt, Reports, IsReported, IsChecked, end_in, Differs}
 use Rattle.tm_world.specs.Sound.{Sound}
-use Rattle.tm_runs.proofs.Places.{within-parts}
+use Rattle.tm_plan_map.proofs.Within.{within-parts}
 use Rattle.tm_legal.specs.Tame.{Formed}
 use Rattle.tm_legal.proofs.Own.{own-here, own-there}
-use Rattle.tm_legal.proofs.Streams.{none-past, stream-of}
+use Rattle.tm_base.proofs.ListLemmas.{none-past}
+use Rattle.tm_world.proofs.Streams.{stream-of}
 use Rattle.tm_legal.proofs.Sound.{sound-plain}
 use Rattle.tm_stays.proofs.Dwords.{lies, dword_of, dword-place, of-owned}
 use Rattle.tm_meet.proofs.Dwords.{dword-collector}

@@ -10,7 +10,8 @@ use Rattle.tm_world.specs.Work.{GoesOn}
 use Rattle.tm_world.specs.Verdict.{WritesExactly}
 use Rattle.tm_world.specs.Checked.{AreChecked}
 use Rattle.tm_meet.specs.First.{SetsFirst}
-use Rattle.tm_pace.specs.Pace.{Pace, KeepsPace, PaceFits}
+use Rattle.tm_pace.specs.Pace.{PaceFits}
+use Rattle.tm_stays.specs.Pace.{Pace, KeepsPace}
 
 -- What hart h keeps on half runs.
 pub record HartParts (p : Program) (h : ℕ) : Type 0 where

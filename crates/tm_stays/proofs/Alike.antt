@@ -17,6 +17,7 @@ use Rattle.tm_table.proofs.Signs.{low-lt}
 use Rattle.tm_plan_cases.specs.declared.program.Program.{Program}
 use Rattle.tm_plan_cases.specs.declared.cases.Stream.{Stream}
 use Rattle.tm_base.specs.Lists.{count_from}
+use Rattle.tm_base.proofs.ListLemmas.{index-counted}
 use Rattle.tm_plan_map.specs.Slots.{load_width, is_access}
 use Rattle.tm_world.specs.Lists.{or_else}
 use Rattle.tm_world.specs.Place.{harts, case_count, exit_of, start_of, inside, word_at}
@@ -25,10 +26,11 @@ use Rattle.tm_plan_cases.specs.Streams.{stream_in}
 use Rattle.tm_world.specs.Kinds.{IsOpening}
 use Rattle.tm_world.specs.Verdict.{Register, end_value, left_with}
 use Rattle.tm_world.specs.Writers.{run_phase}
+use Rattle.tm_world.proofs.Streams.{case-of, shaped-stream}
 use Rattle.tm_runs.proofs.Rows.{decoded-row}
 use Rattle.tm_legal.specs.Tame.{Formed}
 use Rattle.tm_legal.proofs.Rows.{IsOfKind, of-kind, IsMachine}
-use Rattle.tm_legal.proofs.Streams.{slot-at, case-of, shaped-stream}
+use Rattle.tm_legal.proofs.Streams.{slot-at}
 use Rattle.tm_legal.proofs.Order.{entered}
 use Rattle.tm_legal.proofs.Half.{Known, known-before, path-machine, legal-known}
 use Rattle.tm_stays.specs.Laws.{HasNoLoad, PassesAlike}
@@ -79,12 +81,6 @@ far p hart (suc n) = onward p (far p hart n)
 abbrev fresh_list : Stream → List ℕ
 fresh_list stream = map (λ r. slice_index stream.regs r) (count_from 0 32)
 
-index-map : (f : ℕ → ℕ) (n a r : ℕ) → r < n → slice_index (map f (count_from a n)) r ≡ f (a + r)
-index-map f zero a r l = absurd (omega arith)
-index-map f (suc n) a zero l = ap f (let e : a ≡ a + 0 = omega arith in e)
-index-map f (suc n) a (suc r) l = index-map f n (suc a) r (omega arith) ∙ ap f (let e : suc a + r
-    ≡ a + suc r = omega arith in e)
-
 -- a hart that has just come in
 abbrev pub entry : Program → ℕ → ℕ → Stream → Hart
 entry p h c stream = record { pc = start_of p h c; x = fresh_list stream }
@@ -111,7 +107,7 @@ comes-in p formed h c stream is x o s past k out in' =
     let regs : s.after.x ≡ fresh_list stream = ext_get_or 0 s.after.x (fresh_list stream) m.count (λ r l. let b : r
     < 32 = omega (arith, m.count) in
     each r b ∙ (ap (λ (q : ℕ). slice_index stream.regs q) (let z : r ≡ 0 + r = omega arith in
-    z) ∙ sym (index-map (λ q. slice_index stream.regs q) 32 0 r b))) in
+    z) ∙ sym (index-counted (λ q. slice_index stream.regs q) 32 0 r b))) in
     λ i. record { pc = at i; x = regs i }
 
 -- ---- stays

@@ -11,8 +11,8 @@ use Rattle.tm_plan_map.specs.Map.{window_at, windows_base}
 use Rattle.tm_plan_cases.specs.Collected.{declares, is_declared, collector, window_dwords, owned}
 use Rattle.tm_base.specs.Lists.{any, count_from}
 use Rattle.tm_plan_cases.specs.Shaped.{IsShapedWindow, AreShaped}
-use Rattle.tm_runs.proofs.Places.{within-parts}
-use Rattle.tm_runs.proofs.Bytes.{within-true}
+use Rattle.tm_plan_map.proofs.Within.{within-parts}
+use Rattle.tm_plan_map.proofs.Within.{within-true}
 use Rattle.tm_legal.proofs.Streams.{window-declared}
 
 -- the window of a shared byte

@@ -12,9 +12,9 @@ use Rattle.tm_world.specs.Run.{Step, now, first_state, phase}
 use Rattle.tm_world.specs.Kinds.{HalfPath}
 use Rattle.tm_world.specs.Marks.{Mark, Exit, Enter, End, Halt, Stray, comes_to, arrivals, visited}
 use Rattle.tm_world.specs.Course.{KeepsOrder}
+use Rattle.tm_world.proofs.Streams.{shaped-stream, stream-of}
 use Rattle.tm_runs.proofs.Arrivals.{inside-true}
 use Rattle.tm_legal.specs.Tame.{Formed}
-use Rattle.tm_legal.proofs.Streams.{stream-of, shaped-stream}
 use Rattle.tm_legal.proofs.Weights.{weight, weight-append, weight-those, weight-three, weight-arrivals, met-weight}
 use Rattle.tm_legal.proofs.Order.{sum-part, none-holds, one-holds}
 use Rattle.tm_stays.proofs.Fronts.{exits, enters}

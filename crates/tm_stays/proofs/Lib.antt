@@ -5,4 +5,3 @@ pub mod Turns
 pub mod Right
 pub mod Entries
 pub mod Dwords
-pub mod Options

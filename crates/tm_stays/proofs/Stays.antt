@@ -19,12 +19,13 @@ use Rattle.tm_world.specs.Kinds.{IsOpening, stream_at}
 use Rattle.tm_world.specs.Marks.{Mark, Exit, Enter, End, Halt, Stray, comes_to, arrivals, visited, pass_way, whole_way}
 use Rattle.tm_world.specs.Course.{KeepsOrder}
 use Rattle.tm_world.specs.Work.{work_steps, idle_lately}
+use Rattle.tm_world.proofs.Streams.{stream-case, case-of, stream-of}
 use Rattle.tm_legal.specs.Tame.{Formed}
 use Rattle.tm_stays.specs.Stays.{one_outside, one_inside, outside_steps, inside_steps, stay_steps, outside_work}
 use Rattle.tm_stays.specs.Stays.{words_in}
 use Rattle.tm_stays.specs.Laws.{EachStayShort, StaysShort, WorksLittle, EndsSoon}
 use Rattle.tm_legal.proofs.Weights.{weight, weight-append, weight-front, weight-way, weight-arrivals}
-use Rattle.tm_legal.proofs.Streams.{stream-case, case-of, stream-of, inside-parts, Onward}
+use Rattle.tm_legal.proofs.Streams.{inside-parts, Onward}
 use Rattle.tm_legal.proofs.Order.{NoStray, no_stray-before, order-no_stray, sum-part, stream-none, stream-some, entered}
 use Rattle.tm_legal.proofs.Half.{Known, known-before, known-moves, legal-known, on-legal}
 

@@ -20,10 +20,11 @@ use Rattle.tm_world.specs.Kinds.{HalfPath, HalfStep, stream_at}
 use Rattle.tm_world.specs.Marks.{Mark, Exit, Enter, End, Halt, Stray, comes_to, all_marks, arrivals, visited}
 use Rattle.tm_world.specs.Course.{KeepsOrder}
 use Rattle.tm_world.specs.Whole.{marks_of, mark_addresses}
+use Rattle.tm_world.proofs.Streams.{shaped-stream, stream-of}
 use Rattle.tm_runs.proofs.Arrivals.{inside-true}
 use Rattle.tm_legal.specs.Tame.{Formed}
 use Rattle.tm_legal.proofs.Weights.{weight, weight-append, weight-those, weight-three, weight-arrivals, met-weight}
-use Rattle.tm_legal.proofs.Streams.{stream-of, shaped-stream, inside-parts}
+use Rattle.tm_legal.proofs.Streams.{inside-parts}
 use Rattle.tm_legal.proofs.Order.{stream-none, stream-some, sum-part, order-no_stray, entered}
 use Rattle.tm_stays.specs.Laws.{StaysInPhase}
 use Rattle.tm_stays.proofs.Fronts.{exits, entering, ending, Turns, way-turns}

@@ -1,2 +1,4 @@
 pub mod Stays
 pub mod Laws
+pub mod First
+pub mod Pace

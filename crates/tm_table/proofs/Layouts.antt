@@ -79,9 +79,6 @@ same_fields f g a b c d e h k = λ t. record {
   funct6 = k t;
 }
 
-both : (x y : Bool) → (x && y) ≡ true → (x ≡ true) × (y ≡ true)
-both x y h = and_parts x y h
-
 pub parts-read : (l : Layout) (op : Op) (r : Row) (f : Fields) → InRange f → f.opcode ≡ r.opcode → fixes l r f ≡ true
     → parts_as l r (read_as l op f) ≡ f
 parts-read R op r f h o x =

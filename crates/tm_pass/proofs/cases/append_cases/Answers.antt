@@ -1,6 +1,6 @@
 use Rattle.std.proofs.Common.{◌≡◌, ℕ, suc, ◌+◌, ◌<◌, ◌++◌, length, drop, ap, ◌∙◌, sym, arith}
 use Rattle.tm_pass_text.specs.Words.{cases_words, streams_of}
-use Rattle.tm_pass_steps.specs.Hart.{blocks_of}
+use Rattle.tm_pass_text.specs.Hart.{blocks_of}
 use Rattle.tm_pass_place.proofs.Heads.{case-few}
 use Rattle.tm_pass.proofs.CaseLemmas.{words-next, words-end}
 use Rattle.tm_pass.proofs.cases.append_cases.Goals as goal

@@ -1,6 +1,6 @@
 use Rattle.std.proofs.Common.{◌≡◌, ◌+◌, ◌*◌, ◌%◌, ◌≤◌, ◌++◌, drop}
 use Rattle.tm_pass_text.specs.Words.{cases_words, streams_of}
-use Rattle.tm_pass_steps.specs.Hart.{blocks_of}
+use Rattle.tm_pass_text.specs.Hart.{blocks_of}
 use Rattle.tm_pass.proofs.cases.append_cases.Given as goal
 
 abbrev pub invariant-loop-c : goal.invariant-loop-c

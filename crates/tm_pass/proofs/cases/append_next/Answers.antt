@@ -1,7 +1,7 @@
 use Rattle.std.proofs.Common.{ℕ, List, length, ap, ◌∙◌, arith, length-append}
 use Rattle.tm_pass_text.specs.Words.{case_size, case_words}
 use Rattle.tm_pass_text.proofs.Stands.{length-case}
-use Rattle.tm_pass_steps.specs.Hart.{blocks_of}
+use Rattle.tm_pass_text.specs.Hart.{blocks_of}
 use Rattle.tm_pass.proofs.cases.append_next.Goals as goal
 
 pub returns-clause-behind : goal.returns-clause-behind

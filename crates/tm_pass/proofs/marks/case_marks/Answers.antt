@@ -1,6 +1,6 @@
 use Rattle.std.proofs.Common.{◌≡◌, ℕ, suc, ◌+◌, ◌*◌, ◌<◌, List, [], ◌∷◌, ◌++◌, length, sym, ap₂, ◌∙◌, arith}
 use Rattle.tm_pass_text.specs.Words.{before_size}
-use Rattle.tm_pass_steps.specs.Hart.{blocks_of}
+use Rattle.tm_pass_text.specs.Hart.{blocks_of}
 use Rattle.tm_pass_place.specs.Built.{start_at, end_at}
 use Rattle.tm_pass_place.proofs.Heads.{case-few, head-next, stream}
 use Rattle.tm_pass.proofs.CaseLemmas.{count-on}

@@ -3,7 +3,7 @@ use Rattle.std.proofs.Common.{arith}
 use Rattle.tm_base.specs.Lists.{count_from}
 use Rattle.tm_plan_cases.specs.declared.program.Marks.{Marks}
 use Rattle.tm_plan_map.specs.Map.{text_base, tables_base}
-use Rattle.tm_pass_steps.specs.Hart.{words_of_hart}
+use Rattle.tm_pass_text.specs.Hart.{words_of_hart}
 use Rattle.tm_pass_place.specs.Built.{start_at, end_at, exit_at, halt_at, start_in, end_in, exit_in, halt_in, marks_in}
 use Rattle.tm_pass.proofs.CaseLemmas.{count-on}
 use Rattle.tm_pass.proofs.Gates.{words-many}

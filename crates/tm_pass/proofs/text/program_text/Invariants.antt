@@ -2,7 +2,7 @@ use Rattle.std.proofs.Common.{◌≡◌, ℕ, length, map, flat_map}
 use Rattle.tm_base.specs.Lists.{count_from}
 use Rattle.tm_plan_map.specs.Map.{text_base}
 use Rattle.tm_pass_text.specs.Words.{base_of, text_words}
-use Rattle.tm_pass_steps.specs.Hart.{blocks_of}
+use Rattle.tm_pass_text.specs.Hart.{blocks_of}
 use Rattle.tm_pass_place.specs.Built.{start_in, end_in, exit_in, halt_in}
 use Rattle.tm_pass.proofs.text.program_text.Given as goal
 

@@ -1,7 +1,7 @@
 use Rattle.std.proofs.Common.{ap, ◌∙◌}
 use Rattle.tm_asm.specs.Sheet.{Sheet, puts}
 use Rattle.tm_pass_text.specs.Words.{case_behind}
-use Rattle.tm_pass_steps.specs.Hart.{blocks_of}
+use Rattle.tm_pass_text.specs.Hart.{blocks_of}
 use Rattle.tm_pass_code.proofs.cases.append_behind.Goals as goal
 
 pub append_code-requires : goal.append_code-requires

@@ -1,7 +1,7 @@
 use Rattle.std.proofs.Common.{ℕ, length, sym, ap, ◌∙◌, subst, ◌≤◌}
 use Rattle.tm_asm.specs.Sheet.{Sheet, puts}
 use Rattle.tm_blocks_move.specs.Lines.{first_bytes}
-use Rattle.tm_pass_steps.specs.Hart.{first_at}
+use Rattle.tm_pass_text.specs.Hart.{first_at}
 use Rattle.tm_pass_code.proofs.Blank.{plain-length}
 use Rattle.tm_pass_code.proofs.cases.first_size.Goals as goal
 

@@ -4,7 +4,7 @@ use Rattle.tm_blocks_base.specs.Blocks.{load_registers}
 use Rattle.tm_blocks_code.proofs.Puts.{and_then}
 use Rattle.tm_blocks_move.specs.Lines.{first_bytes}
 use Rattle.tm_pass_text.specs.Words.{call, reset, case_before}
-use Rattle.tm_pass_steps.specs.Hart.{first_at, registers_at}
+use Rattle.tm_pass_text.specs.Hart.{first_at, registers_at}
 use Rattle.tm_pass_code.proofs.parts.put_before.Goals as goal
 
 pub returns : goal.returns

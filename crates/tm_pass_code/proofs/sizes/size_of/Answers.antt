@@ -1,6 +1,6 @@
 use Rattle.std.proofs.Common.{arith}
 use Rattle.tm_blocks_base.proofs.Lengths.{length-load_registers, length-save_registers}
-use Rattle.tm_pass_steps.specs.Hart.{registers_at}
+use Rattle.tm_pass_text.specs.Hart.{registers_at}
 use Rattle.tm_pass_code.proofs.sizes.size_of.Goals as goal
 
 pub returns-clause-before : goal.returns-clause-before

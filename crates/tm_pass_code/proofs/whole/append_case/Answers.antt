@@ -2,7 +2,7 @@ use Rattle.std.proofs.Common.{◌≡◌, ◌+◌, ◌-◌, ◌*◌, length, arit
 use Rattle.tm_blocks_base.specs.Blocks.{load_registers, save_registers}
 use Rattle.tm_blocks_base.proofs.Lengths.{length-load_registers, length-save_registers}
 use Rattle.tm_blocks_move.specs.Lines.{first_bytes, collect_all}
-use Rattle.tm_pass_steps.specs.Hart.{blocks_of, first_at, registers_at}
+use Rattle.tm_pass_text.specs.Hart.{blocks_of, first_at, registers_at}
 use Rattle.tm_pass_code.proofs.Case.{case_built}
 use Rattle.tm_pass_code.proofs.whole.append_case.Goals as goal
 

@@ -1,6 +1,6 @@
 use Rattle.std.proofs.Common.{ℕ, List, subst, sym}
 use Rattle.tm_plan_journal.specs.Journaled.{Journaled}
-use Rattle.tm_guest.specs.Fields.{AreDecoded, Keeps}
+use Rattle.tm_guest.specs.Fields.{AreDecoded, KeepsReplay}
 use Rattle.tm_guest.proofs.Opening.{keeps-fresh}
 use Rattle.tm_guest.proofs.guest.Guest.start.Goals as goal
 
@@ -13,6 +13,6 @@ invariant_of-result c =
     let ram = c.in_ok-ram.ram in
     let asked = c.requires in
     let rows = subst (λ (ws : List ℕ). AreDecoded ws decodes) c.as_slice.ensures c.in_ok-decodes.ensures in
-    subst (λ (j : Journaled). Keeps p lines c.args.limit decodes harts ram j) (sym c.in_ok-journal.ensures)
+    subst (λ (j : Journaled). KeepsReplay p lines c.args.limit decodes harts ram j) (sym c.in_ok-journal.ensures)
     (keeps-fresh p lines c.args.limit decodes harts ram asked.program asked.none asked.unstuck asked.few rows
     c.in_ok-harts.ensures c.in_ok-ram.ensures)

@@ -2,7 +2,7 @@ use Rattle.std.proofs.Common.{◌≡◌, ℕ, List, get_or, refl, set, sym, subs
 use Rattle.tm_table.specs.State.{Hart, hart_of}
 use Rattle.tm_table.specs.Row.{row}
 use Rattle.tm_world.specs.Kinds.{IsPossible}
-use Rattle.tm_guest.specs.Fields.{Keeps}
+use Rattle.tm_guest.specs.Fields.{KeepsReplay}
 use Rattle.tm_guest.specs.Waiting.{phase_after, signalled_after}
 use Rattle.tm_guest.proofs.Stepping.{Acts, state-shown, phase-shown, next-one, turned}
 use Rattle.tm_guest.proofs.guest.Guest.step.Goals as goal
@@ -41,7 +41,7 @@ invariant_of-self c =
     let flag =
     subst (λ (marks : List ℕ). new.signalled ≡ signalled_after (get_or marks h 0) h event old.signalled)
     c.as_slice.ensures e.signalled in
-    subst (Keeps held.program.now held.faults held.limit held.decodes.items (set held.harts.items h new) ram)
+    subst (KeepsReplay held.program.now held.faults held.limit held.decodes.items (set held.harts.items h new) ram)
     (sym c.put.ensures)
     (turned c.args.self.now _ _ _ h _ _ _ _ c.self.view_is c.self.invariant c.requires.below c.requires.off_halt at
     c.row-at.ensures event (hart_of new.cpu)
