@@ -5,7 +5,7 @@ mod call;
 mod program;
 
 pub use call::{Outcome, still, top};
-pub use program::{NoWords, outcome_of, run};
+pub use program::{NoWords, exit_of, outcome_of, run};
 pub use tm_refusals::Role;
 pub use tm_sample::laws::always_accepted;
 pub use tm_sample::sample_texts;
