@@ -64,7 +64,7 @@ def compare_run(crate):
     files = {f"data/{p.name}": p.read_bytes() for p in data.iterdir()} if data.is_dir() else {}
     files |= {name.removeprefix("data/"): file for name, file in list(files.items())}
     out = Sink()
-    call = Call(words, Desk(files), out, Sink())
+    call = Call(words, Desk(files), out, Sink(), ("round", "threads"))
     status = int((folder / "status").read_text()) if (folder / "status").exists() else 0
     stored = folder / "stdout"
     agrees = out.taken == (stored.read_bytes() if stored.exists() else b"") and call.status == status

@@ -1,4 +1,4 @@
-"""Whole commands, but runs by threads, over a desk and two sinks."""
+"""Whole commands over a desk and two sinks; of the runs by threads those of one hart alone."""
 
 from . import template, texts, topology
 from .faults import Fault
@@ -27,19 +27,20 @@ def number_of(word):
     return number_or_none(word.encode())
 
 
-def read_run(words):
-    """The image and the most events of words that ask for a run in round order, or None."""
+def read_run(words, orders):
+    """The image, the most events and the order of words that ask for a run in one of the orders, or None."""
     options = dict(zip(words[2::2], words[3::2]))
-    if len(words) not in (4, 6) or not is_file_name(words[1]) or len(options) != len(words) // 2 - 1:
+    if len(words) not in (2, 4, 6) or not is_file_name(words[1]) or len(options) != len(words) // 2 - 1:
         return None
     events = number_of(options.pop("--events", str(MOST_EVENTS)))
-    if options != {"--order": "round"} or events is None or not 1 <= events <= 100_000_000:
+    order = options.pop("--order", "threads")
+    if options or order not in orders or events is None or not 1 <= events <= 100_000_000:
         return None
-    return words[1], events
+    return words[1], events, order
 
 
-def read_words(words):
-    """The command that the words ask for: a name and its parts, or None."""
+def read_words(words, orders):
+    """The command that the words ask for, where runs may have these orders: a name and its parts, or None."""
     if words[:1] == ["build"] and len(words) == 6 and all(is_file_name(w) for w in words[1:4]):
         seed = number_of(words[5])
         return ("build", *words[1:4], seed) if words[4] == "--seed" and seed is not None else None
@@ -48,21 +49,21 @@ def read_words(words):
     if words[:1] == ["sample"] and len(words) == 2 and number_of(words[1]) is not None:
         return ("sample", number_of(words[1]))
     if words[:1] == ["run"]:
-        found = read_run(words)
+        found = read_run(words, orders)
         return ("run", *found) if found else None
     return None
 
 
 class Call:
-    """One call of a command: its status, and whether it answered a journal."""
+    """One call of a command, where runs may have these orders: its status, and whether it answered a journal."""
 
-    def __init__(self, words, desk, out, err):
+    def __init__(self, words, desk, out, err, orders=("round",)):
         self.desk = desk
         self.out = out
         self.err = err
         self.journal = False
         try:
-            self.status = self.do(read_words(words))
+            self.status = self.do(read_words(words, orders))
         except Stop as stop:
             self.status = stop.status
             try:
@@ -123,8 +124,11 @@ class Call:
             return 4
         return 1 if texts.reported(run) else 0
 
-    def run(self, name, events):
-        return self.told(Run(self.opened(name), events), texts.report)
+    def run(self, name, events, order):
+        run = Run(self.opened(name), events)
+        if order == "threads" and run.cases.harts != 1:
+            raise NotImplementedError("a run of many harts by threads has more than one end")
+        return self.told(run, texts.report)
 
     def sample(self, n):
         run = Run(Image(*texts.sample_texts(n), n), MOST_EVENTS)

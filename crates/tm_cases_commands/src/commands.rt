@@ -1,9 +1,9 @@
 // Whole commands over desks and sinks in memory.
+use crate::outcomes::{held, put_files, put_taken};
 use std::alloc::Global;
 use std::str;
 use tm_base::{Bytes, NoMemory, push_decimal};
 use tm_cases_book::{State, calls, option, put_text, small, words_of};
-use tm_cases_outcomes::{held, put_files, put_taken};
 use tm_desk::{MemDesk, MemSink};
 use tm_top::still;
 

@@ -2,6 +2,7 @@
 #![tactic(auto)]
 
 mod commands;
+mod outcomes;
 
 use commands::{command, image, slice};
 use std::process::ExitCode;
