@@ -86,6 +86,51 @@ impl Book {
         find_in(self.entries.as_slice(), name)
     }
 
+    /// Whether a text has the name.
+    pub fn has(&self, name: &str) -> bool {
+        self.place(name) < self.entries.len()
+    }
+
+    /// Whether a text is written as a file of cases writes bytes, with names that texts have.
+    pub fn is_text(&self, text: &str) -> bool {
+        let mut part = Part::Plain;
+        for (at, byte) in text.as_bytes().iter().enumerate() {
+            let Some(next) = self.followed(text, part, at, *byte) else {
+                return false;
+            };
+            part = next;
+        }
+        matches!(part, Part::Plain)
+    }
+
+    // What follows behind a byte, if it may stand there.
+    fn followed(&self, text: &str, part: Part, at: usize, byte: u8) -> Option<Part> {
+        match part {
+            Part::Plain => match byte {
+                b'\\' => Some(Part::Escape),
+                b'{' => Some(Part::Name(at)),
+                _ => Some(Part::Plain),
+            },
+            Part::Escape => match byte {
+                b'x' => Some(Part::First),
+                b'n' | b't' | b'r' | b'e' | b'\\' => Some(Part::Plain),
+                _ => None,
+            },
+            Part::First if is_digit(byte) => Some(Part::Second(0)),
+            Part::Second(_) if is_digit(byte) => Some(Part::Plain),
+            Part::First | Part::Second(_) => None,
+            Part::Name(from) => {
+                if byte != b'}' {
+                    return Some(part);
+                }
+                if self.has(text.get(from.saturating_add(1)..at).unwrap_or("")) {
+                    return Some(Part::Plain);
+                }
+                None
+            }
+        }
+    }
+
     /// The bytes that a text writes.
     pub fn read(&self, text: &str) -> Result<Bytes, NoMemory> {
         let mut out = Bytes::new(self.alloc);
@@ -158,6 +203,10 @@ fn escaped(out: &mut Bytes, byte: u8) -> Result<Part, NoMemory> {
         _ => out.push(byte)?,
     }
     Ok(Part::Plain)
+}
+
+fn is_digit(byte: u8) -> bool {
+    matches!(byte, b'0'..=b'9' | b'a'..=b'f')
 }
 
 fn digit(byte: u8) -> u8 {

@@ -3,6 +3,7 @@
 
 mod book;
 mod change;
+mod form;
 mod lines;
 mod program;
 mod show;

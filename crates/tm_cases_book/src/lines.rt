@@ -1,6 +1,7 @@
 // A file of cases, line by line.
 use crate::book::Book;
 use crate::change::changed;
+use crate::form::has_form;
 use crate::state::State;
 use crate::words::small;
 use std::str;
@@ -8,6 +9,11 @@ use tm_base::{Bytes, NoMemory};
 
 /// The kinds of case that a program answers.
 pub trait Kinds {
+    /// The form of what stands behind the word of a kind, if there is the kind. It has a letter for each word: `n` a
+    /// number, `o` a number or nothing, `t` a text by its name, `w` any word. A capital is all that is left: `X` a
+    /// text, `C` changes, `S` settings, `O` settings, a colon and a text.
+    fn form(&self, kind: &str) -> Option<&'static str>;
+
     /// Appends what the call of a case answers, whose line is a kind and the rest behind it.
     fn answer(
         &self,
@@ -39,6 +45,12 @@ fn put_line<K: Kinds>(
     out: &mut Bytes,
 ) -> Result<(), NoMemory> {
     let (kind, rest) = line.split_once(' ').unwrap_or((line, ""));
+    let form = form_of_set(kind).or(kinds.form(kind));
+    if !form.is_some_and(|form| has_form(&state.texts, form, rest)) {
+        state.failed = true;
+        out.append(line.as_bytes())?;
+        return out.append(b"\n  not a case\n");
+    }
     if set(state, kind, rest)? {
         return Ok(());
     }
@@ -46,6 +58,17 @@ fn put_line<K: Kinds>(
     out.append(b"\n  ")?;
     kinds.answer(state, kind, rest, out)?;
     out.append(b"\n")
+}
+
+/// The form of what stands behind the word of a line that sets something.
+fn form_of_set(kind: &str) -> Option<&'static str> {
+    match kind {
+        "let" | "hold" => Some("wX"),
+        "times" => Some("wnX"),
+        "change" => Some("wtC"),
+        "drop" => Some(""),
+        _ => None,
+    }
 }
 
 /// Whether the line sets something, and then it is done.

@@ -25,7 +25,8 @@ fn print_answers<K: Kinds, D: Desk, O: Sink>(
     put_all(out, text.as_slice()).map_err(|_| 5)
 }
 
-/// Prints the answers of the files: 5 where one can't be read or nothing can be printed, 6 for want of memory.
+/// Prints the answers of the files: 5 where one can't be read or nothing can be printed, 6 for want of memory, and 1
+/// where some line is no case.
 pub fn answer_files<K: Kinds>(rt: HostRuntime, files: &[&str], kinds: &K) -> ExitCode {
     let alloc = rt.alloc();
     let mut state = State::new(alloc);
@@ -36,5 +37,5 @@ pub fn answer_files<K: Kinds>(rt: HostRuntime, files: &[&str], kinds: &K) -> Exi
             return ExitCode::from(status);
         }
     }
-    ExitCode::SUCCESS
+    ExitCode::from(u8::from(state.failed))
 }

@@ -5,12 +5,13 @@ use std::alloc::Global;
 use tm_base::NoMemory;
 use tm_desk::MemDesk;
 
-/// The texts by name, and the files that the next call finds on its desk.
+/// The texts by name, the files that the next call finds on its desk, and whether some line was no case.
 #[derive(Drop)]
 pub struct State {
     pub alloc: Global,
     pub texts: Book,
     pub held: Book,
+    pub failed: bool,
 }
 
 impl State {
@@ -19,6 +20,7 @@ impl State {
             alloc,
             texts: Book::new(alloc),
             held: Book::new(alloc),
+            failed: false,
         }
     }
 

@@ -13,6 +13,15 @@ use tm_cases_book::{Kinds, State, answer_files};
 struct CommandCases;
 
 impl Kinds for CommandCases {
+    fn form(&self, kind: &str) -> Option<&'static str> {
+        match kind {
+            "image" => Some("wttw"),
+            "bytes" => Some("tnn"),
+            "command" => Some("O"),
+            _ => None,
+        }
+    }
+
     fn answer(
         &self,
         state: &mut State,

@@ -12,6 +12,13 @@ use tm_cases_book::{Kinds, State, answer_files};
 struct DeskCases;
 
 impl Kinds for DeskCases {
+    fn form(&self, kind: &str) -> Option<&'static str> {
+        match kind {
+            "desk" | "sink" => Some("O"),
+            _ => None,
+        }
+    }
+
     fn answer(
         &self,
         state: &mut State,

@@ -12,6 +12,13 @@ use tm_cases_book::{Kinds, State, answer_files};
 struct ElfCases;
 
 impl Kinds for ElfCases {
+    fn form(&self, kind: &str) -> Option<&'static str> {
+        match kind {
+            "elf" => Some("tC"),
+            _ => None,
+        }
+    }
+
     fn answer(
         &self,
         state: &mut State,

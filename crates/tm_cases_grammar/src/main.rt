@@ -14,6 +14,14 @@ use tm_cases_book::{Kinds, State, answer_files};
 struct GrammarCases;
 
 impl Kinds for GrammarCases {
+    fn form(&self, kind: &str) -> Option<&'static str> {
+        match kind {
+            "tokens" | "topology" | "template" => Some("X"),
+            "rules" => Some("tX"),
+            _ => None,
+        }
+    }
+
     fn answer(
         &self,
         state: &mut State,

@@ -14,6 +14,15 @@ use tm_cases_book::{Kinds, State, answer_files};
 struct LineCases;
 
 impl Kinds for LineCases {
+    fn form(&self, kind: &str) -> Option<&'static str> {
+        match kind {
+            "line" => Some("X"),
+            "word" | "code" => Some("n"),
+            "exec" => Some("nS"),
+            _ => None,
+        }
+    }
+
     fn answer(
         &self,
         state: &mut State,

@@ -14,6 +14,18 @@ use tm_cases_book::{Kinds, State, answer_files};
 struct NumberCases;
 
 impl Kinds for NumberCases {
+    fn form(&self, kind: &str) -> Option<&'static str> {
+        match kind {
+            "number" => Some("X"),
+            "decimal" => Some("n"),
+            "hex" | "choice" | "part" => Some("nn"),
+            "draw" => Some("nnnnn"),
+            "address" => Some("wno"),
+            "may" => Some("nnwwwnnn"),
+            _ => None,
+        }
+    }
+
     fn answer(
         &self,
         state: &mut State,

@@ -15,6 +15,13 @@ use tm_cases_book::{Kinds, State, answer_files};
 struct RaceCases;
 
 impl Kinds for RaceCases {
+    fn form(&self, kind: &str) -> Option<&'static str> {
+        match kind {
+            "race" | "work" => Some("ttn"),
+            _ => None,
+        }
+    }
+
     fn answer(
         &self,
         state: &mut State,
