@@ -1,5 +1,5 @@
 // Whole commands, over a desk and sinks in memory.
-use crate::demands::{ALL_PASSED, NONE_GAVE_UP, all_passed, put_demands};
+use crate::demands::{ALL_PASSED, NONE_BEFORE, NONE_GAVE_UP, all_passed, none_before, put_demands};
 use crate::gate::HoldingGate;
 use std::alloc::Global;
 use std::sync::Wait;
@@ -108,8 +108,9 @@ pub fn held<R: Threads + Wait + Sync>(
     let mut out = text_of(alloc, line, &ended)?;
     if let Some(journal) = &ended.outcome.journal {
         let passed = all_passed(&gate, image.program.cases.harts, journal);
-        let hold = [!gate.gave_up(), passed];
-        put_demands(&mut out, &[NONE_GAVE_UP, ALL_PASSED], &hold)?;
+        let hold = [!gate.gave_up(), passed, none_before(journal)];
+        let demands = [NONE_GAVE_UP, ALL_PASSED, NONE_BEFORE];
+        put_demands(&mut out, &demands, &hold)?;
     }
     Ok(out)
 }

@@ -1,5 +1,5 @@
 // What is demanded, and whether it holds.
-use crate::gate::HoldingGate;
+use crate::gate::{AHEAD, HoldingGate};
 use tm_base::{Bytes, NoMemory};
 use tm_plan_journal::Journal;
 
@@ -7,6 +7,8 @@ use tm_plan_journal::Journal;
 pub const NONE_GAVE_UP: &str = "no hold gave up";
 
 pub const ALL_PASSED: &str = "each hart passed the gate at least as often as it has events";
+
+pub const NONE_BEFORE: &str = "hart 0 has no event before its first pass has ended";
 
 /// Appends a line for each demand: `ok` where it holds.
 pub fn put_demands(out: &mut Bytes, demands: &[&str], hold: &[bool]) -> Result<(), NoMemory> {
@@ -36,4 +38,18 @@ fn events_of(journal: &Journal, hart: u32) -> u64 {
         }
     }
     events
+}
+
+/// Whether hart 0's first event stands behind all that hart 1 makes until its tenth pass begins, for which the gate
+/// holds hart 0 in its first.
+pub fn none_before(journal: &Journal) -> bool {
+    let mut ahead: u64 = 0;
+    for place in 0..journal.len() {
+        match journal.at(place).hart {
+            0 => return ahead >= AHEAD - 1,
+            1 => ahead = ahead.saturating_add(1),
+            _ => {}
+        }
+    }
+    false
 }

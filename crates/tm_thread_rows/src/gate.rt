@@ -12,8 +12,15 @@ const LOADS: u32 = 100_000_000;
 /// After so many loads in a row a hold lets other threads go on.
 const LOADS_IN_A_ROW: u32 = 1000;
 
-/// A gate that holds hart 0 in its first and in its 1000th pass until hart 1's pass of the same number has begun, and
-/// hart 1 in the same way until hart 0's has begun. Where one thread drives both harts, a hold gives up.
+/// The pass of hart 1 that has to begin before hart 0's first pass ends.
+pub const AHEAD: u64 = 10;
+
+/// The pass in which both harts are held once more.
+const LATER: u64 = 1000;
+
+/// A gate that holds hart 0 in its first pass until hart 1's tenth has begun, and hart 1 in its first until hart 0's
+/// first has; and each of the two in its 1000th until the other's has begun. Where one thread drives both harts, a hold
+/// gives up.
 ///
 /// It counts the passes of each hart, and keeps whether a hold gave up.
 #[derive(Drop)]
@@ -53,7 +60,7 @@ impl HoldingGate {
         self.gave_up.load(Ordering::SeqCst)
     }
 
-    /// Holds until this pass of the other hart has begun.
+    /// Holds until this pass of another hart has begun.
     fn hold_for(&self, other: u32, pass: u64) {
         for load in 1..=LOADS {
             if self.passes(other) >= pass {
@@ -72,13 +79,11 @@ impl Gate for HoldingGate {
         let Some(passes) = self.passes.get(hart as usize) else {
             return;
         };
-        let pass = passes.fetch_add(1, Ordering::SeqCst).wrapping_add(1);
-        if pass != 1 && pass != 1000 {
-            return;
-        }
-        match hart {
-            0 => self.hold_for(1, pass),
-            1 => self.hold_for(0, pass),
+        match (hart, passes.fetch_add(1, Ordering::SeqCst).wrapping_add(1)) {
+            (0, 1) => self.hold_for(1, AHEAD),
+            (1, 1) => self.hold_for(0, 1),
+            (0, LATER) => self.hold_for(1, LATER),
+            (1, LATER) => self.hold_for(0, LATER),
             _ => {}
         }
     }

@@ -31,11 +31,11 @@ fn print<O: Sink>(out: &mut O, part: Result<Bytes, NoMemory>) -> Result<(), u8> 
 }
 
 /// The title of some demands, and whether they hold.
-fn part(
+fn part<const N: usize>(
     alloc: Global,
     title: &str,
-    demands: &[&str; 4],
-    hold: Result<[bool; 4], NoMemory>,
+    demands: &[&str],
+    hold: Result<[bool; N], NoMemory>,
 ) -> Result<Bytes, NoMemory> {
     let hold = hold?;
     let mut out = Bytes::new(alloc);

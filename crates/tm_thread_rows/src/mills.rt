@@ -3,7 +3,7 @@ ghost use Rattle.std.specs.Prelude.{IfOk};
 ghost use Rattle.tm_world.specs.Sound.{Sound};
 ghost use Rattle.tm_harts.specs.Mills.{AreAllOf};
 
-use crate::demands::{ALL_PASSED, NONE_GAVE_UP, all_passed};
+use crate::demands::{ALL_PASSED, NONE_BEFORE, NONE_GAVE_UP, all_passed, none_before};
 use crate::gate::HoldingGate;
 use std::alloc::Global;
 use std::sync::Wait;
@@ -81,19 +81,20 @@ fn is_event_at(turn: Option<Turn>, journal: &Journal, place: u64) -> bool {
 }
 
 /// What `driven` answers.
-pub const DRIVEN: [&str; 4] = [
+pub const DRIVEN: [&str; 5] = [
     NONE_GAVE_UP,
     ALL_PASSED,
+    NONE_BEFORE,
     "all harts are at halt",
     "nothing is left to round order",
 ];
 
-/// Harts that threads drive through the gate: they come to halt, and each passes the gate for each of its events.
+/// Harts that threads drive through the gate: they come to halt, and each passes the gate before each of its events.
 pub fn driven<R: Threads + Wait + Sync>(
     rt: &R,
     alloc: Global,
     program: &Program,
-) -> Result<[bool; 4], NoMemory>
+) -> Result<[bool; 5], NoMemory>
     requires { Sound program.now }
 {
     let (mill, mut seats) = mill_of(alloc, program)?;
@@ -101,12 +102,14 @@ pub fn driven<R: Threads + Wait + Sync>(
     run_threads(rt, &mill, &mut seats, &gate);
     let mut guest = mill.close(seats);
     let passed = all_passed(&gate, guest.harts(), guest.journal());
+    let behind = none_before(guest.journal());
     let halted = guest.all_halted();
     let events = guest.journal().len();
     let _ = guest.run_round();
     Ok([
         !gate.gave_up(),
         passed,
+        behind,
         halted,
         guest.journal().len() == events,
     ])
