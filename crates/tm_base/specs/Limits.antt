@@ -1,6 +1,11 @@
--- The limits that differ by the version of the image. Source: this project.
-use Rattle.std.specs.Prelude.{ℕ}
+-- The sizes of a line, and the limits that differ by the version of the image. Source: this project.
+use Rattle.std.specs.Prelude.{ℕ, Bool, ◌||◌, ◌==◌}
 use Rattle.tm_base.specs.declared.limits.TheConstants.{IMAGE_VERSION, IMAGE_1_HARTS, IMAGE_1_CASES, IMAGE_1_ALU_OPS}
+use Rattle.tm_base.specs.declared.limits.TheConstants.{SHORT_LINE, MIDDLE_LINE, LONG_LINE}
+
+-- whether a line of a memory may have so many bytes: 32, 64 or 128
+abbrev pub is_line_size : ℕ → Bool
+is_line_size n = (n == SHORT_LINE || n == MIDDLE_LINE) || n == LONG_LINE
 
 -- the version of the images that are built
 abbrev pub image_version : ℕ

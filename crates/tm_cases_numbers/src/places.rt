@@ -1,8 +1,7 @@
 // Addresses, placement, draws and choices.
 ghost use Rattle.std.specs.Prelude.{◌≡◌, ◌≤◌, ◌<◌, IfSome, Some, IsTrue};
-ghost use Rattle.tm_base.specs.Limits.{image_version, most_harts};
+ghost use Rattle.tm_base.specs.Limits.{image_version, most_harts, is_line_size};
 ghost use Rattle.tm_place.specs.Limits.{IsWindowAt};
-ghost use Rattle.tm_place.specs.Numbers.{is_line_size};
 ghost use Rattle.tm_table.specs.Row.{IsWidth};
 ghost use Rattle.tm_plan_map.specs.declared.windows.Window.{Window as Held};
 

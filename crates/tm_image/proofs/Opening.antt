@@ -17,7 +17,6 @@ use Rattle.tm_elf_write.specs.Elf.{elf_file}
 use Rattle.tm_elf_head.specs.Differences.{first_difference}
 use Rattle.tm_elf_head.proofs.DifferenceLemmas.{no_difference}
 use Rattle.tm_elf.specs.Read.{elf_of}
-use Rattle.tm_rules_slot.proofs.Systems.{system_of}
 use Rattle.tm_refusals.specs.declared.rule.RuleAt.{RuleAt}
 use Rattle.tm_rules_first.specs.Rules.{broken_rule}
 use Rattle.tm_rules.specs.Admitting.{admitted_of}
@@ -37,7 +36,7 @@ broken_none : (topo : Topology) (t : Template) (a : Admitted) (r : Option RuleAt
 broken_none topo t a (Some r) is range h = absurd (cc)
 broken_none topo t a None is range h =
     let same : admitted_of topo t ≡ a = cc in
-    subst IsRuled same (admitted-ruled topo t (system_of topo range) is)
+    subst IsRuled same (admitted-ruled topo t range is)
 
 read_ruled : (topo : Topology) (r : Result Template TmplFault) (a : Admitted) → IsInRange topo
     → of_reading topo r ≡ Ok a → IsRuled a

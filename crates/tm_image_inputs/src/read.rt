@@ -64,7 +64,6 @@ fn read_template(alloc: Global, topo: &Topology, template: &[u8]) -> Result<Admi
 }
 
 // The test that a template states, unless it breaks a rule.
-#[tactic(auto, using(tm_rules_slot::proofs::Systems::system_of))]
 fn test_of(alloc: Global, topo: &Topology, t: &Template) -> Result<Admitted, BuildFault>
     requires range { IsInRange topo.now }
     ensures ok { IfOk result (λ a. inputs_.unless_broken topo.now t.now (broken_rule topo.now t.now) ≡ Ok a) }

@@ -8,7 +8,8 @@ use Rattle.std.proofs.Math.Nat.{div-le_self, mod-eq_of_lt, mul-le-mul_left, mul-
 use Rattle.std.proofs.Math.Nat.{le-div_iff_mul-le, div-lt_iff_lt-mul}
 use Rattle.std.proofs.lemmas.Nat.{pow_pos, le-div}
 use Rattle.tm_base.specs.declared.limits.TheConstants.{HART_ROOM, LONG_LINE, MIDDLE_LINE, SHORT_LINE}
-use Rattle.tm_place.specs.Numbers.{power_within, part_size, IsPart, is_line_size}
+use Rattle.tm_base.specs.Limits.{is_line_size}
+use Rattle.tm_place.specs.Numbers.{power_within, part_size, IsPart}
 
 -- a power above another has a greater exponent
 pub exponent_lt : (i j : ℕ) → 2 ^ i < 2 ^ j → i < j

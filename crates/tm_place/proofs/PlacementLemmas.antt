@@ -2,8 +2,8 @@
 use Rattle.std.proofs.Common.{◌≡◌, ◌≤◌, ℕ, zero, suc, [], ◌∷◌, Option, Some, slice_get, slice_index, IsTrue}
 use Rattle.std.proofs.Common.{refl}
 use Rattle.tm_plan_map.specs.declared.windows.Window.{Window}
-use Rattle.tm_base.specs.Limits.{image_version, most_harts}
-use Rattle.tm_place.specs.Numbers.{is_line_size, part_size}
+use Rattle.tm_base.specs.Limits.{image_version, most_harts, is_line_size}
+use Rattle.tm_place.specs.Numbers.{part_size}
 use Rattle.tm_place.specs.Limits.{IsWindowAt, IsPlacement}
 
 -- what stands at place w is window w

@@ -6,7 +6,8 @@ use Rattle.std.proofs.lemmas.Nat.{div-add-mod'}
 use Rattle.tm_plan_map.specs.declared.windows.Window.{Window}
 use Rattle.tm_plan_map.specs.Map.{window_at, windows_base}
 use Rattle.tm_place.specs.declared.placement.Placement.{Placement}
-use Rattle.tm_place.specs.Numbers.{is_line_size, part_size}
+use Rattle.tm_base.specs.Limits.{is_line_size}
+use Rattle.tm_place.specs.Numbers.{part_size}
 use Rattle.tm_place.specs.Limits.{IsWindowAt}
 use Rattle.tm_place.specs.Sharing.{Sharing, StandsAt}
 use Rattle.tm_place.specs.Placed.{standing, sharing_by, sharing_of}

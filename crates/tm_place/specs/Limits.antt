@@ -1,10 +1,10 @@
 -- The limits of a placement's numbers (this project's own).
 use Rattle.std.specs.Prelude.{ℕ, ◌<◌, ◌≤◌, ◌≡◌, List, Option, Some, None, slice_get, slice_index, IsTrue}
-use Rattle.tm_base.specs.Limits.{image_version, most_harts}
+use Rattle.tm_base.specs.Limits.{image_version, most_harts, is_line_size}
 use Rattle.tm_plan_map.specs.declared.windows.Window.{Window}
 use Rattle.tm_plan_map.specs.declared.windows.Kind2.TheVariants.{Own}
 use Rattle.tm_plan_cases.specs.Shaped.{IsShapedWindow}
-use Rattle.tm_place.specs.Numbers.{is_line_size, part_size}
+use Rattle.tm_place.specs.Numbers.{part_size}
 
 -- A window of a test: a shaped one, and an own window has a line for each hart.
 pub record IsWindow (harts line : ℕ) (v : Window) : Type 0 where

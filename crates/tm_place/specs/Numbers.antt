@@ -1,14 +1,9 @@
 -- How a number is chosen by a word, and how a line is parted among the harts (this project's own).
-use Rattle.std.specs.Prelude.{ℕ, zero, suc, ◌*◌, ◌/◌, ◌^◌, ◌≤◌, ◌≡◌, ◌==◌, Bool, ◌||◌, nat_le, if◌then◌else◌}
-use Rattle.tm_base.specs.declared.limits.TheConstants.{SHORT_LINE, MIDDLE_LINE, LONG_LINE}
+use Rattle.std.specs.Prelude.{ℕ, zero, suc, ◌*◌, ◌/◌, ◌^◌, ◌≤◌, ◌≡◌, nat_le, if◌then◌else◌}
 
 -- one of n numbers, by a word: the word times n, without its low 32 bits
 abbrev pub choice : ℕ → ℕ → ℕ
 choice word n = word * n / 2 ^ 32
-
--- the line sizes, in bytes
-abbrev pub is_line_size : ℕ → Bool
-is_line_size n = (n == SHORT_LINE || n == MIDDLE_LINE) || n == LONG_LINE
 
 -- the greatest power of two that is at most n and at most 2 ^ k, where n is at least 1
 abbrev pub power_within : ℕ → ℕ → ℕ

@@ -2,7 +2,7 @@
 -- this project.
 use Rattle.std.specs.Prelude.{ℕ, ◌+◌, ◌-◌, ◌*◌, ◌%◌, ◌==◌, ◌<◌, ◌≤◌, ◌≡◌, ◌≢◌, IsTrue, IsFalse, List, length, find}
 use Rattle.std.specs.Prelude.{slice_get, Some, All, AllPairs}
-use Rattle.tm_base.specs.Limits.{image_version, most_harts, most_cases}
+use Rattle.tm_base.specs.Limits.{image_version, most_harts, most_cases, is_line_size}
 use Rattle.tm_base.specs.declared.limits.TheConstants.{MOST_WEIGHTS, MOST_SLOTS, MOST_BIAS, LEAST_PASSES}
 use Rattle.tm_base.specs.declared.limits.TheConstants.{MOST_PASSES}
 use Rattle.tm_table.specs.declared.instr.Instr.{Instr}
@@ -15,7 +15,7 @@ use Rattle.tm_plan_map.specs.declared.admitted.Slot.TheVariants.{Emit, Mix}
 use Rattle.tm_plan_map.specs.declared.admitted.AdmittedCase.{AdmittedCase}
 use Rattle.tm_plan_map.specs.declared.admitted.Admitted.{Admitted}
 use Rattle.tm_place.specs.Limits.{IsWindow}
-use Rattle.tm_place.specs.Numbers.{is_line_size, part_size}
+use Rattle.tm_place.specs.Numbers.{part_size}
 use Rattle.tm_place.specs.Sharing.{Sharing, StandsAt, MayStore, MayLoad}
 
 -- The access of an instruction begins in a declared line of the window whose base its first register holds (this

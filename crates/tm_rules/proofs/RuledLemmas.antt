@@ -19,7 +19,8 @@ use Rattle.tm_tmpl_types.specs.declared.template.CaseDecl.{CaseDecl}
 use Rattle.tm_tmpl_types.specs.declared.template.WindowDecl.{WindowDecl}
 use Rattle.tm_tmpl_types.specs.declared.template.Template.{Template}
 use Rattle.tm_topo.specs.declared.system.Topology.{Topology}
-use Rattle.tm_rules_slot.specs.Teams.{IsSystem, harts_of, in_team}
+use Rattle.tm_rules_slot.specs.Teams.{harts_of, in_team}
+use Rattle.tm_topo.specs.Limits.{IsInRange}
 use Rattle.tm_rules_slot.specs.Slots.{first}
 use Rattle.tm_rules_first.specs.Windows.{window_of, windows_of}
 use Rattle.tm_rules_first.specs.Rules.{first_of, in_turn, window_checks, slot_count, slot_checks, body_rules}
@@ -143,7 +144,7 @@ numbers-differ topo ws none = pair-images window_of (λ v w. v.number ≢ w.numb
     λ same. true≢false (sym (eq-eqb _ _ same) ∙ fails))
 
 -- A template that breaks no rule is admitted as a test that no rule refuses.
-pub admitted-ruled : (topo : Topology) (t : Template) → IsSystem topo → broken_rule topo t ≡ None
+pub admitted-ruled : (topo : Topology) (t : Template) → IsInRange topo → broken_rule topo t ≡ None
     → IsRuled (admitted_of topo t)
 unfolding admitted_of
 admitted-ruled topo t system none =

@@ -17,7 +17,8 @@ use Rattle.tm_tmpl_types.specs.declared.template.SlotDecl.{SlotDecl}
 use Rattle.tm_tmpl_types.specs.declared.template.WindowDecl.{WindowDecl}
 use Rattle.tm_tmpl_types.specs.declared.template.Selector.{Selector}
 use Rattle.tm_topo.specs.declared.system.Topology.{Topology}
-use Rattle.tm_rules_slot.specs.Teams.{IsSystem, harts_of, in_team}
+use Rattle.tm_rules_slot.specs.Teams.{harts_of, in_team}
+use Rattle.tm_topo.specs.Limits.{IsInRange}
 use Rattle.tm_rules_slot.proofs.Ruling.{emit-ruled, mix-ruled}
 use Rattle.tm_rules_first.specs.Windows.{windows_of}
 use Rattle.tm_rules_first.specs.Rules.{first_of, in_turn, window_checks, slots_in, total_slots, slot_fault, slot_checks}
@@ -54,7 +55,7 @@ shape-reads topo ws none (suc zero) = refl
 shape-reads topo ws none (suc (suc zero)) = refl
 shape-reads topo ws none (suc (suc (suc n))) = reads-past topo ws none (suc (suc (suc n))) (omega arith) _ refl
 
-pub shared-shown : (topo : Topology) (ws : List WindowDecl) → IsSystem topo
+pub shared-shown : (topo : Topology) (ws : List WindowDecl) → IsInRange topo
     → first_of (in_turn (window_checks topo) [] ws) ≡ None
     → Shown (shared topo (windows_of ws)) (shape_of (windows_of ws))
 shared-shown topo ws system none = record {

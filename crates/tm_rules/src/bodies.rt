@@ -1,7 +1,8 @@
 // The slots of each hart in each case.
 ghost use Rattle.std.specs.Prelude.{◌≡◌, IfOk, map};
 ghost use Rattle.tm_base.specs.Lists.{count_from};
-ghost use Rattle.tm_rules_slot.specs.Teams.{IsSystem, harts_of};
+ghost use Rattle.tm_rules_slot.specs.Teams.{harts_of};
+ghost use Rattle.tm_topo.specs.Limits.{IsInRange};
 ghost use Rattle.tm_rules.specs.Admitting as admitting;
 
 use crate::slots::{one_slot, written_out};
@@ -18,7 +19,7 @@ pub fn cases_of(
     topo: &Topology,
     cases: &[CaseDecl],
 ) -> Result<List<AdmittedCase>, NoMemory>
-    requires { IsSystem topo.now }
+    requires { IsInRange topo.now }
     ensures { IfOk result (λ all. all ≡ map (admitting.admitted_case topo.now) cases.now) }
 {
     let mut all = List::new(alloc);
@@ -30,7 +31,7 @@ pub fn cases_of(
 
 // A case with the slots of each hart.
 fn case_of(alloc: Global, topo: &Topology, case: &CaseDecl) -> Result<AdmittedCase, NoMemory>
-    requires { IsSystem topo.now }
+    requires { IsInRange topo.now }
     ensures { IfOk result (λ all. all ≡ admitting.admitted_case topo.now case.now) }
 {
     let name = Text::copy_of(alloc, case.name.as_slice())?;
@@ -44,7 +45,7 @@ fn bodies_of(
     topo: &Topology,
     bodies: &[BodyDecl],
 ) -> Result<List<SlotList>, NoMemory>
-    requires { IsSystem topo.now }
+    requires { IsInRange topo.now }
     ensures { IfOk result (λ all. all ≡ map (admitting.hart_slots topo.now bodies.now)
         (count_from 0 (harts_of topo.now))) }
 {
@@ -63,7 +64,7 @@ fn hart_slots(
     bodies: &[BodyDecl],
     h: u32,
 ) -> Result<SlotList, NoMemory>
-    requires { IsSystem topo.now }
+    requires { IsInRange topo.now }
     ensures { IfOk result (λ slots. slots ≡ admitting.hart_slots topo.now bodies.now h) }
 {
     for body in bodies {

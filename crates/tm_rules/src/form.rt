@@ -1,5 +1,5 @@
 ghost use Rattle.std.specs.Prelude.{◌≡◌, IfOk, IfErr, Some, None};
-ghost use Rattle.tm_rules_slot.specs.Teams.{IsSystem};
+ghost use Rattle.tm_topo.specs.Limits.{IsInRange};
 ghost use Rattle.tm_rules_first.specs.Rules.{broken_rule};
 ghost use Rattle.tm_rules_first.specs.Windows.{windows_of};
 ghost use Rattle.tm_place.specs.Ruled.{IsRuled};
@@ -19,7 +19,7 @@ use tm_topo::Topology;
 /// that the template breaks.
 /// The topology's numbers are within their limits, as those of one that was read.
 pub fn admit(alloc: Global, t: &Template, topo: &Topology) -> Result<Admitted, AdmitFault>
-    requires { IsSystem topo.now }
+    requires { IsInRange topo.now }
     ensures ok { IfOk result (λ a. a ≡ admitting.admitted_of topo.now t.now) }
     ensures admits { IfOk result (λ a. broken_rule topo.now t.now ≡ None) }
     ensures ruled { IfOk result IsRuled }
@@ -37,7 +37,7 @@ pub fn admit(alloc: Global, t: &Template, topo: &Topology) -> Result<Admitted, A
 // The test that a template asks for, whatever rules it breaks.
 #[tactic(auto, unfolding(crate::specs::Admitting::admitted_of))]
 fn admitted(alloc: Global, t: &Template, topo: &Topology) -> Result<Admitted, NoMemory>
-    requires { IsSystem topo.now }
+    requires { IsInRange topo.now }
     ensures { IfOk result (λ a. a ≡ admitting.admitted_of topo.now t.now) }
 {
     let harts = topo.cores * topo.threads;

@@ -1,6 +1,6 @@
 // Laws over the definitions, each as the contract of a function that does nothing.
 ghost use Rattle.std.specs.Prelude.{◌≡◌, None};
-ghost use Rattle.tm_rules_slot.specs.Teams.{IsSystem};
+ghost use Rattle.tm_topo.specs.Limits.{IsInRange};
 ghost use Rattle.tm_rules_first.specs.Rules.{broken_rule};
 ghost use Rattle.tm_place.specs.Ruled.{IsRuled};
 ghost use Rattle.tm_rules.specs.Admitting.{admitted_of};
@@ -12,7 +12,7 @@ use tm_topo::Topology;
 
 /// The form of a template that breaks no rule is one that no rule refuses, whether or not there is memory for it.
 pub fn ruled(t: &Template, topo: &Topology)
-    requires { IsSystem topo.now }
+    requires { IsInRange topo.now }
     ensures { broken_rule topo.now t.now ≡ None → IsRuled (admitted_of topo.now t.now) }
 {
     let _ = &t.passes;

@@ -8,7 +8,8 @@ use Rattle.std.proofs.Math.Nat.{mul-le-mul}
 use Rattle.tm_base.specs.Limits.{image_version, most_harts, most_cases}
 use Rattle.tm_base.specs.declared.limits.TheConstants.{MOST_SLOTS, WINDOWS, WINDOW_BYTES}
 use Rattle.tm_refusals.specs.declared.rule.RuleFault.{RuleFault}
-use Rattle.tm_rules_slot.specs.Teams.{IsSystem, harts_of}
+use Rattle.tm_rules_slot.specs.Teams.{harts_of}
+use Rattle.tm_topo.specs.Limits.{IsInRange}
 use Rattle.tm_rules_slot.specs.Slots.{first}
 use Rattle.tm_rules_slot.proofs.Checking.{first-none}
 use Rattle.tm_plan_map.specs.declared.windows.Window.{Window}
@@ -110,7 +111,7 @@ case-sound count before name none =
 
 -- ---- systems
 
-pub system-harts : (topo : Topology) → IsSystem topo → (1 ≤ harts_of topo) × (harts_of topo ≤ most_harts image_version)
+pub system-harts : (topo : Topology) → IsInRange topo → (1 ≤ harts_of topo) × (harts_of topo ≤ most_harts image_version)
 system-harts topo system = (
   let some : 1 * 1 ≤ topo.cores * topo.threads = mul-le-mul system.cores.0 system.threads.0 in
       some,

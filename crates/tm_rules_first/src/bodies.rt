@@ -1,6 +1,7 @@
 // The rules of bodies.
 ghost use Rattle.std.specs.Prelude.{◌≡◌, ◌≤◌, ◌*◌, [], find};
-ghost use Rattle.tm_rules_slot.specs.Teams.{IsSystem, harts_of, team};
+ghost use Rattle.tm_rules_slot.specs.Teams.{harts_of, team};
+ghost use Rattle.tm_topo.specs.Limits.{IsInRange};
 ghost use Rattle.tm_rules_slot.specs.Slots.{first};
 ghost use Rattle.tm_rules_first.specs.Rules as rules;
 
@@ -15,7 +16,7 @@ use tm_topo::Topology;
 
 // The first rule that the bodies of a case break.
 pub fn bodies_broken(p: &Placement, topo: &Topology, bodies: &[BodyDecl]) -> Option<RuleAt>
-    requires system { IsSystem topo.now }
+    requires system { IsInRange topo.now }
     requires harts { p.now.harts ≡ harts_of topo.now }
     requires line { p.now.line ≡ topo.now.line }
     ensures { result ≡ rules.first_of (rules.in_turn (rules.body_checks topo.now p.now.shape) [] bodies.now) }
@@ -35,7 +36,7 @@ fn body_broken(
     before: &[BodyDecl],
     body: &BodyDecl,
 ) -> Option<RuleAt>
-    requires system { IsSystem topo.now }
+    requires system { IsInRange topo.now }
     requires harts { p.now.harts ≡ harts_of topo.now }
     requires line { p.now.line ≡ topo.now.line }
     ensures { result ≡ rules.first_of (rules.body_checks topo.now p.now.shape before.now body.now) }
@@ -54,7 +55,7 @@ fn body_broken(
 // The first rule that a body of `len` slots breaks behind those before it.
 #[tactic(auto, unfolding(crate::specs::Rules::body_rules, crate::specs::Rules::twice_fault))]
 fn body_fault(topo: &Topology, before: &[BodyDecl], whom: Selector, len: u64) -> Option<RuleFault>
-    requires { IsSystem topo.now }
+    requires { IsInRange topo.now }
     ensures { result ≡ first (rules.body_rules topo.now before.now whom len) }
 {
     if !is_there(topo, whom) {
@@ -74,7 +75,7 @@ fn body_fault(topo: &Topology, before: &[BodyDecl], whom: Selector, len: u64) ->
 
 // Whether the hart, core or thread that a selector names is there.
 fn is_there(topo: &Topology, whom: Selector) -> bool
-    requires { IsSystem topo.now }
+    requires { IsInRange topo.now }
     ensures { result ≡ rules.is_there topo.now whom }
 {
     match whom {
@@ -97,7 +98,7 @@ fn number_in(whom: Selector) -> u32
 
 // The least hart of a team that one of some bodies has.
 fn first_twice(topo: &Topology, before: &[BodyDecl], whom: Selector) -> Option<u32>
-    requires { IsSystem topo.now }
+    requires { IsInRange topo.now }
     ensures { result ≡ find (rules.has_body topo.now before.now) (team topo.now whom) }
 {
     for h in 0..topo.cores * topo.threads {
@@ -110,7 +111,7 @@ fn first_twice(topo: &Topology, before: &[BodyDecl], whom: Selector) -> Option<u
 
 // Whether one of some bodies is for a hart.
 fn has_body(topo: &Topology, bodies: &[BodyDecl], h: u32) -> bool
-    requires { IsSystem topo.now }
+    requires { IsInRange topo.now }
     ensures { result ≡ rules.has_body topo.now bodies.now h }
 {
     bodies.iter().any(|body| is_in_team(topo, body.whom, h))

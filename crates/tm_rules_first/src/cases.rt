@@ -2,7 +2,8 @@
 ghost use Rattle.std.specs.Prelude.{◌≡◌, [], length};
 ghost use Rattle.std.specs.List.{list_any};
 ghost use Rattle.std.specs.Str.{bytes_eq};
-ghost use Rattle.tm_rules_slot.specs.Teams.{IsSystem, harts_of};
+ghost use Rattle.tm_rules_slot.specs.Teams.{harts_of};
+ghost use Rattle.tm_topo.specs.Limits.{IsInRange};
 ghost use Rattle.tm_rules_slot.specs.Slots.{first};
 ghost use Rattle.tm_rules_first.specs.Rules as rules;
 
@@ -16,7 +17,7 @@ use tm_topo::Topology;
 
 // The first rule that the cases of a template break.
 pub fn cases_broken(p: &Placement, topo: &Topology, cases: &[CaseDecl]) -> Option<RuleAt>
-    requires system { IsSystem topo.now }
+    requires system { IsInRange topo.now }
     requires harts { p.now.harts ≡ harts_of topo.now }
     requires line { p.now.line ≡ topo.now.line }
     ensures { result
@@ -40,7 +41,7 @@ fn case_broken(
     before: &[CaseDecl],
     case: &CaseDecl,
 ) -> Option<RuleAt>
-    requires system { IsSystem topo.now }
+    requires system { IsInRange topo.now }
     requires harts { p.now.harts ≡ harts_of topo.now }
     requires line { p.now.line ≡ topo.now.line }
     ensures { result ≡ rules.first_of (rules.case_checks topo.now p.now.shape count before.now case.now) }

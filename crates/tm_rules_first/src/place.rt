@@ -1,6 +1,7 @@
 // Where the windows of a template stand.
 ghost use Rattle.std.specs.Prelude.{◌≡◌, ◌*◌, [], None};
-ghost use Rattle.tm_rules_slot.specs.Teams.{IsSystem, harts_of};
+ghost use Rattle.tm_rules_slot.specs.Teams.{harts_of};
+ghost use Rattle.tm_topo.specs.Limits.{IsInRange};
 ghost use Rattle.tm_place.specs.Placing as placing;
 ghost use Rattle.tm_rules_first.specs.Windows as placed;
 ghost use Rattle.tm_rules_first.specs.Rules as rules;
@@ -12,7 +13,7 @@ use tm_topo::Topology;
 
 // The placement of windows that break no rule, without hot lines.
 pub fn placement(topo: &Topology, windows: &[WindowDecl]) -> Placement
-    requires system { IsSystem topo.now }
+    requires system { IsInRange topo.now }
     requires sound { rules.first_of (rules.in_turn (rules.window_checks topo.now) [] windows.now) ≡ None }
     ensures harts { result.harts ≡ harts_of topo.now }
     ensures line { result.line ≡ topo.now.line }

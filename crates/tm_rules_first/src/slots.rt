@@ -1,6 +1,7 @@
 // The rules of a body's slots.
 ghost use Rattle.std.specs.Prelude.{◌≡◌, ◌+◌, ◌≤◌, []};
-ghost use Rattle.tm_rules_slot.specs.Teams.{IsSystem, harts_of};
+ghost use Rattle.tm_rules_slot.specs.Teams.{harts_of};
+ghost use Rattle.tm_topo.specs.Limits.{IsInRange};
 ghost use Rattle.tm_rules_first.specs.Rules as rules;
 
 use crate::RuleAt;
@@ -40,7 +41,7 @@ pub fn slots_broken(
     len: u32,
     slots: &[SlotDecl],
 ) -> Option<RuleAt>
-    requires system { IsSystem topo.now }
+    requires system { IsInRange topo.now }
     requires harts { p.now.harts ≡ harts_of topo.now }
     requires line { p.now.line ≡ topo.now.line }
     requires len { len ≡ rules.slot_count slots.now }
@@ -70,7 +71,7 @@ fn slot_fault(
     at: u32,
     what: &SlotText,
 ) -> Option<RuleFault>
-    requires system { IsSystem topo.now }
+    requires system { IsInRange topo.now }
     requires harts { p.now.harts ≡ harts_of topo.now }
     requires line { p.now.line ≡ topo.now.line }
     requires within { at + rules.slots_in what.now ≤ len }

@@ -1,6 +1,6 @@
 // The rules of a whole template.
 ghost use Rattle.std.specs.Prelude.{◌≡◌};
-ghost use Rattle.tm_rules_slot.specs.Teams.{IsSystem};
+ghost use Rattle.tm_topo.specs.Limits.{IsInRange};
 ghost use Rattle.tm_rules_first.specs.Rules as rules;
 
 use crate::RuleAt;
@@ -15,7 +15,7 @@ use tm_topo::Topology;
 /// The first rule that a template for this topology breaks, in text order, and in one statement in the order of its
 /// rules; None where it breaks none. The topology's numbers are within their limits, as those that a text is read as.
 pub fn first_broken(t: &Template, topo: &Topology) -> Option<RuleAt>
-    requires { IsSystem topo.now }
+    requires { IsInRange topo.now }
     ensures { result ≡ rules.broken_rule topo.now t.now }
 {
     if !are_passes(t.passes) {

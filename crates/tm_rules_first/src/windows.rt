@@ -1,7 +1,8 @@
 // The rules of windows.
 ghost use Rattle.std.specs.Prelude.{◌≡◌, ◌==◌, [], ◌*◌, ◌≤◌};
 ghost use Rattle.std.specs.List.{list_any};
-ghost use Rattle.tm_rules_slot.specs.Teams.{IsSystem, harts_of};
+ghost use Rattle.tm_rules_slot.specs.Teams.{harts_of};
+ghost use Rattle.tm_topo.specs.Limits.{IsInRange};
 ghost use Rattle.tm_rules_slot.specs.Slots.{first};
 ghost use Rattle.tm_rules_first.specs.Rules as rules;
 
@@ -13,7 +14,7 @@ use tm_topo::Topology;
 
 // The first rule that some windows break.
 pub fn windows_broken(topo: &Topology, windows: &[WindowDecl]) -> Option<RuleAt>
-    requires { IsSystem topo.now }
+    requires { IsInRange topo.now }
     ensures { result ≡ rules.first_of (rules.in_turn (rules.window_checks topo.now) [] windows.now) }
 {
     for (k, window) in windows.iter().enumerate() {
@@ -30,7 +31,7 @@ pub fn windows_broken(topo: &Topology, windows: &[WindowDecl]) -> Option<RuleAt>
 // The first rule that a window breaks behind those before it.
 #[tactic(auto, unfolding(crate::specs::Rules::window_rules))]
 fn window_fault(topo: &Topology, before: &[WindowDecl], window: WindowDecl) -> Option<RuleFault>
-    requires { IsSystem topo.now }
+    requires { IsInRange topo.now }
     ensures { result ≡ first (rules.window_rules topo.now before.now window) }
 {
     if window.number >= WINDOWS {
@@ -54,7 +55,7 @@ fn is_declared(windows: &[WindowDecl], number: u32) -> bool
 
 // Whether a window has the lines that it needs, and no more than its bytes hold.
 fn has_lines(topo: &Topology, kind: Kind, lines: u32) -> bool
-    requires { IsSystem topo.now }
+    requires { IsInRange topo.now }
     ensures { result ≡ rules.has_lines topo.now kind lines }
 {
     if lines < 1 {

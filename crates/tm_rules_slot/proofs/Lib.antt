@@ -3,4 +3,3 @@ pub mod Checking
 pub mod Reading
 pub mod Ruling
 mod Rows
-pub mod Systems

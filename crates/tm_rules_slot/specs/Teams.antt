@@ -1,20 +1,9 @@
--- Systems, their harts, and which of these a body is for (this project's own).
-use Rattle.std.specs.Prelude.{ℕ, ◌*◌, ◌/◌, ◌%◌, ◌≤◌, ◌==◌, Bool, true, IsTrue, List, filter}
-use Rattle.tm_base.specs.Limits.{image_version, most_harts}
+-- The harts of a system, and which of these a body is for (this project's own).
+use Rattle.std.specs.Prelude.{ℕ, ◌*◌, ◌/◌, ◌%◌, ◌==◌, Bool, true, List, filter}
 use Rattle.tm_topo.specs.declared.system.Topology.{Topology}
 use Rattle.tm_tmpl_types.specs.declared.template.Selector.{Selector}
 use Rattle.tm_tmpl_types.specs.declared.template.Selector.TheVariants.{All, Hart, Core, Thread}
 use Rattle.tm_base.specs.Lists.{count_from}
-use Rattle.tm_place.specs.Numbers.{is_line_size}
-
--- A system within the limits: 1 to 8 cores of 1 to 8 threads, 8 harts at most, lines of 32, 64 or 128 bytes, a bias
--- of 0 to 100.
-pub record IsSystem (t : Topology) : Type 0 where
-  pub cores : (1 ≤ t.cores) × (t.cores ≤ most_harts image_version)
-  pub threads : (1 ≤ t.threads) × (t.threads ≤ most_harts image_version)
-  pub line : IsTrue (is_line_size t.line)
-  pub bias : t.bias ≤ 100
-  pub harts : t.cores * t.threads ≤ most_harts image_version
 
 -- the number of harts
 abbrev pub harts_of : Topology → ℕ

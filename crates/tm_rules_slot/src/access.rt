@@ -2,7 +2,8 @@
 ghost use Rattle.std.specs.Prelude.{◌≡◌, ◌+◌, ◌*◌, ◌%◌, ◌==◌, ◌&&◌, ◌≤◌, ◌<◌, IsTrue, not, find};
 ghost use Rattle.tm_plan_map.specs.Slots as slots;
 ghost use Rattle.tm_plan_map.specs.Map.{window_at, within};
-ghost use Rattle.tm_rules_slot.specs.Teams.{IsSystem, harts_of, team};
+ghost use Rattle.tm_rules_slot.specs.Teams.{harts_of, team};
+ghost use Rattle.tm_topo.specs.Limits.{IsInRange};
 ghost use Rattle.tm_rules_slot.specs.Slots as rules;
 
 use crate::teams::is_in_team;
@@ -16,7 +17,7 @@ use tm_topo::Topology;
 
 /// The first rule that a load's or store's access breaks. Its base register holds the base of a window.
 pub fn access_fault(p: &Placement, topo: &Topology, whom: Selector, i: Instr) -> Option<RuleFault>
-    requires system { IsSystem topo.now }
+    requires system { IsInRange topo.now }
     requires harts { p.now.harts ≡ harts_of topo.now }
     requires base { IsTrue (slots.is_access i.op) → slots.IsBase i.rs1 }
     ensures { result ≡ rules.first (rules.access_checks p.now.line p.now.part p.now.shape topo.now whom i) }
@@ -49,7 +50,7 @@ fn width_of(i: Instr) -> u8
 
 /// The least hart of the body that may not make a load or store.
 fn stranger(p: &Placement, topo: &Topology, whom: Selector, i: Instr) -> Option<u32>
-    requires system { IsSystem topo.now }
+    requires system { IsInRange topo.now }
     requires harts { p.now.harts ≡ harts_of topo.now }
     requires access { IsTrue (slots.is_access i.op) }
     requires base { slots.IsBase i.rs1 }

@@ -1,6 +1,7 @@
 ghost use Rattle.std.specs.Prelude.{◌≡◌, ◌≤◌, ◌<◌, None};
 ghost use Rattle.tm_place.specs.Placed.{sharing_of};
-ghost use Rattle.tm_rules_slot.specs.Teams.{IsSystem, harts_of};
+ghost use Rattle.tm_rules_slot.specs.Teams.{harts_of};
+ghost use Rattle.tm_topo.specs.Limits.{IsInRange};
 ghost use Rattle.tm_rules_slot.specs.Slots as rules;
 ghost use Rattle.tm_rules_slot.specs.Laws.{IsRuledLine};
 
@@ -25,7 +26,7 @@ pub fn emit_fault(
     slots: u32,
     line: &[u8],
 ) -> Option<RuleFault>
-    requires system { IsSystem topo.now }
+    requires system { IsInRange topo.now }
     requires harts { p.now.harts ≡ harts_of topo.now }
     requires line { p.now.line ≡ topo.now.line }
     requires slot { slot < slots }
@@ -48,7 +49,7 @@ fn instr_fault(
     slots: u32,
     i: Instr,
 ) -> Option<RuleFault>
-    requires system { IsSystem topo.now }
+    requires system { IsInRange topo.now }
     requires harts { p.now.harts ≡ harts_of topo.now }
     requires slots { slots ≤ MOST_SLOTS }
     requires slot { slot < slots }

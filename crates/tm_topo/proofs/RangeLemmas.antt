@@ -1,9 +1,10 @@
 -- What is read of a text lies within the limits.
-use Rattle.std.proofs.Common.{◌≡◌, ℕ, ◌*◌, ◌≤◌, Bool, true, false, nat_le, if◌then◌else◌, ℤ, pos, negsuc, Option, Some}
+use Rattle.std.proofs.Common.{◌≡◌, ℕ, ◌*◌, ◌≤◌, Bool, ◌&&◌, true, false, nat_le, if◌then◌else◌, ℤ, pos, negsuc, Option, Some}
 use Rattle.std.proofs.Common.{None, Result, Ok, Err, IfOk, IsTrue, refl, sym, List}
-use Rattle.std.proofs.lemmas.Bool.{leb-true}
+use Rattle.std.proofs.lemmas.Bool.{and_parts, leb-true}
 use Rattle.toml.specs.Data.{Data, Members, as_integer, get_member}
 use Rattle.tm_base.specs.Limits.{image_version, most_harts}
+use Rattle.tm_base.specs.declared.limits.TheConstants.{MOST_BIAS}
 use Rattle.tm_topo.specs.declared.system.TheConstants.{DEFAULT_BIAS}
 use Rattle.tm_topo.specs.declared.system.Topology.{Topology}
 use Rattle.tm_topo.specs.declared.system.TopoKey.{TopoKey}
@@ -55,6 +56,13 @@ within s t h = few (nat_le (s.cores * s.threads) (most_harts image_version)) ref
   few true is got = (leb-true (s.cores * s.threads) (most_harts image_version) is, cc)
   few false is got = absurd (cc)
 
+-- numbers from 1 to the most harts, as the keys' test has them
+between : (n : ℕ) → (nat_le 1 n && nat_le n (most_harts image_version)) ≡ true
+    → (1 ≤ n) × (n ≤ most_harts image_version)
+between n h =
+    let parts = and_parts (nat_le 1 n) (nat_le n (most_harts image_version)) h in
+    (leb-true 1 n parts.0, leb-true n (most_harts image_version) parts.1)
+
 numbers_range : (ms : Members) (t : Topology) → numbers_in ms ≡ Ok t → IsInRange t
 unfolding numbers_in
 numbers_range ms t h =
@@ -64,10 +72,10 @@ numbers_range ms t h =
     let bias = took _ _ _ line.2 in
     let all = within _ t bias.2 in
     rw (sym all.1) (record {
-      cores = allowed Cores ms cores.0 cores.1;
-      threads = allowed Threads ms threads.0 threads.1;
+      cores = between cores.0 (allowed Cores ms cores.0 cores.1);
+      threads = between threads.0 (allowed Threads ms threads.0 threads.1);
       line = allowed Line ms line.0 line.1;
-      bias = allowed Bias ms bias.0 bias.1;
+      bias = leb-true bias.0 MOST_BIAS (allowed Bias ms bias.0 bias.1);
       harts = all.0;
     })
 

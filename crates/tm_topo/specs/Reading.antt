@@ -1,13 +1,13 @@
 -- The topology that a TOML document states. What TOML is, `toml` says; the keys and their rules are this project's own.
-use Rattle.std.specs.Prelude.{ℕ, ◌*◌, ◌==◌, Bool, ◌&&◌, ◌||◌, not, nat_le, if◌then◌else◌, ℤ, pos, negsuc, List, []}
+use Rattle.std.specs.Prelude.{ℕ, ◌*◌, Bool, ◌&&◌, ◌||◌, not, nat_le, if◌then◌else◌, ℤ, pos, negsuc, List, []}
 use Rattle.std.specs.Prelude.{◌∷◌, filter, Option, Some, None, Result, Ok, Err, codes}
 use Rattle.std.specs.Str.{is_utf8, bytes_eq}
 use Rattle.std.specs.Ordering.{nat_cmp, is_lt}
 use Rattle.std.specs.Cmp.Lexicographic.{slice_cmp}
 use Rattle.toml.specs.Data.{Data, Members, no_members, member, get_member, as_integer}
 use Rattle.toml.specs.Parse.{parse_document}
-use Rattle.tm_base.specs.Limits.{image_version, most_harts}
-use Rattle.tm_base.specs.declared.limits.TheConstants.{SHORT_LINE, MIDDLE_LINE, LONG_LINE, MOST_BIAS}
+use Rattle.tm_base.specs.Limits.{image_version, most_harts, is_line_size}
+use Rattle.tm_base.specs.declared.limits.TheConstants.{MOST_BIAS}
 use Rattle.tm_topo.specs.declared.system.TheConstants.{DEFAULT_BIAS}
 use Rattle.tm_topo.specs.declared.system.Topology.{Topology}
 use Rattle.tm_topo.specs.declared.system.TopoKey.{TopoKey}
@@ -55,7 +55,7 @@ unknown_key ms = least (filter (λ k. not (is_known k)) (keys_of ms))
 abbrev pub allows : TopoKey → ℕ → Bool
 allows Cores n = nat_le 1 n && nat_le n (most_harts image_version)
 allows Threads n = nat_le 1 n && nat_le n (most_harts image_version)
-allows Line n = (n == SHORT_LINE || n == MIDDLE_LINE) || n == LONG_LINE
+allows Line n = is_line_size n
 allows Bias n = nat_le n MOST_BIAS
 
 -- what holds where a key isn't there
