@@ -17,10 +17,10 @@ use Rattle.tm_pace.proofs.Sums.{sum-le, sum-grew}
 -- ---- one hart
 
 -- hart h makes no idle read
-abbrev Quiet : Program → ℕ → List Step → Type 0
+abbrev pub Quiet : Program → ℕ → List Step → Type 0
 Quiet p h = Always (λ past s. is_idle_read p h past s ≡ false)
 
-own-quiet : (p : Program) (h : ℕ) (steps : List Step)
+pub own-quiet : (p : Program) (h : ℕ) (steps : List Step)
     → Always (λ past s. IsFalse (is_idle_read p (hart_of s) (own (hart_of s) past) s)) steps → Quiet p h (own h steps)
 own-quiet p h [] q = tt
 own-quiet p h (s ∷ past) q = elim (cases_eq (hart_of s) h) [
@@ -32,13 +32,13 @@ own-quiet p h (s ∷ past) q = elim (cases_eq (hart_of s) h) [
   | inr n ↦ subst (Quiet p h) (sym (own-there h s past n)) (own-quiet p h past q.1)
 ]
 
-lately-quiet : (p : Program) (h n : ℕ) (steps : List Step) → Quiet p h steps → idle_lately p h n steps ≡ false
+pub lately-quiet : (p : Program) (h n : ℕ) (steps : List Step) → Quiet p h steps → idle_lately p h n steps ≡ false
 lately-quiet p h zero steps q = refl
 lately-quiet p h (suc n) [] q = refl
 lately-quiet p h (suc n) (s ∷ past) q = or_from (is_idle_read p h past s) (idle_lately p h n past) q.0
     (lately-quiet p h n past q.1)
 
-all-work : (p : Program) (h : ℕ) (steps : List Step) → Quiet p h steps → work_steps p h steps ≡ length steps
+pub all-work : (p : Program) (h : ℕ) (steps : List Step) → Quiet p h steps → work_steps p h steps ≡ length steps
 all-work p h [] q = refl
 all-work p h (s ∷ past) q =
     ap (λ (t : Bool). if t then work_steps p h past else suc (work_steps p h past)) (lately-quiet p h 4 (s ∷ past) q) ∙
@@ -46,7 +46,7 @@ all-work p h (s ∷ past) q =
 
 -- ---- all harts
 
-own-lengths : (n : ℕ) (steps : List Step) → Always (λ past s. hart_of s < n) steps
+pub own-lengths : (n : ℕ) (steps : List Step) → Always (λ past s. hart_of s < n) steps
     → length steps ≡ sum_of (λ h. length (own h steps)) (count_from 0 n)
 own-lengths n [] o = sym (sum-zero (λ h. 0) (count_from 0 n) (λ h. refl))
 own-lengths n (s ∷ past) o =
