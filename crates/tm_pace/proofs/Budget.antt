@@ -56,7 +56,7 @@ own-lengths n (s ∷ past) o =
     (λ h d. ap length (own-there h s past (λ e. d (sym e)))))
 
 -- n times a number is no less than it
-times : (n x : ℕ) → 1 ≤ n → x ≤ n * x
+pub times : (n x : ℕ) → 1 ≤ n → x ≤ n * x
 times zero x l = absurd (omega arith)
 times (suc n) x l = omega arith
 
