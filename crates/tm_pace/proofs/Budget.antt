@@ -1,7 +1,7 @@
 -- A run without idle reads is all work, so it ends within the harts' bounds.
 use Rattle.std.proofs.Common.{◌≡◌, ℕ, zero, suc, ◌+◌, ◌*◌, ◌<◌, ◌≤◌, List, [], ◌∷◌, length, Bool, false, inl, inr}
 use Rattle.std.proofs.Common.{refl, sym, ap, ◌∙◌, subst, arith}
-use Rattle.std.specs.Prelude.{IsFalse, if◌then◌else◌}
+use Rattle.std.specs.Prelude.{if◌then◌else◌}
 use Rattle.std.proofs.lemmas.Bool.{cases_eq, or_from}
 use Rattle.tm_plan_cases.specs.declared.program.Program.{Program}
 use Rattle.tm_plan_cases.specs.Collected.{sum_of, work_of, budget_of}
@@ -11,7 +11,7 @@ use Rattle.tm_world.specs.Run.{Step, Always, own, hart_of}
 use Rattle.tm_world.specs.Work.{is_idle_read, idle_lately, work_steps}
 use Rattle.tm_legal.proofs.Own.{own-here, own-there}
 use Rattle.tm_legal.proofs.Order.{sum-zero}
-use Rattle.tm_pace.specs.Laws.{QuietRunsEnd}
+use Rattle.tm_pace.specs.Laws.{NoIdleRead, QuietRunsEnd}
 use Rattle.tm_pace.proofs.Sums.{sum-le, sum-grew}
 
 -- ---- one hart
@@ -20,8 +20,7 @@ use Rattle.tm_pace.proofs.Sums.{sum-le, sum-grew}
 abbrev pub Quiet : Program → ℕ → List Step → Type 0
 Quiet p h = Always (λ past s. is_idle_read p h past s ≡ false)
 
-pub own-quiet : (p : Program) (h : ℕ) (steps : List Step)
-    → Always (λ past s. IsFalse (is_idle_read p (hart_of s) (own (hart_of s) past) s)) steps → Quiet p h (own h steps)
+pub own-quiet : (p : Program) (h : ℕ) (steps : List Step) → NoIdleRead p steps → Quiet p h (own h steps)
 own-quiet p h [] q = tt
 own-quiet p h (s ∷ past) q = elim (cases_eq (hart_of s) h) [
   | inl e ↦ subst (Quiet p h) (sym (own-here h s past e)) (
