@@ -1,6 +1,8 @@
 -- The lines of a fault script, read from left to right over a program's cases (this project's own).
-use Rattle.std.specs.Prelude.{ℕ, zero, suc, ◌≡◌, ◌⊎◌, ◌≤◌, ◌<◌, ◌+◌, ◌-◌, ◌*◌, ◌^◌, Bool, true, false, ◌&&◌, nat_le, nat_lt}
-use Rattle.std.specs.Prelude.{if◌then◌else◌, List, [], ◌∷◌, ◌++◌, length, take, drop, slice_get, Option, Some, None, Result}
+use Rattle.std.specs.Prelude.{ℕ, zero, suc, ◌≡◌, ◌⊎◌, ◌≤◌, ◌<◌, ◌+◌, ◌-◌, ◌*◌, ◌^◌, Bool, true, false, ◌&&◌, nat_le}
+use Rattle.std.specs.Prelude.{nat_lt}
+use Rattle.std.specs.Prelude.{if◌then◌else◌, List, [], ◌∷◌, ◌++◌, length, take, drop, slice_get, Option, Some, None}
+use Rattle.std.specs.Prelude.{Result}
 use Rattle.std.specs.Prelude.{Ok, Err, codes, All}
 use Rattle.std.specs.Borrow.{Bor}
 use Rattle.std.specs.List.{list_any}
@@ -240,13 +242,16 @@ abbrev pub IsLeft : List ℕ → (tokens rest : List Token) → Type 0
 IsLeft text tokens rest = All (IsSpan text) rest × (length rest < length tokens)
 
 -- from tokens this was read, with those behind it; or this fault
-abbrev pub Reads : {A : Type 0} → List ℕ → (List Lexeme → Reading A) → List Token → Result (A × Bor (List Token)) FaultScriptFault
+abbrev pub Reads : {A : Type 0} → List ℕ → (List Lexeme → Reading A) → List Token
+    → Result (A × Bor (List Token)) FaultScriptFault
     → Type 0
-Reads text read tokens (Ok r) = (read (lexemes text tokens) ≡ Ok (r.0, lexemes text r.1.now)) × IsLeft text tokens r.1.now
+Reads text read tokens (Ok r) = (read (lexemes text tokens) ≡ Ok (r.0, lexemes text r.1.now))
+    × IsLeft text tokens r.1.now
 Reads text read tokens (Err e) = read (lexemes text tokens) ≡ Err e
 
 -- the same of what has no value of its own
-abbrev pub Passes : List ℕ → (List Lexeme → Reading (Unit {0})) → List Token → Result (Bor (List Token)) FaultScriptFault → Type 0
+abbrev pub Passes : List ℕ → (List Lexeme → Reading (Unit {0})) → List Token
+    → Result (Bor (List Token)) FaultScriptFault → Type 0
 Passes text read tokens (Ok r) = (read (lexemes text tokens) ≡ Ok (tt, lexemes text r.now)) × IsLeft text tokens r.now
 Passes text read tokens (Err e) = read (lexemes text tokens) ≡ Err e
 
@@ -254,14 +259,18 @@ Passes text read tokens (Err e) = read (lexemes text tokens) ≡ Err e
 abbrev pub IsLeftIn : List ℕ → (tokens rest : List Token) → Type 0
 IsLeftIn text tokens rest = All (IsSpan text) rest × (length rest ≤ length tokens)
 
-abbrev pub ReadsIn : {A : Type 0} → List ℕ → (List Lexeme → Reading A) → List Token → Result (A × Bor (List Token)) FaultScriptFault
+abbrev pub ReadsIn : {A : Type 0} → List ℕ → (List Lexeme → Reading A) → List Token
+    → Result (A × Bor (List Token)) FaultScriptFault
     → Type 0
-ReadsIn text read tokens (Ok r) = (read (lexemes text tokens) ≡ Ok (r.0, lexemes text r.1.now)) × IsLeftIn text tokens r.1.now
+ReadsIn text read tokens (Ok r) = (read (lexemes text tokens) ≡ Ok (r.0, lexemes text r.1.now))
+    × IsLeftIn text tokens r.1.now
 ReadsIn text read tokens (Err e) = read (lexemes text tokens) ≡ Err e
 
 -- the same of the kind of an action and its slot's instruction
-abbrev pub ReadsKind : List ℕ → Option Instr → List Token → Result (Kind × Instr × Bor (List Token)) FaultScriptFault → Type 0
-ReadsKind text slot tokens (Ok r) = (kind_reading slot (lexemes text tokens) ≡ Ok ((r.0, r.1), lexemes text r.2.now)) × IsLeft text tokens r.2.now
+abbrev pub ReadsKind : List ℕ → Option Instr → List Token → Result (Kind × Instr × Bor (List Token)) FaultScriptFault
+    → Type 0
+ReadsKind text slot tokens (Ok r) = (kind_reading slot (lexemes text tokens) ≡ Ok ((r.0, r.1), lexemes text r.2.now))
+    × IsLeft text tokens r.2.now
 ReadsKind text slot tokens (Err e) = kind_reading slot (lexemes text tokens) ≡ Err e
 
 -- each stream has at most 2^32 slots
@@ -269,7 +278,8 @@ abbrev pub HasFewSlots : Cases → Type 0
 HasFewSlots cases = (case hart : ℕ) → slot_count (stream_in cases case hart) ≤ 2 ^ 32
 
 -- the next line was read, or there is none, or it has this fault
-abbrev pub IsNext : Cases → List ℕ → List FaultLine → List Token → Result (Option (FaultLine × Bor (List Token))) FaultScriptFault → Type 0
+abbrev pub IsNext : Cases → List ℕ → List FaultLine → List Token
+    → Result (Option (FaultLine × Bor (List Token))) FaultScriptFault → Type 0
 IsNext cases text before tokens (Ok (Some r)) =
     (next_line cases before (lexemes text tokens) ≡ Ok (r.0, lexemes text r.1.now)) × IsLeft text tokens r.1.now
 IsNext cases text before tokens (Ok None) = length tokens ≡ 0
