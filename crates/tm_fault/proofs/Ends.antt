@@ -1,7 +1,6 @@
 -- The tokens of a text end with a line's end, so that each line has one.
-use Rattle.std.proofs.Common.{◌≡◌, ◌∙◌, ◌+◌, ◌==◌, ◌&&◌, ◌||◌, ℕ, Bool, cond, true, false, refl, sym, ap, subst, List}
-use Rattle.std.proofs.Common.{[], ◌∷◌, ◌++◌, map, length, Option, Some, None, Result, Ok, Err, true≢false, inl, inr}
-use Rattle.std.proofs.Common.{◌⊎◌}
+use Rattle.std.proofs.Common.{◌≡◌, ◌∙◌, ◌+◌, ◌==◌, ◌||◌, ℕ, Bool, true, false, refl, sym, ap, List}
+use Rattle.std.proofs.Common.{[], ◌∷◌, ◌++◌, map, length, Option, Some, None, Result, Ok, Err}
 use Rattle.std.specs.List.{list_any, slice_split}
 use Rattle.tm_lex.specs.Lexing.{Span, tokens_of, lines_reading, line_tokens, line_fault, unless_fault, before}
 use Rattle.tm_lex.specs.Lexing.{token_at, with_end, spans, content}
@@ -9,13 +8,8 @@ use Rattle.tm_lex.specs.declared.token.Token.{Token}
 use Rattle.tm_lex.specs.declared.token.TokenKind.{TokenKind}
 use Rattle.tm_lex.specs.declared.token.TokenKind.TheVariants.{LineEnd}
 use Rattle.tm_lex.specs.declared.token.LexFault.{LexFault}
-use Rattle.tm_plan_cases.specs.declared.cases.Cases.{Cases}
-use Rattle.tm_plan_script.specs.declared.faults.FaultLine.{FaultLine}
-use Rattle.tm_fault.specs.declared.fault.FaultScriptFault.{FaultScriptFault}
-use Rattle.tm_fault.specs.declared.fault.FaultScriptFault.TheVariants.{Twice}
 use Rattle.tm_lex.specs.Lines.{Lexeme, lexemes, is_line_end}
-use Rattle.tm_fault.specs.Script.{Reading, line_reading, first_at, is_twice, unless_twice, next_line}
-use Rattle.tm_fault.proofs.Reading.{err≢ok, ok-same, err-same}
+use Rattle.tm_fault.proofs.Reading.{err≢ok, ok-same}
 
 -- some token ends a line
 abbrev pub has_end : List Lexeme → Bool

@@ -1,5 +1,5 @@
 -- A line isn't read exactly where one of its tokens is at fault, and with this token's fault.
-use Rattle.std.proofs.Common.{◌≡◌, ◌∙◌, ◌*◌, ◌^◌, ◌++◌, ℕ, true, refl, sym, ap, subst, List, [], ◌∷◌, length, Option}
+use Rattle.std.proofs.Common.{◌≡◌, ◌*◌, ◌^◌, ◌++◌, ℕ, true, refl, sym, ap, subst, List, [], ◌∷◌, length, Option}
 use Rattle.std.proofs.Common.{Some}
 use Rattle.std.proofs.Common.{None, Ok, Err, inl, inr, ◌⊎◌, codes}
 use Rattle.tm_lex.specs.Lines.{Lexeme, keyword, line_end, ◌>>=◌}
@@ -11,7 +11,7 @@ use Rattle.tm_plan_map.specs.Slots.{load_width, store_width}
 use Rattle.tm_plan_script.specs.declared.faults.FaultLine.{FaultLine}
 use Rattle.tm_plan_script.specs.declared.faults.Action.{Action}
 use Rattle.tm_plan_script.specs.declared.faults.Action.TheVariants as act
-use Rattle.tm_plan_script.specs.Accepted.{slot_in, slot_of}
+use Rattle.tm_plan_script.specs.Accepted.{slot_in}
 use Rattle.tm_fault.specs.declared.fault.FaultScriptFault.{FaultScriptFault}
 use Rattle.tm_fault.specs.declared.fault.Want2.TheVariants as want
 use Rattle.tm_fault.specs.declared.line.Kind.{Kind}
@@ -19,7 +19,7 @@ use Rattle.tm_fault.specs.declared.line.Kind.TheVariants as kind
 use Rattle.tm_fault.specs.Script.{Reading, one, index, named, pass_index, named_pass, kind_reading, xor, with_number}
 use Rattle.tm_fault.specs.Script.{number_reading, action_reading, slot_count, ended, action_line, slot_reading, begun}
 use Rattle.tm_fault.specs.Script.{pass_line, case_line, line_reading}
-use Rattle.tm_fault.specs.Causes.{Place, FailsAt, xor_limit, action_places, places, IsNoLine}
+use Rattle.tm_fault.specs.Causes.{Place, FailsAt, xor_limit, action_places, IsNoLine}
 use Rattle.tm_fault.specs.Causes.Place.{word_place, index_place, pass_place, action_place, xor_place, end_place}
 use Rattle.tm_fault.proofs.Ends.{has_end}
 use Rattle.tm_fault.proofs.Reading.{err≢ok, err-same, ok-same, bound}

@@ -1,12 +1,11 @@
 -- A token is read at its place, or is at fault there.
-use Rattle.std.proofs.Common.{◌≡◌, ◌∙◌, ◌<◌, ◌≤◌, ◌*◌, ◌^◌, ◌||◌, ℕ, Bool, cond, true, false, refl, sym, ap, subst}
+use Rattle.std.proofs.Common.{◌≡◌, ◌∙◌, ◌<◌, ◌||◌, ℕ, Bool, cond, true, false, refl, sym, ap, subst}
 use Rattle.std.proofs.Common.{List}
-use Rattle.std.proofs.Common.{[], ◌∷◌, Option, Some, None, Ok, Err, true≢false, nat_lt, inl, inr, ◌⊎◌, codes}
-use Rattle.std.specs.Str.{bytes_eq}
+use Rattle.std.proofs.Common.{[], ◌∷◌, Option, Some, None, Ok, Err, true≢false, nat_lt, inl, inr, codes}
 use Rattle.std.proofs.lemmas.Slice.Eq.{bytes_eq-Decides}
 use Rattle.tm_lex.specs.declared.token.TokenKind.{TokenKind}
 use Rattle.tm_lex.specs.declared.token.TokenKind.TheVariants.{Word}
-use Rattle.tm_lex.specs.Lines.{Lexeme, is_word, is_line_end, keyword, line_end, fitting, ◌>>=◌}
+use Rattle.tm_lex.specs.Lines.{Lexeme, is_word, is_line_end, keyword, line_end, fitting}
 use Rattle.tm_table.specs.declared.instr.Instr.{Instr}
 use Rattle.tm_fault.specs.declared.fault.FaultScriptFault.{FaultScriptFault}
 use Rattle.tm_fault.specs.declared.fault.FaultScriptFault.TheVariants.{Expected, OutOfRange, NoEffect}
@@ -20,10 +19,10 @@ use Rattle.tm_fault.specs.Spelled.Piece.{fixed}
 use Rattle.tm_fault.specs.Causes.{Place, Stands, HasEffect, IsXor, FailsNumber, FailsAction, Fails, FailsAt, kind_text}
 use Rattle.tm_fault.specs.Causes.Place.{word_place, index_place, pass_place, action_place, xor_place, end_place}
 use Rattle.tm_fault.proofs.Ends.{has_end}
-use Rattle.tm_fault.proofs.Reading.{err≢ok, err-same, ok-same, some-same, none≢some, one_read}
+use Rattle.tm_fault.proofs.Reading.{err≢ok, err-same, some-same, none≢some, one_read}
 use Rattle.tm_fault.proofs.Tokens.{word_kind, chosen, word_fits, fits_word, number_fits, fits_number, fits_end}
 use Rattle.tm_fault.proofs.Tokens.{end_fits}
-use Rattle.tm_fault.proofs.Tokens.{lt_is, is_lt, is_le, index_read, pass_read, kind_is, kind_read}
+use Rattle.tm_fault.proofs.Tokens.{lt_is, is_lt, index_read, pass_read, kind_is, kind_read}
 use Rattle.tm_fault.proofs.Tokens.{word_at, xor_read, star_fits, in_range_is, range_is}
 
 -- ---- one token

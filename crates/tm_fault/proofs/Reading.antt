@@ -1,16 +1,15 @@
 -- What is read of tokens, one behind the other.
-use Rattle.std.proofs.Common.{◌≡◌, ◌≢◌, ◌∙◌, ◌<◌, ◌≤◌, ◌+◌, ◌^◌, ◌*◌, ◌&&◌, ◌||◌, not, ℕ, Bool, cond, true, false}
-use Rattle.std.proofs.Common.{zero, suc, refl, sym, ap, ap₂, subst, arith, List, [], ◌∷◌, ◌++◌, length, Option, Some}
-use Rattle.std.proofs.Common.{None, Result, Ok, Err, true≢false, nat_lt, nat_le, inl, inr, ◌⊎◌, All, append_assoc}
+use Rattle.std.proofs.Common.{◌≡◌, ◌∙◌, ◌<◌, ◌≤◌, ◌^◌, ◌*◌, ◌&&◌, ℕ, Bool, true, false}
+use Rattle.std.proofs.Common.{refl, sym, ap, arith, List, [], ◌∷◌, ◌++◌, length, Option, Some}
+use Rattle.std.proofs.Common.{None, Result, Ok, Err, true≢false, inl, inr, ◌⊎◌, append_assoc}
 use Rattle.std.specs.Borrow.{Bor}
-use Rattle.std.proofs.lemmas.Bool.Decides.{nat_tests}
 use Rattle.tm_lex.specs.declared.token.Token.{Token}
 use Rattle.tm_fault.specs.declared.fault.FaultScriptFault.{FaultScriptFault}
 use Rattle.tm_fault.specs.declared.fault.FaultScriptFault.TheVariants.{Expected}
 use Rattle.tm_fault.specs.declared.fault.Want2.{Want2}
 use Rattle.tm_plan_script.specs.declared.faults.Action.{Action}
-use Rattle.tm_lex.specs.Lines.{Lexeme, lexemes, ◌>>=◌, fitting, IsSpan}
-use Rattle.tm_fault.specs.Script.{Reading, one, Reads, ReadsIn, Passes, IsLeft, IsLeftIn, xor, numbered, with_number}
+use Rattle.tm_lex.specs.Lines.{Lexeme, lexemes, ◌>>=◌, fitting}
+use Rattle.tm_fault.specs.Script.{Reading, one, Reads, ReadsIn, Passes, xor, numbered, with_number}
 use Rattle.tm_fault.specs.Spelled.{Piece, AreFit}
 
 -- ---- truth values

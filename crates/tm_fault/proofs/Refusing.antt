@@ -1,14 +1,12 @@
 -- A line with a token at fault isn't read, for this fault.
-use Rattle.std.proofs.Common.{◌≡◌, ◌∙◌, ◌<◌, ◌≤◌, ◌*◌, ◌^◌, ◌++◌, ℕ, true, refl, sym, ap, subst, List, [], ◌∷◌, length}
-use Rattle.std.proofs.Common.{Option, Some, None, Ok, Err, inl, inr, ◌⊎◌, codes, IfSome}
-use Rattle.std.specs.Str.{bytes_eq}
+use Rattle.std.proofs.Common.{◌≡◌, ◌∙◌, ◌++◌, ℕ, true, refl, sym, ap, List, [], ◌∷◌, length}
+use Rattle.std.proofs.Common.{Option, Some, None, Ok, Err, inl, inr, ◌⊎◌, codes}
 use Rattle.std.proofs.lemmas.Slice.Eq.{bytes_eq-Decides}
 use Rattle.tm_lex.specs.Lines.{Lexeme, keyword, line_end, ◌>>=◌}
 use Rattle.tm_table.specs.declared.instr.Instr.{Instr}
 use Rattle.tm_plan_cases.specs.declared.cases.Cases.{Cases}
 use Rattle.tm_plan_cases.specs.declared.cases.Stream.{Stream}
 use Rattle.tm_plan_cases.specs.Streams.{stream_in}
-use Rattle.tm_plan_map.specs.Slots.{load_width, store_width}
 use Rattle.tm_plan_script.specs.declared.faults.FaultLine.{FaultLine}
 use Rattle.tm_plan_script.specs.declared.faults.Action.{Action}
 use Rattle.tm_plan_script.specs.declared.faults.Action.TheVariants as act
@@ -17,13 +15,12 @@ use Rattle.tm_fault.specs.declared.fault.FaultScriptFault.{FaultScriptFault}
 use Rattle.tm_fault.specs.declared.fault.Want2.TheVariants as want
 use Rattle.tm_fault.specs.declared.line.Kind.{Kind}
 use Rattle.tm_fault.specs.declared.line.Kind.TheVariants as kind
-use Rattle.tm_fault.specs.Script.{Reading, one, index, named, is_star, pass_index, named_pass, suits, kind_reading, xor}
+use Rattle.tm_fault.specs.Script.{Reading, one, index, named, is_star, pass_index, named_pass, kind_reading, xor}
 use Rattle.tm_fault.specs.Script.{with_number, number_reading, action_reading, slot_count, ended, action_line}
 use Rattle.tm_fault.specs.Script.{slot_reading, begun, pass_line, case_line, line_reading}
-use Rattle.tm_fault.specs.Spelled.{Fits, pass_piece}
 use Rattle.tm_fault.specs.Causes.{Place, Stands, FailsAt, xor_limit, action_places, places}
 use Rattle.tm_fault.specs.Causes.Place.{word_place, index_place, pass_place, action_place, xor_place, end_place}
-use Rattle.tm_fault.proofs.Tokens.{fits_word, fits_number, is_lt, no_star, kind_reads, xor_reads, fits_end}
+use Rattle.tm_fault.proofs.Tokens.{fits_word, fits_number, is_lt, no_star, kind_reads, xor_reads}
 use Rattle.tm_fault.proofs.Places.{word_fails, end_fails, index_fails, pass_fails, action_fails, xor_fails}
 
 -- either the reader has this fault, or it reads this, and what is behind fails at further places

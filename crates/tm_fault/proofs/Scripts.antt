@@ -1,11 +1,11 @@
 -- A script is read exactly where its tokens stand for its lines, and they are accepted.
-use Rattle.std.proofs.Common.{◌≡◌, ◌≢◌, ◌∙◌, ◌<◌, ◌≤◌, ◌+◌, ◌&&◌, ◌||◌, not, ℕ, Bool, cond, true, false, zero, suc}
-use Rattle.std.proofs.Common.{refl, sym, ap, ap₂, subst, arith, List, [], ◌∷◌, ◌++◌, length, Option, Some, None}
-use Rattle.std.proofs.Common.{Result, Ok, Err, IfOk, IfErr, true≢false, inl, inr, ◌⊎◌, All, AllPairs, append_assoc}
-use Rattle.std.proofs.Common.{append-nil, length-append, is_err, OnOk}
+use Rattle.std.proofs.Common.{◌≡◌, ◌∙◌, ◌<◌, ◌≤◌, ◌+◌, ◌||◌, ℕ, Bool, cond, true, false, zero, suc}
+use Rattle.std.proofs.Common.{refl, sym, ap, ap₂, subst, arith, List, [], ◌∷◌, ◌++◌, length}
+use Rattle.std.proofs.Common.{Result, Ok, Err, true≢false, inl, inr, ◌⊎◌, All, AllPairs, append_assoc}
+use Rattle.std.proofs.Common.{append-nil}
 use Rattle.std.proofs.lemmas.Bool.{cases_lt}
 use Rattle.std.specs.List.{list_any, slice_index_or}
-use Rattle.std.specs.Prelude.{IsFalse, IsTrue}
+use Rattle.std.specs.Prelude.{IsFalse}
 use Rattle.tm_lex.specs.Lexing.{tokens_of}
 use Rattle.tm_lex.specs.declared.token.Token.{Token}
 use Rattle.tm_lex.specs.declared.token.LexFault.{LexFault}
@@ -13,19 +13,13 @@ use Rattle.tm_plan_cases.specs.declared.cases.Cases.{Cases}
 use Rattle.tm_plan_script.specs.declared.faults.FaultLine.{FaultLine}
 use Rattle.tm_plan_script.specs.Accepted.{are_twice, IsAccepted, AreAccepted}
 use Rattle.tm_fault.specs.declared.fault.FaultScriptFault.{FaultScriptFault}
-use Rattle.tm_fault.specs.declared.fault.FaultScriptFault.TheVariants.{Lex, Expected, OutOfRange, NoEffect, Twice}
-use Rattle.tm_fault.specs.declared.fault.FaultScriptFault.TheVariants.{NoMemory}
-use Rattle.tm_lex.specs.Lines.{Lexeme, lexemes, IsSpan}
-use Rattle.tm_fault.specs.Script.{IsLeft, Reading, line_reading, first_at, is_twice, unless_twice, next_line}
+use Rattle.tm_fault.specs.declared.fault.FaultScriptFault.TheVariants.{Lex, Twice}
+use Rattle.tm_lex.specs.Lines.{Lexeme, lexemes}
+use Rattle.tm_fault.specs.Script.{Reading, line_reading, first_at, is_twice, unless_twice, next_line}
 use Rattle.tm_fault.specs.Script.{behind_line, lines_from, of_tokens, script_of}
-use Rattle.tm_fault.specs.Spelled.{Piece, AreFit, line_pieces, all_pieces, IsSpelled, IsScript, IsOrNoMemory}
-use Rattle.tm_fault.specs.Spelled.{IsFaultOrNoMemory}
-use Rattle.tm_fault.specs.Causes.{IsNoLine, Repeats, HaveFault, IsFaultOf}
-use Rattle.tm_fault.proofs.Reading.{err≢ok, ok-same, err-same, Got, fit_both, Parted, fit_parts, both}
+use Rattle.tm_fault.specs.Spelled.{AreFit, line_pieces, all_pieces, IsSpelled, IsScript}
+use Rattle.tm_fault.proofs.Reading.{err≢ok, ok-same, fit_both, fit_parts}
 use Rattle.tm_fault.proofs.Lines.{LineGot, line_got, line_reads}
-use Rattle.tm_fault.proofs.Ends.{has_end, lexed_well, text_ends, lexed, left_well, has_one}
-use Rattle.tm_fault.proofs.Failing.{no_line}
-use Rattle.tm_fault.proofs.Refusing.{line_refused}
 
 -- ---- lines one behind the other
 

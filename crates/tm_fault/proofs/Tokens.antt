@@ -1,8 +1,7 @@
 -- Single tokens, and what they are read as.
-use Rattle.std.proofs.Common.{◌≡◌, ◌≢◌, ◌∙◌, ◌<◌, ◌≤◌, ◌+◌, ◌^◌, ◌*◌, ◌&&◌, ◌||◌, not, ℕ, Bool, cond, true, false}
-use Rattle.std.proofs.Common.{zero, suc, refl, sym, ap, ap₂, subst, arith, List, [], ◌∷◌, ◌++◌, length, Option, Some}
-use Rattle.std.proofs.Common.{None, Result, Ok, Err, true≢false, nat_lt, nat_le, inl, inr, ◌⊎◌, All, IfSome, codes}
-use Rattle.std.proofs.Common.{lt-ltb, le-ltb, ltb-true, append_assoc}
+use Rattle.std.proofs.Common.{◌≡◌, ◌∙◌, ◌<◌, ◌≤◌, ◌&&◌, ℕ, Bool, cond, true, false}
+use Rattle.std.proofs.Common.{refl, sym, ap, subst, arith, List, [], ◌∷◌, ◌++◌, Option, Some}
+use Rattle.std.proofs.Common.{None, Result, Ok, Err, true≢false, nat_lt, nat_le, inl, inr, ◌⊎◌, IfSome, codes}
 use Rattle.std.specs.Str.{bytes_eq}
 use Rattle.std.proofs.lemmas.Slice.Eq.{bytes_eq-Decides}
 use Rattle.std.proofs.lemmas.Bool.Decides.{nat_tests}
@@ -12,31 +11,20 @@ use Rattle.tm_base.specs.declared.numbers.NumberFault.{NumberFault}
 use Rattle.tm_lex.specs.declared.token.TokenKind.{TokenKind}
 use Rattle.tm_lex.specs.declared.token.TokenKind.TheVariants.{Word, Raw, LineEnd}
 use Rattle.tm_table.specs.declared.instr.Instr.{Instr}
-use Rattle.tm_plan_cases.specs.declared.cases.Cases.{Cases}
-use Rattle.tm_plan_cases.specs.declared.cases.Stream.{Stream}
-use Rattle.tm_plan_map.specs.Slots.{load_width, store_width, is_branch}
-use Rattle.tm_plan_script.specs.declared.faults.FaultLine.{FaultLine}
 use Rattle.tm_plan_script.specs.declared.faults.Action.{Action}
-use Rattle.tm_plan_script.specs.declared.faults.Action.TheVariants as act
-use Rattle.tm_plan_cases.specs.Streams.{stream_in}
-use Rattle.tm_plan_script.specs.Accepted.{instr_at, slot_in, slot_of, Suits, IsAccepted}
-use Rattle.std.specs.List.{slice_get}
-use Rattle.tm_fault.specs.declared.fault.FaultScriptFault.{FaultScriptFault}
-use Rattle.tm_fault.specs.declared.fault.FaultScriptFault.TheVariants.{Expected, OutOfRange, NoEffect}
-use Rattle.tm_fault.specs.declared.fault.Want2.{Want2}
+use Rattle.tm_fault.specs.declared.fault.FaultScriptFault.TheVariants.{OutOfRange, NoEffect}
 use Rattle.tm_fault.specs.declared.fault.Want2.TheVariants as want
 use Rattle.tm_fault.specs.declared.line.Kind.{Kind}
 use Rattle.tm_fault.specs.declared.line.Kind.TheVariants as kind
-use Rattle.tm_lex.specs.Lines.{Lexeme, ◌>>=◌, is_word, is_line_end, keyword, line_end, fitting}
+use Rattle.tm_lex.specs.Lines.{Lexeme, is_word, is_line_end, keyword, line_end}
 use Rattle.tm_fault.specs.Script.{Reading, ok_number, number, kind_of, action_kind, one, below, index, named, is_star}
-use Rattle.tm_fault.specs.Script.{some_pass, pass_at, pass_index, named_pass, suits, effective, kind_at, kind_reading}
-use Rattle.tm_fault.specs.Script.{is_in_range, from_one, xor, with_number, number_reading, action_reading, slot_count}
-use Rattle.tm_fault.specs.Script.{slot_reading, line_reading}
-use Rattle.tm_fault.specs.Spelled.{Piece, Fits, AreFit, pass_piece, action_pieces, line_pieces}
+use Rattle.tm_fault.specs.Script.{some_pass, pass_index, named_pass, suits, effective, kind_at, kind_reading}
+use Rattle.tm_fault.specs.Script.{is_in_range, from_one, xor, with_number}
+use Rattle.tm_fault.specs.Spelled.{Fits, AreFit, pass_piece}
 use Rattle.tm_fault.specs.Causes.{kind_text}
 use Rattle.tm_fault.specs.Spelled.Piece.{fixed, a_number, the_end}
-use Rattle.tm_fault.proofs.Reading.{both, false_or_true, err≢ok, ok-same, some-same, none≢some, Bound, bound, One}
-use Rattle.tm_fault.proofs.Reading.{one_read, Got, got_both, fit_both, Parted, fit_parts}
+use Rattle.tm_fault.proofs.Reading.{both, err≢ok, ok-same, some-same, none≢some, bound}
+use Rattle.tm_fault.proofs.Reading.{one_read, Got}
 
 -- ---- single tokens
 

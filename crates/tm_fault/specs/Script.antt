@@ -1,7 +1,7 @@
 -- The lines of a fault script, read from left to right over a program's cases (this project's own).
-use Rattle.std.specs.Prelude.{ℕ, zero, suc, ◌≡◌, ◌⊎◌, ◌≤◌, ◌<◌, ◌+◌, ◌-◌, ◌*◌, ◌^◌, Bool, true, false, ◌&&◌, nat_le}
+use Rattle.std.specs.Prelude.{ℕ, zero, suc, ◌≡◌, ◌⊎◌, ◌≤◌, ◌<◌, ◌*◌, ◌^◌, Bool, ◌&&◌, nat_le}
 use Rattle.std.specs.Prelude.{nat_lt}
-use Rattle.std.specs.Prelude.{if◌then◌else◌, List, [], ◌∷◌, ◌++◌, length, take, drop, slice_get, Option, Some, None}
+use Rattle.std.specs.Prelude.{if◌then◌else◌, List, [], ◌∷◌, ◌++◌, length, Option, Some, None}
 use Rattle.std.specs.Prelude.{Result}
 use Rattle.std.specs.Prelude.{Ok, Err, codes, All}
 use Rattle.std.specs.Borrow.{Bor}
@@ -72,6 +72,7 @@ abbrev pub below : ℕ → Lexeme → List Lexeme → Option ℕ → Reading ℕ
 below limit x xs None = Err (Expected x.0.at want.Number)
 below limit x xs (Some n) = if nat_lt n limit then Ok (n, xs) else Err (OutOfRange x.0.at n)
 
+-- the next token as such a number
 abbrev pub index : ℕ → List Lexeme → Reading ℕ
 index limit [] = Err (Expected nowhere want.Number)
 index limit (x ∷ xs) = below limit x xs (number x)
@@ -85,17 +86,21 @@ abbrev pub some_pass : Reading ℕ → Reading (Option ℕ)
 some_pass (Ok p) = Ok (Some p.0, p.1)
 some_pass (Err e) = Err e
 
+-- `*`
 abbrev pub is_star : Lexeme → Bool
 is_star x = is_word x.0.kind && bytes_eq x.1 (codes "*")
 
+-- a token as a pass of so many, or as all of them
 abbrev pub pass_at : ℕ → Lexeme → List Lexeme → Reading (Option ℕ)
 pass_at passes x xs = if is_star x then Ok (None, xs)
     else some_pass (below passes x xs (number x))
 
+-- the next token as one
 abbrev pub pass_index : ℕ → List Lexeme → Reading (Option ℕ)
 pass_index passes [] = Err (Expected nowhere want.Number)
 pass_index passes (x ∷ xs) = pass_at passes x xs
 
+-- `pass`, and which
 abbrev pub named_pass : ℕ → List Lexeme → Reading (Option ℕ)
 named_pass passes xs = one want.Word (keyword (codes "pass")) xs >>= (λ _ rest. pass_index passes rest)
 
@@ -115,6 +120,7 @@ abbrev pub effective : Lexeme → List Lexeme → Kind → Option Instr → Read
 effective x xs k None = Err (NoEffect x.0.at)
 effective x xs k (Some i) = if suits k i then Ok ((k, i), xs) else Err (NoEffect x.0.at)
 
+-- a kind of action that a token names, of a slot with this instruction
 abbrev pub kind_at : Option Instr → Lexeme → List Lexeme → Option Kind → Reading (Kind × Instr)
 kind_at slot x xs None = Err (Expected x.0.at want.Action)
 kind_at slot x xs (Some k) = effective x xs k slot
@@ -137,6 +143,7 @@ abbrev pub from_one : ℕ → Lexeme → List Lexeme → Option ℕ → Reading 
 from_one limit x xs None = Err (Expected x.0.at want.Number)
 from_one limit x xs (Some n) = if is_in_range limit n then Ok (n, xs) else Err (OutOfRange x.0.at n)
 
+-- the next token as such a number
 abbrev pub xor : ℕ → List Lexeme → Reading ℕ
 xor limit [] = Err (Expected nowhere want.Number)
 xor limit (x ∷ xs) = from_one limit x xs (number x)
@@ -146,9 +153,11 @@ abbrev pub with_number : (ℕ → Action) → Reading ℕ → Reading Action
 with_number f (Ok p) = Ok (f p.0, p.1)
 with_number f (Err e) = Err e
 
+-- an action with its number, below two to the bits of so many bytes
 abbrev pub numbered : (ℕ → Action) → (width : ℕ) → List Lexeme → Reading Action
 numbered f width xs = with_number f (xor (2 ^ (8 * width)) xs)
 
+-- what follows the word of an action: its number, where it has one
 unfoldable pub number_reading : Kind → Instr → List Lexeme → Reading Action
 number_reading kind.Result i xs = numbered act.Result 8 xs
 number_reading kind.Loaded i xs = numbered act.Loaded (load_width i.op) xs
@@ -156,6 +165,7 @@ number_reading kind.Stored i xs = numbered act.Stored (store_width i.op) xs
 number_reading kind.Drop i xs = Ok (act.Drop, xs)
 number_reading kind.Turn i xs = Ok (act.Turn, xs)
 
+-- an action on a slot with this instruction
 unfoldable pub action_reading : Option Instr → List Lexeme → Reading Action
 action_reading slot xs = kind_reading slot xs >>= (λ k rest. number_reading k.0 k.1 rest)
 
@@ -183,10 +193,12 @@ slot_reading stream line xs = named (codes "slot") (slot_count stream) xs >>= ac
 abbrev pub begun : (hart case : ℕ) → Option ℕ → FaultLine
 begun hart case pass = record { hart = hart; case = case; pass = pass; slot = 0; action = act.Drop }
 
+-- a line behind its hart and case
 abbrev pub pass_line : Cases → (hart case : ℕ) → List Lexeme → Reading FaultLine
 pass_line cases hart case xs =
     named_pass cases.passes xs >>= (λ pass xs. slot_reading (stream_in cases case hart) (begun hart case pass) xs)
 
+-- a line behind its hart
 abbrev pub case_line : Cases → (hart : ℕ) → List Lexeme → Reading FaultLine
 case_line cases hart xs = named (codes "case") (length cases.cases) xs >>= pass_line cases hart
 
@@ -210,6 +222,7 @@ abbrev pub unless_twice : Pos → List FaultLine → Reading FaultLine → Readi
 unless_twice at before (Ok p) = if is_twice before p.0 then Err (Twice at) else Ok p
 unless_twice at before (Err e) = Err e
 
+-- the next line of tokens, or its fault
 unfoldable pub next_line : Cases → List FaultLine → List Lexeme → Reading FaultLine
 next_line cases before xs = unless_twice (first_at xs) before (line_reading cases xs)
 
@@ -235,7 +248,7 @@ of_tokens cases text (Err e) = Err (Lex e)
 unfoldable pub script_of : Cases → List ℕ → Result (List FaultLine) FaultScriptFault
 script_of cases text = of_tokens cases text (tokens_of text)
 
--- ---- what the code's steps are
+-- ---- what the steps of the code are
 
 -- what is left lies within the text, and is less
 abbrev pub IsLeft : List ℕ → (tokens rest : List Token) → Type 0
@@ -259,6 +272,7 @@ Passes text read tokens (Err e) = read (lexemes text tokens) ≡ Err e
 abbrev pub IsLeftIn : List ℕ → (tokens rest : List Token) → Type 0
 IsLeftIn text tokens rest = All (IsSpan text) rest × (length rest ≤ length tokens)
 
+-- from tokens this was read, with those behind it; or this fault
 abbrev pub ReadsIn : {A : Type 0} → List ℕ → (List Lexeme → Reading A) → List Token
     → Result (A × Bor (List Token)) FaultScriptFault
     → Type 0
