@@ -1,19 +1,15 @@
 -- The tokens of a text end with a line's end, so that each line has one.
-use Rattle.std.proofs.Common.{◌≡◌, ◌∙◌, ◌+◌, ◌==◌, ◌&&◌, ◌||◌, ℕ, Bool, cond, true, false, refl, sym, ap, subst, List, [], ◌∷◌, ◌++◌, map, length, Option, Some, None, Result, Ok, Err, true≢false, inl, inr, ◌⊎◌}
+use Rattle.std.proofs.Common.{◌≡◌, ◌∙◌, ◌+◌, ◌==◌, ◌||◌, ℕ, Bool, true, false, refl, sym, ap, List}
+use Rattle.std.proofs.Common.{[], ◌∷◌, ◌++◌, map, length, Option, Some, None, Result, Ok, Err}
 use Rattle.std.specs.List.{list_any, slice_split}
-use Rattle.tm_lex.specs.Lexing.{Span, tokens_of, lines_reading, line_tokens, line_fault, unless_fault, before, token_at, with_end, spans, content}
+use Rattle.tm_lex.specs.Lexing.{Span, tokens_of, lines_reading, line_tokens, line_fault, unless_fault, before}
+use Rattle.tm_lex.specs.Lexing.{token_at, with_end, spans, content}
 use Rattle.tm_lex.specs.declared.token.Token.{Token}
 use Rattle.tm_lex.specs.declared.token.TokenKind.{TokenKind}
 use Rattle.tm_lex.specs.declared.token.TokenKind.TheVariants.{LineEnd}
 use Rattle.tm_lex.specs.declared.token.LexFault.{LexFault}
-use Rattle.tm_plan_cases.specs.declared.cases.Cases.{Cases}
-use Rattle.tm_plan_script.specs.declared.faults.FaultLine.{FaultLine}
-use Rattle.tm_fault.specs.declared.fault.FaultScriptFault.{FaultScriptFault}
-use Rattle.tm_fault.specs.declared.fault.FaultScriptFault.TheVariants.{Twice}
 use Rattle.tm_lex.specs.Lines.{Lexeme, lexemes, is_line_end}
-use Rattle.tm_fault.specs.Script.{Reading, line_reading, first_at, is_twice, unless_twice, next_line}
-use Rattle.tm_fault.specs.Spelled.{HaveFault}
-use Rattle.tm_fault.proofs.Reading.{err≢ok, ok-same, err-same}
+use Rattle.tm_fault.proofs.Reading.{err≢ok, ok-same}
 
 -- some token ends a line
 abbrev pub has_end : List Lexeme → Bool
@@ -32,7 +28,8 @@ both_end (t ∷ []) [] a b = a
 both_end (t ∷ []) (u ∷ us) a b = b
 both_end (t ∷ v ∷ ts) us a b = both_end (v ∷ ts) us a b
 
-parts_end : (number from n : ℕ) (ss : List (TokenKind × Span)) → ends_well (map (token_at number from) (ss ++ (LineEnd, (n, n)) ∷ [])) ≡ true
+parts_end : (number from n : ℕ) (ss : List (TokenKind × Span))
+    → ends_well (map (token_at number from) (ss ++ (LineEnd, (n, n)) ∷ [])) ≡ true
 parts_end number from n [] = refl
 parts_end number from n (s ∷ []) = refl
 parts_end number from n (s ∷ t ∷ ss) = parts_end number from n (t ∷ ss)
@@ -45,18 +42,22 @@ line_ends number from line = by (spans (content line))
     by [] = refl
     by (s ∷ ss) = parts_end number from (length line) (s ∷ ss)
 
-lines_end : (lines : List (List ℕ)) (number from : ℕ) (ts : List Token) → lines_reading number from lines ≡ Ok ts → ends_well ts ≡ true
+lines_end : (lines : List (List ℕ)) (number from : ℕ) (ts : List Token) → lines_reading number from lines ≡ Ok ts
+    → ends_well ts ≡ true
 unfolding lines_reading
 lines_end [] number from ts is = ap ends_well (sym (ok-same [] ts is))
 lines_end (line ∷ rest) number from ts is =
-    by (line_fault number line) (lines_reading (number + 1) (from + length line + 1) rest) (λ more e. lines_end rest (number + 1) (from + length line + 1) more e) is
+    by (line_fault number line) (lines_reading (number + 1) (from + length line + 1) rest)
+    (λ more e. lines_end rest (number + 1) (from + length line + 1) more e) is
   where
-    by : (o : Option LexFault) (r : Result (List Token) LexFault) → ((more : List Token) → r ≡ Ok more → ends_well more ≡ true)
+    by : (o : Option LexFault) (r : Result (List Token) LexFault)
+        → ((more : List Token) → r ≡ Ok more → ends_well more ≡ true)
         → unless_fault o (before (line_tokens number from line) r) ≡ Ok ts → ends_well ts ≡ true
     by (Some x) r more is = absurd (err≢ok x ts is)
     by None (Err x) more is = absurd (err≢ok x ts is)
     by None (Ok us) more is =
-        ap ends_well (sym (ok-same (line_tokens number from line ++ us) ts is)) ∙ both_end (line_tokens number from line) us (line_ends number from line) (more us refl)
+        ap ends_well (sym (ok-same (line_tokens number from line ++ us) ts is))
+        ∙ both_end (line_tokens number from line) us (line_ends number from line) (more us refl)
 
 pub text_ends : (text : List ℕ) (ts : List Token) → tokens_of text ≡ Ok ts → ends_well ts ≡ true
 unfolding tokens_of
@@ -74,7 +75,8 @@ lexed text [] e = refl
 lexed text (t ∷ []) e = e
 lexed text (t ∷ u ∷ ts) e = lexed text (u ∷ ts) e
 
-pub left_well : (front : List Lexeme) (x : Lexeme) (behind : List Lexeme) → lexed_well (front ++ x ∷ behind) ≡ true → lexed_well (x ∷ behind) ≡ true
+pub left_well : (front : List Lexeme) (x : Lexeme) (behind : List Lexeme) → lexed_well (front ++ x ∷ behind) ≡ true
+    → lexed_well (x ∷ behind) ≡ true
 left_well [] x behind e = e
 left_well (y ∷ []) x behind e = e
 left_well (y ∷ z ∷ front) x behind e = left_well (z ∷ front) x behind e

@@ -1,6 +1,12 @@
 pub mod Reading
+pub mod Tokens
 pub mod Lines
-pub mod Scripts
 pub mod Shaped
 pub mod Spans
 pub mod Ends
+pub mod Places
+pub mod Failing
+pub mod Refusing
+pub mod Scripts
+pub mod Refusals
+pub mod Going

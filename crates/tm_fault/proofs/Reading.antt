@@ -1,14 +1,15 @@
 -- What is read of tokens, one behind the other.
-use Rattle.std.proofs.Common.{◌≡◌, ◌≢◌, ◌∙◌, ◌<◌, ◌≤◌, ◌+◌, ◌^◌, ◌*◌, ◌&&◌, ◌||◌, not, ℕ, Bool, cond, true, false, zero, suc, refl, sym, ap, ap₂, subst, arith, List, [], ◌∷◌, ◌++◌, length, Option, Some, None, Result, Ok, Err, true≢false, nat_lt, nat_le, inl, inr, ◌⊎◌, All, append_assoc}
+use Rattle.std.proofs.Common.{◌≡◌, ◌∙◌, ◌<◌, ◌≤◌, ◌^◌, ◌*◌, ◌&&◌, ℕ, Bool, true, false}
+use Rattle.std.proofs.Common.{refl, sym, ap, arith, List, [], ◌∷◌, ◌++◌, length, Option, Some}
+use Rattle.std.proofs.Common.{None, Result, Ok, Err, true≢false, inl, inr, ◌⊎◌, append_assoc}
 use Rattle.std.specs.Borrow.{Bor}
-use Rattle.std.proofs.lemmas.Bool.Decides.{nat_tests}
 use Rattle.tm_lex.specs.declared.token.Token.{Token}
 use Rattle.tm_fault.specs.declared.fault.FaultScriptFault.{FaultScriptFault}
 use Rattle.tm_fault.specs.declared.fault.FaultScriptFault.TheVariants.{Expected}
 use Rattle.tm_fault.specs.declared.fault.Want2.{Want2}
 use Rattle.tm_plan_script.specs.declared.faults.Action.{Action}
-use Rattle.tm_lex.specs.Lines.{Lexeme, lexemes, ◌>>=◌, fitting, IsSpan}
-use Rattle.tm_fault.specs.Script.{Reading, one, Reads, ReadsIn, Passes, IsLeft, IsLeftIn, xor, numbered, with_number}
+use Rattle.tm_lex.specs.Lines.{Lexeme, lexemes, ◌>>=◌, fitting}
+use Rattle.tm_fault.specs.Script.{Reading, one, Reads, ReadsIn, Passes, xor, numbered, with_number}
 use Rattle.tm_fault.specs.Spelled.{Piece, AreFit}
 
 -- ---- truth values
@@ -61,13 +62,15 @@ none≢some a same = true≢false (sym (ap is_there same))
 -- ---- one behind the other
 
 -- what two readers read, one behind the other
-pub record Bound {A B : Type 0} (r : Reading A) (f : A → List Lexeme → Reading B) (b : B) (rest : List Lexeme) : Type 0 where
+pub record Bound {A B : Type 0} (r : Reading A) (f : A → List Lexeme → Reading B) (b : B)
+    (rest : List Lexeme) : Type 0 where
   pub a : A
   pub mid : List Lexeme
   pub first : r ≡ Ok (a, mid)
   pub second : f a mid ≡ Ok (b, rest)
 
-pub bound : {A B : Type 0} (r : Reading A) (f : A → List Lexeme → Reading B) (b : B) (rest : List Lexeme) → r >>= f ≡ Ok (b, rest) → Bound r f b rest
+pub bound : {A B : Type 0} (r : Reading A) (f : A → List Lexeme → Reading B) (b : B) (rest : List Lexeme)
+    → r >>= f ≡ Ok (b, rest) → Bound r f b rest
 bound (Ok p) f b rest e = record { a = p.0; mid = p.1; first = refl; second = e }
 bound (Err x) f b rest e = absurd (err≢ok x (b, rest) e)
 
@@ -77,7 +80,8 @@ pub record One {A : Type 0} (read : Lexeme → Option A) (xs : List Lexeme) (a :
   pub whole : xs ≡ x ∷ rest
   pub is : read x ≡ Some a
 
-pub one_read : {A : Type 0} (w : Want2) (read : Lexeme → Option A) (xs : List Lexeme) (a : A) (rest : List Lexeme) → one w read xs ≡ Ok (a, rest) → One read xs a rest
+pub one_read : {A : Type 0} (w : Want2) (read : Lexeme → Option A) (xs : List Lexeme) (a : A) (rest : List Lexeme)
+    → one w read xs ≡ Ok (a, rest) → One read xs a rest
 one_read w read [] a rest e = absurd (err≢ok _ (a, rest) e)
 one_read w read (x ∷ xs) a rest e = go (read x) refl e
   where
@@ -101,7 +105,8 @@ fit_both [] ps (x ∷ xs) ys f g = absurd f
 fit_both (q ∷ qs) ps [] ys f g = absurd f
 fit_both (q ∷ qs) ps (x ∷ xs) ys f g = (f.0, fit_both qs ps xs ys f.1 g)
 
-pub got_both : (qs ps : List Piece) (xs mid rest : List Lexeme) → Got qs xs mid → Got ps mid rest → Got (qs ++ ps) xs rest
+pub got_both : (qs ps : List Piece) (xs mid rest : List Lexeme) → Got qs xs mid → Got ps mid rest
+    → Got (qs ++ ps) xs rest
 got_both qs ps xs mid rest g h = record {
   front = g.front ++ h.front;
   whole = g.whole ∙ ap (λ t. g.front ++ t) h.whole ∙ sym (append_assoc g.front h.front rest);
@@ -121,37 +126,58 @@ fit_parts [] ps xs f = record { front = []; back = xs; whole = refl; first = tt;
 fit_parts (q ∷ qs) ps [] f = absurd f
 fit_parts (q ∷ qs) ps (x ∷ xs) f =
     let rest = fit_parts qs ps xs f.1 in
-    record { front = x ∷ rest.front; back = rest.back; whole = ap (λ t. x ∷ t) rest.whole; first = (f.0, rest.first); second = rest.second }
+    record {
+      front = x ∷ rest.front;
+      back = rest.back;
+      whole = ap (λ t. x ∷ t) rest.whole;
+      first =
+          (f.0, rest.first);
+      second = rest.second;
+    }
 
 -- ---- the code's steps
 
-pub reads_on : {A : Type 0} (text : List ℕ) (f : List Lexeme → Reading A) (g : List Lexeme → Reading A) (tokens rest : List Token)
-    (r : Result (A × Bor (List Token)) FaultScriptFault) → f (lexemes text tokens) ≡ g (lexemes text rest) → length rest ≤ length tokens → Reads text g rest r → Reads text f tokens r
+pub reads_on : {A : Type 0} (text : List ℕ) (f : List Lexeme → Reading A) (g : List Lexeme → Reading A)
+    (tokens rest : List Token)
+    (r : Result (A × Bor (List Token)) FaultScriptFault) → f (lexemes text tokens) ≡ g (lexemes text rest)
+    → length rest ≤ length tokens → Reads text g rest r → Reads text f tokens r
 reads_on text f g tokens rest (Ok r) same less h = (same ∙ h.0, (h.1.0, omega (arith, less, h.1.1)))
 reads_on text f g tokens rest (Err e) same less h = same ∙ h
 
-pub reads_in_on : {A : Type 0} (text : List ℕ) (f : List Lexeme → Reading A) (g : List Lexeme → Reading A) (tokens rest : List Token)
-    (r : Result (A × Bor (List Token)) FaultScriptFault) → f (lexemes text tokens) ≡ g (lexemes text rest) → length rest < length tokens → ReadsIn text g rest r → Reads text f tokens r
+pub reads_in_on : {A : Type 0} (text : List ℕ) (f : List Lexeme → Reading A) (g : List Lexeme → Reading A)
+    (tokens rest : List Token)
+    (r : Result (A × Bor (List Token)) FaultScriptFault) → f (lexemes text tokens) ≡ g (lexemes text rest)
+    → length rest < length tokens → ReadsIn text g rest r → Reads text f tokens r
 reads_in_on text f g tokens rest (Ok r) same less h = (same ∙ h.0, (h.1.0, omega (arith, less, h.1.1)))
 reads_in_on text f g tokens rest (Err e) same less h = same ∙ h
 
 -- a word that was passed, and what was read behind it
-pub passes_on : {A : Type 0} (text : List ℕ) (f : List Lexeme → Reading (Unit {0})) (g : List Lexeme → Reading A) (tokens : List Token) (rest : Bor (List Token))
-    (r : Result (A × Bor (List Token)) FaultScriptFault) → Passes text f tokens (Ok rest) → Reads text g rest.now r → Reads text (λ xs. f xs >>= (λ _ mid. g mid)) tokens r
-passes_on text f g tokens rest (Ok r) p h = (ap (λ x. x >>= (λ _ mid. g mid)) p.0 ∙ h.0, (h.1.0, omega (arith, p.1.1, h.1.1)))
+pub passes_on : {A : Type 0} (text : List ℕ) (f : List Lexeme → Reading (Unit {0})) (g : List Lexeme → Reading A)
+    (tokens : List Token) (rest : Bor (List Token))
+    (r : Result (A × Bor (List Token)) FaultScriptFault) → Passes text f tokens (Ok rest) → Reads text g rest.now r
+    → Reads text (λ xs. f xs >>= (λ _ mid. g mid)) tokens r
+passes_on text f g tokens rest (Ok r) p h = (
+  ap (λ x. x >>= (λ _ mid. g mid)) p.0
+      ∙ h.0,
+  (h.1.0, omega (arith, p.1.1, h.1.1)),
+)
 passes_on text f g tokens rest (Err e) p h = ap (λ x. x >>= (λ _ mid. g mid)) p.0 ∙ h
 
 -- what was read, and what was read behind it
-pub reads_then : {A B : Type 0} (text : List ℕ) (f : List Lexeme → Reading A) (g : A → List Lexeme → Reading B) (tokens : List Token) (p : A × Bor (List Token))
-    (r : Result (B × Bor (List Token)) FaultScriptFault) → Reads text f tokens (Ok p) → Reads text (g p.0) p.1.now r → Reads text (λ xs. f xs >>= g) tokens r
+pub reads_then : {A B : Type 0} (text : List ℕ) (f : List Lexeme → Reading A) (g : A → List Lexeme → Reading B)
+    (tokens : List Token) (p : A × Bor (List Token))
+    (r : Result (B × Bor (List Token)) FaultScriptFault) → Reads text f tokens (Ok p) → Reads text (g p.0) p.1.now r
+    → Reads text (λ xs. f xs >>= g) tokens r
 reads_then text f g tokens p (Ok r) h k = (ap (λ x. x >>= g) h.0 ∙ k.0, (k.1.0, omega (arith, h.1.1, k.1.1)))
 reads_then text f g tokens p (Err e) h k = ap (λ x. x >>= g) h.0 ∙ k
 
 -- a number that was read
-pub reads_numbered : (text : List ℕ) (f : ℕ → Action) (width : ℕ) (tokens : List Token) (p : ℕ × Bor (List Token)) → Reads text (xor (2 ^ (8 * width))) tokens (Ok p)
+pub reads_numbered : (text : List ℕ) (f : ℕ → Action) (width : ℕ) (tokens : List Token) (p : ℕ × Bor (List Token))
+    → Reads text (xor (2 ^ (8 * width))) tokens (Ok p)
     → Reads text (numbered f width) tokens (Ok (f p.0, p.1))
 reads_numbered text f width tokens p h = (ap (with_number f) h.0, h.1)
 
-pub reads_in : {A : Type 0} (text : List ℕ) (f : List Lexeme → Reading A) (tokens : List Token) (r : Result (A × Bor (List Token)) FaultScriptFault) → Reads text f tokens r → ReadsIn text f tokens r
+pub reads_in : {A : Type 0} (text : List ℕ) (f : List Lexeme → Reading A) (tokens : List Token)
+    (r : Result (A × Bor (List Token)) FaultScriptFault) → Reads text f tokens r → ReadsIn text f tokens r
 reads_in text f tokens (Ok r) h = (h.0, (h.1.0, omega (arith, h.1.1)))
 reads_in text f tokens (Err e) h = h

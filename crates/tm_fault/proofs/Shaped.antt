@@ -1,5 +1,5 @@
 -- Shaped cases have few cases, and their streams few slots.
-use Rattle.std.proofs.Common.{◌≡◌, ◌≤◌, ◌^◌, ℕ, refl, arith, length, Option, Some, None}
+use Rattle.std.proofs.Common.{◌≡◌, ◌≤◌, ◌^◌, refl, arith, length, Option, Some, None}
 use Rattle.std.specs.Prelude.{slice_get}
 use Rattle.tm_base.proofs.ListLemmas.{all-at}
 use Rattle.tm_plan_cases.specs.declared.cases.Cases.{Cases}

@@ -1,5 +1,5 @@
 -- Tokens in order lie within their text.
-use Rattle.std.proofs.Common.{ℕ, ◌≤◌, ◌<◌, List, [], ◌∷◌, length, zero, suc, All, arith}
+use Rattle.std.proofs.Common.{ℕ, ◌≤◌, List, [], ◌∷◌, length, zero, suc, All, arith}
 use Rattle.tm_lex.specs.Tiling.{AreInOrder}
 use Rattle.tm_lex.specs.declared.token.Token.{Token}
 use Rattle.tm_lex.specs.Lines.{IsSpan}

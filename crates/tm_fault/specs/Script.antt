@@ -1,6 +1,8 @@
 -- The lines of a fault script, read from left to right over a program's cases (this project's own).
-use Rattle.std.specs.Prelude.{ℕ, zero, suc, ◌≡◌, ◌⊎◌, ◌≤◌, ◌<◌, ◌+◌, ◌-◌, ◌*◌, ◌^◌, Bool, true, false, ◌&&◌, nat_le, nat_lt}
-use Rattle.std.specs.Prelude.{if◌then◌else◌, List, [], ◌∷◌, ◌++◌, length, take, drop, slice_get, Option, Some, None, Result}
+use Rattle.std.specs.Prelude.{ℕ, zero, suc, ◌≡◌, ◌⊎◌, ◌≤◌, ◌<◌, ◌*◌, ◌^◌, Bool, ◌&&◌, nat_le}
+use Rattle.std.specs.Prelude.{nat_lt}
+use Rattle.std.specs.Prelude.{if◌then◌else◌, List, [], ◌∷◌, ◌++◌, length, Option, Some, None}
+use Rattle.std.specs.Prelude.{Result}
 use Rattle.std.specs.Prelude.{Ok, Err, codes, All}
 use Rattle.std.specs.Borrow.{Bor}
 use Rattle.std.specs.List.{list_any}
@@ -70,6 +72,7 @@ abbrev pub below : ℕ → Lexeme → List Lexeme → Option ℕ → Reading ℕ
 below limit x xs None = Err (Expected x.0.at want.Number)
 below limit x xs (Some n) = if nat_lt n limit then Ok (n, xs) else Err (OutOfRange x.0.at n)
 
+-- the next token as such a number
 abbrev pub index : ℕ → List Lexeme → Reading ℕ
 index limit [] = Err (Expected nowhere want.Number)
 index limit (x ∷ xs) = below limit x xs (number x)
@@ -83,17 +86,21 @@ abbrev pub some_pass : Reading ℕ → Reading (Option ℕ)
 some_pass (Ok p) = Ok (Some p.0, p.1)
 some_pass (Err e) = Err e
 
+-- `*`
 abbrev pub is_star : Lexeme → Bool
 is_star x = is_word x.0.kind && bytes_eq x.1 (codes "*")
 
+-- a token as a pass of so many, or as all of them
 abbrev pub pass_at : ℕ → Lexeme → List Lexeme → Reading (Option ℕ)
 pass_at passes x xs = if is_star x then Ok (None, xs)
     else some_pass (below passes x xs (number x))
 
+-- the next token as one
 abbrev pub pass_index : ℕ → List Lexeme → Reading (Option ℕ)
 pass_index passes [] = Err (Expected nowhere want.Number)
 pass_index passes (x ∷ xs) = pass_at passes x xs
 
+-- `pass`, and which
 abbrev pub named_pass : ℕ → List Lexeme → Reading (Option ℕ)
 named_pass passes xs = one want.Word (keyword (codes "pass")) xs >>= (λ _ rest. pass_index passes rest)
 
@@ -113,6 +120,7 @@ abbrev pub effective : Lexeme → List Lexeme → Kind → Option Instr → Read
 effective x xs k None = Err (NoEffect x.0.at)
 effective x xs k (Some i) = if suits k i then Ok ((k, i), xs) else Err (NoEffect x.0.at)
 
+-- a kind of action that a token names, of a slot with this instruction
 abbrev pub kind_at : Option Instr → Lexeme → List Lexeme → Option Kind → Reading (Kind × Instr)
 kind_at slot x xs None = Err (Expected x.0.at want.Action)
 kind_at slot x xs (Some k) = effective x xs k slot
@@ -135,6 +143,7 @@ abbrev pub from_one : ℕ → Lexeme → List Lexeme → Option ℕ → Reading 
 from_one limit x xs None = Err (Expected x.0.at want.Number)
 from_one limit x xs (Some n) = if is_in_range limit n then Ok (n, xs) else Err (OutOfRange x.0.at n)
 
+-- the next token as such a number
 abbrev pub xor : ℕ → List Lexeme → Reading ℕ
 xor limit [] = Err (Expected nowhere want.Number)
 xor limit (x ∷ xs) = from_one limit x xs (number x)
@@ -144,9 +153,11 @@ abbrev pub with_number : (ℕ → Action) → Reading ℕ → Reading Action
 with_number f (Ok p) = Ok (f p.0, p.1)
 with_number f (Err e) = Err e
 
+-- an action with its number, below two to the bits of so many bytes
 abbrev pub numbered : (ℕ → Action) → (width : ℕ) → List Lexeme → Reading Action
 numbered f width xs = with_number f (xor (2 ^ (8 * width)) xs)
 
+-- what follows the word of an action: its number, where it has one
 unfoldable pub number_reading : Kind → Instr → List Lexeme → Reading Action
 number_reading kind.Result i xs = numbered act.Result 8 xs
 number_reading kind.Loaded i xs = numbered act.Loaded (load_width i.op) xs
@@ -154,6 +165,7 @@ number_reading kind.Stored i xs = numbered act.Stored (store_width i.op) xs
 number_reading kind.Drop i xs = Ok (act.Drop, xs)
 number_reading kind.Turn i xs = Ok (act.Turn, xs)
 
+-- an action on a slot with this instruction
 unfoldable pub action_reading : Option Instr → List Lexeme → Reading Action
 action_reading slot xs = kind_reading slot xs >>= (λ k rest. number_reading k.0 k.1 rest)
 
@@ -181,10 +193,12 @@ slot_reading stream line xs = named (codes "slot") (slot_count stream) xs >>= ac
 abbrev pub begun : (hart case : ℕ) → Option ℕ → FaultLine
 begun hart case pass = record { hart = hart; case = case; pass = pass; slot = 0; action = act.Drop }
 
+-- a line behind its hart and case
 abbrev pub pass_line : Cases → (hart case : ℕ) → List Lexeme → Reading FaultLine
 pass_line cases hart case xs =
     named_pass cases.passes xs >>= (λ pass xs. slot_reading (stream_in cases case hart) (begun hart case pass) xs)
 
+-- a line behind its hart
 abbrev pub case_line : Cases → (hart : ℕ) → List Lexeme → Reading FaultLine
 case_line cases hart xs = named (codes "case") (length cases.cases) xs >>= pass_line cases hart
 
@@ -208,6 +222,7 @@ abbrev pub unless_twice : Pos → List FaultLine → Reading FaultLine → Readi
 unless_twice at before (Ok p) = if is_twice before p.0 then Err (Twice at) else Ok p
 unless_twice at before (Err e) = Err e
 
+-- the next line of tokens, or its fault
 unfoldable pub next_line : Cases → List FaultLine → List Lexeme → Reading FaultLine
 next_line cases before xs = unless_twice (first_at xs) before (line_reading cases xs)
 
@@ -233,20 +248,23 @@ of_tokens cases text (Err e) = Err (Lex e)
 unfoldable pub script_of : Cases → List ℕ → Result (List FaultLine) FaultScriptFault
 script_of cases text = of_tokens cases text (tokens_of text)
 
--- ---- what the code's steps are
+-- ---- what the steps of the code are
 
 -- what is left lies within the text, and is less
 abbrev pub IsLeft : List ℕ → (tokens rest : List Token) → Type 0
 IsLeft text tokens rest = All (IsSpan text) rest × (length rest < length tokens)
 
 -- from tokens this was read, with those behind it; or this fault
-abbrev pub Reads : {A : Type 0} → List ℕ → (List Lexeme → Reading A) → List Token → Result (A × Bor (List Token)) FaultScriptFault
+abbrev pub Reads : {A : Type 0} → List ℕ → (List Lexeme → Reading A) → List Token
+    → Result (A × Bor (List Token)) FaultScriptFault
     → Type 0
-Reads text read tokens (Ok r) = (read (lexemes text tokens) ≡ Ok (r.0, lexemes text r.1.now)) × IsLeft text tokens r.1.now
+Reads text read tokens (Ok r) = (read (lexemes text tokens) ≡ Ok (r.0, lexemes text r.1.now))
+    × IsLeft text tokens r.1.now
 Reads text read tokens (Err e) = read (lexemes text tokens) ≡ Err e
 
 -- the same of what has no value of its own
-abbrev pub Passes : List ℕ → (List Lexeme → Reading (Unit {0})) → List Token → Result (Bor (List Token)) FaultScriptFault → Type 0
+abbrev pub Passes : List ℕ → (List Lexeme → Reading (Unit {0})) → List Token
+    → Result (Bor (List Token)) FaultScriptFault → Type 0
 Passes text read tokens (Ok r) = (read (lexemes text tokens) ≡ Ok (tt, lexemes text r.now)) × IsLeft text tokens r.now
 Passes text read tokens (Err e) = read (lexemes text tokens) ≡ Err e
 
@@ -254,14 +272,19 @@ Passes text read tokens (Err e) = read (lexemes text tokens) ≡ Err e
 abbrev pub IsLeftIn : List ℕ → (tokens rest : List Token) → Type 0
 IsLeftIn text tokens rest = All (IsSpan text) rest × (length rest ≤ length tokens)
 
-abbrev pub ReadsIn : {A : Type 0} → List ℕ → (List Lexeme → Reading A) → List Token → Result (A × Bor (List Token)) FaultScriptFault
+-- from tokens this was read, with those behind it; or this fault
+abbrev pub ReadsIn : {A : Type 0} → List ℕ → (List Lexeme → Reading A) → List Token
+    → Result (A × Bor (List Token)) FaultScriptFault
     → Type 0
-ReadsIn text read tokens (Ok r) = (read (lexemes text tokens) ≡ Ok (r.0, lexemes text r.1.now)) × IsLeftIn text tokens r.1.now
+ReadsIn text read tokens (Ok r) = (read (lexemes text tokens) ≡ Ok (r.0, lexemes text r.1.now))
+    × IsLeftIn text tokens r.1.now
 ReadsIn text read tokens (Err e) = read (lexemes text tokens) ≡ Err e
 
 -- the same of the kind of an action and its slot's instruction
-abbrev pub ReadsKind : List ℕ → Option Instr → List Token → Result (Kind × Instr × Bor (List Token)) FaultScriptFault → Type 0
-ReadsKind text slot tokens (Ok r) = (kind_reading slot (lexemes text tokens) ≡ Ok ((r.0, r.1), lexemes text r.2.now)) × IsLeft text tokens r.2.now
+abbrev pub ReadsKind : List ℕ → Option Instr → List Token → Result (Kind × Instr × Bor (List Token)) FaultScriptFault
+    → Type 0
+ReadsKind text slot tokens (Ok r) = (kind_reading slot (lexemes text tokens) ≡ Ok ((r.0, r.1), lexemes text r.2.now))
+    × IsLeft text tokens r.2.now
 ReadsKind text slot tokens (Err e) = kind_reading slot (lexemes text tokens) ≡ Err e
 
 -- each stream has at most 2^32 slots
@@ -269,7 +292,8 @@ abbrev pub HasFewSlots : Cases → Type 0
 HasFewSlots cases = (case hart : ℕ) → slot_count (stream_in cases case hart) ≤ 2 ^ 32
 
 -- the next line was read, or there is none, or it has this fault
-abbrev pub IsNext : Cases → List ℕ → List FaultLine → List Token → Result (Option (FaultLine × Bor (List Token))) FaultScriptFault → Type 0
+abbrev pub IsNext : Cases → List ℕ → List FaultLine → List Token
+    → Result (Option (FaultLine × Bor (List Token))) FaultScriptFault → Type 0
 IsNext cases text before tokens (Ok (Some r)) =
     (next_line cases before (lexemes text tokens) ≡ Ok (r.0, lexemes text r.1.now)) × IsLeft text tokens r.1.now
 IsNext cases text before tokens (Ok None) = length tokens ≡ 0

@@ -3,7 +3,6 @@ use Rattle.std.specs.Prelude.{ℕ, ◌≡◌, ◌⊎◌, List, [], ◌∷◌, �
 use Rattle.tm_base.specs.Numbers.{number_of}
 use Rattle.tm_lex.specs.Lexing.{tokens_of}
 use Rattle.tm_lex.specs.declared.token.Token.{Token}
-use Rattle.tm_lex.specs.declared.token.LexFault.{LexFault}
 use Rattle.tm_lex.specs.declared.token.TokenKind.TheVariants.{Word, LineEnd}
 use Rattle.tm_plan_cases.specs.declared.cases.Cases.{Cases}
 use Rattle.tm_plan_script.specs.declared.faults.FaultLine.{FaultLine}
@@ -11,9 +10,8 @@ use Rattle.tm_plan_script.specs.declared.faults.Action.{Action}
 use Rattle.tm_plan_script.specs.declared.faults.Action.TheVariants.{Result as xor_result, Loaded, Stored, Drop, Turn}
 use Rattle.tm_plan_script.specs.Accepted.{AreAccepted}
 use Rattle.tm_fault.specs.declared.fault.FaultScriptFault.{FaultScriptFault}
-use Rattle.tm_fault.specs.declared.fault.FaultScriptFault.TheVariants.{Lex, NoMemory}
+use Rattle.tm_fault.specs.declared.fault.FaultScriptFault.TheVariants.{NoMemory}
 use Rattle.tm_lex.specs.Lines.{Lexeme, lexemes}
-use Rattle.tm_fault.specs.Script.{next_line}
 
 -- what stands at one token: a fixed word, a number, or the line's end
 pub data Piece : Type 0 where
@@ -26,6 +24,7 @@ abbrev pub pass_piece : Option ℕ → Piece
 pass_piece None = fixed (codes "*")
 pass_piece (Some k) = a_number k
 
+-- the word of an action, and its number where it has one
 abbrev pub action_pieces : Action → List Piece
 action_pieces (xor_result x) = fixed (codes "result") ∷ a_number x ∷ []
 action_pieces (Loaded x) = fixed (codes "loaded") ∷ a_number x ∷ []
@@ -65,24 +64,12 @@ pub record IsScript (cases : Cases) (text : List ℕ) (lines : List FaultLine) :
   pub spelled : IsSpelled text lines
   pub accepted : AreAccepted cases lines
 
--- tokens have this fault: some lines stand first that are accepted, and it is the fault of the line behind them
-pub record HaveFault (cases : Cases) (xs : List Lexeme) (e : FaultScriptFault) : Type 0 where
-  pub lines : List FaultLine
-  pub front : List Lexeme
-  pub x : Lexeme
-  pub behind : List Lexeme
-  pub whole : xs ≡ front ++ x ∷ behind
-  pub spelled : AreFit (all_pieces lines) front
-  pub accepted : AreAccepted cases lines
-  pub fault : next_line cases lines (x ∷ behind) ≡ Err e
-
--- the fault of a text: that of its tokens, or where it has tokens that of its first line with one
-unfoldable pub IsFaultOf : Cases → List ℕ → FaultScriptFault → Type 0
-IsFaultOf cases text e =
-    ((f : LexFault) × (tokens_of text ≡ Err f) × (e ≡ Lex f))
-    ⊎ ((ts : List Token) × (tokens_of text ≡ Ok ts) × HaveFault cases (lexemes text ts) e)
-
 -- the answer is these lines, or want of memory
 abbrev pub IsOrNoMemory : List FaultLine → Result (List FaultLine) FaultScriptFault → Type 0
 IsOrNoMemory lines (Ok r) = r ≡ lines
 IsOrNoMemory lines (Err e) = e ≡ NoMemory
+
+-- the answer is this fault, or want of memory
+abbrev pub IsFaultOrNoMemory : FaultScriptFault → Result (List FaultLine) FaultScriptFault → Type 0
+IsFaultOrNoMemory e (Ok r) = ⊥
+IsFaultOrNoMemory e (Err d) = (d ≡ e) ⊎ (d ≡ NoMemory)

@@ -147,7 +147,8 @@ fn action_line<'a>(
     slot: u32,
 ) -> Result<(FaultLine, &'a [Token]), FaultScriptFault>
     requires { All (lexed.IsSpan text.now) tokens.now }
-    ensures { script.Reads text.now (script.action_line (option_map (λ s. s.now) stream.entry) line slot) tokens.now result }
+    ensures { script.Reads text.now (script.action_line (option_map (λ s. s.now) stream.entry) line slot) tokens.now
+        result }
 {
     let (action, rest) = action_at(text, tokens, instr_at(stream, slot))?;
     ended(
@@ -171,7 +172,8 @@ fn slot_line<'a>(
 ) -> Result<(FaultLine, &'a [Token]), FaultScriptFault>
     requires spans { All (lexed.IsSpan text.now) tokens.now }
     requires few { script.slot_count (option_map (λ s. s.now) stream) ≤ 2 ^ 32 }
-    ensures { script.Reads text.now (script.slot_reading (option_map (λ s. s.now) stream.entry) line) tokens.now result }
+    ensures { script.Reads text.now (script.slot_reading (option_map (λ s. s.now) stream.entry) line) tokens.now
+        result }
 {
     let (slot, rest) = named(text, tokens, b"slot", slot_count(stream))?;
     action_line(text, rest, stream, line, slot as u32)

@@ -7,6 +7,7 @@ ghost use Rattle.tm_plan_script.specs.Accepted.{same_kind, meet, are_twice};
 ghost use Rattle.tm_lex.specs.Lines as lexed;
 ghost use Rattle.tm_fault.specs.Script as script;
 ghost use Rattle.tm_fault.specs.Spelled as spelled;
+ghost use Rattle.tm_fault.specs.Causes as causes;
 
 use crate::FaultScriptFault;
 use crate::line::line_at;
@@ -141,7 +142,8 @@ fn read_lines(
 
 // A fault of the tokens, as one of the script.
 fn of_tokens(fault: LexFault) -> FaultScriptFault
-    ensures cause { result ≢ FaultScriptFault.NoMemory → (fault ≢ LexFault.NoMemory) × (result ≡ FaultScriptFault.Lex fault) }
+    ensures cause { result ≢ FaultScriptFault.NoMemory
+        → (fault ≢ LexFault.NoMemory) × (result ≡ FaultScriptFault.Lex fault) }
 {
     match fault {
         LexFault::BadByte { pos, byte } => FaultScriptFault::Lex(LexFault::BadByte { pos, byte }),
@@ -159,10 +161,12 @@ pub fn parse_faults(alloc: Global, text: &[u8], cases: &Cases) -> Result<Faults,
     ensures err { IfErr result (λ e. e ≢ FaultScriptFault.NoMemory → script.script_of cases.now text.now ≡ Err e) }
 
     // The tokens of the text stand for the lines, one for one, and each line is accepted; or the fault is that of the
-    // first line with one. A text that is a script is read as it.
+    // first line with one, at the first of its tokens that doesn't stand at its place. A text that is a script is read
+    // as it, and one that has a fault is refused for it.
     ensures script { IfOk result (λ lines. spelled.IsScript cases.now text.now lines) }
-    ensures fault { IfErr result (λ e. e ≢ FaultScriptFault.NoMemory → spelled.IsFaultOf cases.now text.now e) }
+    ensures fault { IfErr result (λ e. e ≢ FaultScriptFault.NoMemory → causes.IsFaultOf cases.now text.now e) }
     ensures only { (lines : _) → spelled.IsScript cases.now text.now lines → spelled.IsOrNoMemory lines result }
+    ensures refused { (e : _) → causes.IsFaultOf cases.now text.now e → spelled.IsFaultOrNoMemory e result }
 {
     match tokens(alloc, text) {
         Ok(list) => read_lines(alloc, text, list.as_slice(), cases),
