@@ -95,7 +95,7 @@ module _ (cases : Cases) (h bytes : ℕ) where
         length-append next last,
       ))
 
-  own-short : (v far : ℕ) → length (own_check cases h bytes v far) ≤ 28
+  pub own-short : (v far : ℕ) → length (own_check cases h bytes v far) ≤ 28
   own-short v far = length-window (bytes + line_place cases h v) (line_count cases h v) (cases.line / 8)
       (cases.line * cases.harts - cases.line) far
 

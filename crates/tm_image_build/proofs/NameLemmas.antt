@@ -11,6 +11,7 @@ use Rattle.std.proofs.lemmas.List.Elements.{All-from_recursion}
 use Rattle.std.proofs.lemmas.Fmt.{decimal_is_IsNumeral, length-decimal-le}
 use Rattle.std.proofs.lemmas.List.Folds.{list_all-append}
 use Rattle.tm_base.specs.Lists.{count_from}
+use Rattle.tm_base.specs.declared.limits.TheConstants.{TEMPLATE_BYTES, TOPOLOGY_BYTES}
 use Rattle.tm_plan_cases.specs.declared.program.Program.{Program}
 use Rattle.tm_plan_cases.specs.Shaped.{IsProgram}
 use Rattle.tm_elf_write.specs.declared.parts.Parts.{Parts}
@@ -156,7 +157,7 @@ symbols-count p few_harts few =
 
 pub writable : (p : Program) (topo template : List ℕ) (seed : ℕ) (parts : Parts) → parts ≡ parts_of p topo template seed
     → IsProgram p
-    → length topo ≤ 65536 → length template ≤ 1048576 → IsWritable parts
+    → length topo ≤ TOPOLOGY_BYTES → length template ≤ TEMPLATE_BYTES → IsWritable parts
 unfolding parts_of
 writable p topo template seed parts made program topo_short template_short =
     let harts : p.cases.harts ≤ 100 = omega (arith, program.cases.harts.1) in
@@ -185,7 +186,7 @@ parts-made p topo template seed first second symbols e f g = rw (e, f, g) refl
 -- so can parts that are made one by one
 pub parts-writable : (p : Program) (topo template : List ℕ) (seed : ℕ) (first second : List ℕ) (symbols : List Symbol)
     → first ≡ topo → second ≡ template
-    → symbols ≡ symbols_of p → IsProgram p → length topo ≤ 65536 → length template ≤ 1048576
+    → symbols ≡ symbols_of p → IsProgram p → length topo ≤ TOPOLOGY_BYTES → length template ≤ TEMPLATE_BYTES
     → IsWritable (record {
       text = p.text;
       tables = p.tables;

@@ -4,6 +4,7 @@ use Rattle.std.proofs.Common.{◌≡◌, ◌≤◌, ◌<◌, ℕ, zero, suc, ◌
 use Rattle.std.proofs.Common.{subst, arith, lit<}
 use Rattle.std.specs.Prelude.{All, slice_index, slice_index_or}
 use Rattle.std.proofs.lemmas.List.Elements.{All-from_recursion}
+use Rattle.tm_base.specs.declared.limits.TheConstants.{TEMPLATE_BYTES, TOPOLOGY_BYTES}
 use Rattle.tm_plan_map.specs.declared.admitted.Admitted.{Admitted}
 use Rattle.tm_place.specs.Ruled.{IsRuled}
 use Rattle.tm_plan_cases.specs.declared.program.Program.{Program}
@@ -57,8 +58,8 @@ in_range_parts a topo template seed ruled small = record {
 
 -- ---- the file is read as its parts
 
-pub reads : (a : Admitted) (topo template : List ℕ) (seed : ℕ) → IsRuled a → seed < 2 ^ 64 → length topo ≤ 65536
-    → length template ≤ 1048576
+pub reads : (a : Admitted) (topo template : List ℕ) (seed : ℕ) → IsRuled a → seed < 2 ^ 64 → length topo ≤ TOPOLOGY_BYTES
+    → length template ≤ TEMPLATE_BYTES
     → elf_of (image_file (program_for a seed) topo template seed) ≡ Ok (parts_of (program_for a seed) topo template seed)
 unfolding image_file
 reads a topo template seed ruled small short few =
@@ -69,7 +70,7 @@ reads a topo template seed ruled small short few =
 
 -- so a test's program and its file are those of the file's own plan
 pub of_its_plan : (topo template : List ℕ) (seed : ℕ) (a : Admitted) (p : Program) (file : List ℕ) → IsRuled a
-    → seed < 2 ^ 64 → length topo ≤ 65536 → length template ≤ 1048576
+    → seed < 2 ^ 64 → length topo ≤ TOPOLOGY_BYTES → length template ≤ TEMPLATE_BYTES
     → inputs topo template ≡ Ok a → p ≡ program_for a seed → file ≡ image_file p topo template seed
     → IsOfItsPlan p seed file
 unfolding parts_of rebuilt

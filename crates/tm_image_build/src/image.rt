@@ -1,5 +1,6 @@
 // From the two texts to the image.
 ghost use Rattle.std.specs.Prelude.{◌≡◌, ◌≤◌, Ok, IfOk, IfErr, length};
+ghost use Rattle.tm_base.specs.declared.limits.TheConstants.{TEMPLATE_BYTES, TOPOLOGY_BYTES};
 ghost use Rattle.tm_plan_cases.specs.Shaped.{IsProgram};
 ghost use Rattle.tm_world.specs.Sound.{Sound};
 ghost use Rattle.tm_image_inputs.specs.Inputs.{inputs, IsFaultOf};
@@ -30,8 +31,8 @@ pub struct Image {
 /// refused before the template, of at most 1,048,576 bytes.
 #[tactic(auto, using(crate::proofs::BuildLemmas::built_ok, crate::proofs::BuildLemmas::built_err, crate::proofs::BuildLemmas::program_ok))]
 pub fn build(alloc: Global, topo: &[u8], template: &[u8], seed: u64) -> Result<Image, BuildFault>
-    requires topo { length topo.now ≤ 65536 }
-    requires template { length template.now ≤ 1048576 }
+    requires topo { length topo.now ≤ TOPOLOGY_BYTES }
+    requires template { length template.now ≤ TEMPLATE_BYTES }
     ensures ok { IfOk result (λ image. built topo.now template.now seed ≡ Ok image.file) }
     ensures program { IfOk result (λ image. program_from seed (inputs topo.now template.now) ≡ Ok image.program) }
     ensures file { IfOk result (λ image. image.file ≡ image_file image.program topo.now template.now seed) }
@@ -62,8 +63,8 @@ fn written(
     seed: u64,
 ) -> Result<(Program, Bytes), NoMemory>
     requires program { IsProgram program }
-    requires topo { length topo.now ≤ 65536 }
-    requires template { length template.now ≤ 1048576 }
+    requires topo { length topo.now ≤ TOPOLOGY_BYTES }
+    requires template { length template.now ≤ TEMPLATE_BYTES }
     ensures program { IfOk result (λ both. both.0 ≡ program) }
     ensures file { IfOk result (λ both. both.1 ≡ image_file program topo.now template.now seed) }
 {

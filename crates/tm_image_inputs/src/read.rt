@@ -1,5 +1,6 @@
 // The two texts, read.
 ghost use Rattle.std.specs.Prelude.{◌≡◌, ◌≤◌, Some, Ok, IfOk, IfErr, length};
+ghost use Rattle.tm_base.specs.declared.limits.TheConstants.{TEMPLATE_BYTES};
 ghost use Rattle.tm_topo.specs.Limits.{IsInRange};
 ghost use Rattle.tm_rules_first.specs.Rules.{broken_rule};
 ghost use Rattle.tm_place.specs.Ruled.{IsRuled};
@@ -34,7 +35,7 @@ pub fn topology_fault(alloc: Global, topo: &[u8]) -> Result<Option<InputFault>, 
 /// grammar, then that of its rules.
 #[tactic(auto, unfolding(crate::specs::Inputs::inputs))]
 pub fn read_inputs(alloc: Global, topo: &[u8], template: &[u8]) -> Result<Admitted, BuildFault>
-    requires { length template.now ≤ 1048576 }
+    requires { length template.now ≤ TEMPLATE_BYTES }
     ensures ok { IfOk result (λ a. inputs_.inputs topo.now template.now ≡ Ok a) }
     ensures ruled { IfOk result IsRuled }
     ensures err { IfErr result (λ fault. inputs_.IsFaultOf fault (inputs_.inputs topo.now template.now)) }
@@ -50,7 +51,7 @@ pub fn read_inputs(alloc: Global, topo: &[u8], template: &[u8]) -> Result<Admitt
 #[tactic(auto, unfolding(crate::specs::Inputs::template_inputs))]
 fn read_template(alloc: Global, topo: &Topology, template: &[u8]) -> Result<Admitted, BuildFault>
     requires range { IsInRange topo.now }
-    requires size { length template.now ≤ 1048576 }
+    requires size { length template.now ≤ TEMPLATE_BYTES }
     ensures ok { IfOk result (λ a. inputs_.template_inputs topo.now template.now ≡ Ok a) }
     ensures ruled { IfOk result IsRuled }
     ensures err { IfErr result (λ fault. inputs_.IsFaultOf fault (inputs_.template_inputs topo.now template.now)) }

@@ -1,6 +1,6 @@
 -- The numbers of drawn cases have the bits that their types give.
 use Rattle.std.proofs.Common.{◌≡◌, ◌+◌, ◌-◌, ◌*◌, ◌%◌, ◌^◌, ◌==◌, ◌<◌, ℕ, zero, suc, Bool, true, false, List, [], ◌∷◌}
-use Rattle.std.proofs.Common.{length, map, Some, slice_get, slice_index, refl, sym, ap, ◌∙◌, subst, arith, lit<}
+use Rattle.std.proofs.Common.{length, Some, slice_get, slice_index, refl, sym, ap, ◌∙◌, subst, arith, lit<}
 use Rattle.std.specs.Prelude.{nat_le, if◌then◌else◌}
 use Rattle.std.proofs.lemmas.Bool.{leb-true}
 use Rattle.tm_base.specs.Lists.{count_from}
@@ -15,11 +15,12 @@ use Rattle.tm_plan_cases.specs.declared.cases.Case.{Case}
 use Rattle.tm_place.specs.Draws.{draw, slot_draws, pick}
 use Rattle.tm_place.specs.Ruled.{IsRuled, IsRuledCase, AreRuledSlots, sharing_in}
 use Rattle.tm_place.proofs.DrawLemmas.{draw-lt}
+use Rattle.tm_base.proofs.ListLemmas.{all-at}
 use Rattle.tm_gen.specs.Seats.{AreWords}
 use Rattle.tm_gen.specs.Gen.{drawn_value, first_value, first_values, first_dword, first_dwords, stream_words}
 use Rattle.tm_gen.specs.Gen.{stream_of, case_of, gen_of}
-use Rattle.tm_gen.proofs.SlotLemmas.{are-words}
-use Rattle.tm_gen.proofs.ShapedLemmas.{map_at-get, get-within, all-get, stream-conforms, stream-slot}
+use Rattle.tm_gen.proofs.SlotLemmas.{are-words, images-lt}
+use Rattle.tm_gen.proofs.ShapedLemmas.{map_at-get, get-within, stream-conforms, stream-slot}
 
 -- a number that is found at each place where there is one is small where all that are found are
 all-small : (m : ℕ) (xs : List ℕ) → 0 < m → ((n x : ℕ) → slice_get xs n ≡ Some x → x < m) → (k : ℕ)
@@ -27,11 +28,6 @@ all-small : (m : ℕ) (xs : List ℕ) → 0 < m → ((n x : ℕ) → slice_get x
 all-small m [] some each k = some
 all-small m (x ∷ xs) some each zero = each 0 x refl
 all-small m (x ∷ xs) some each (suc k) = all-small m xs some (λ n y at. each (suc n) y at) k
-
-images-small : (f : ℕ → ℕ) (m : ℕ) (xs : List ℕ) → 0 < m → ((x : ℕ) → f x < m) → (k : ℕ) → slice_index (map f xs) k < m
-images-small f m [] some each k = some
-images-small f m (x ∷ xs) some each zero = each x
-images-small f m (x ∷ xs) some each (suc k) = images-small f m xs some each k
 
 -- ---- first values
 
@@ -67,7 +63,7 @@ register-small seed c h r few =
 
 pub registers-small : (seed c h : ℕ) → h < 16 → (r : ℕ) → slice_index (first_values seed c h) r < 2 ^ 64
 unfolding first_values
-registers-small seed c h few = images-small (first_value seed c h) (2 ^ 64) (count_from 0 32) (lit< tt)
+registers-small seed c h few = images-lt (first_value seed c h) (2 ^ 64) (count_from 0 32) (lit< tt)
     (λ r. register-small seed c h r few)
 
 pub registers-count : (seed c h : ℕ) → length (first_values seed c h) ≡ 32
@@ -81,7 +77,7 @@ dword-small seed c q = pair-small (draw seed c 63 q 0) (draw seed c 63 q 1) (dra
 
 pub dwords-small : (seed c k : ℕ) → slice_index (first_dwords seed c) k < 2 ^ 64
 unfolding first_dwords
-dwords-small seed c k = images-small (first_dword seed c) (2 ^ 64) (count_from 0 768) (lit< tt) (dword-small seed c) k
+dwords-small seed c k = images-lt (first_dword seed c) (2 ^ 64) (count_from 0 768) (lit< tt) (dword-small seed c) k
 
 -- ---- words
 
@@ -124,7 +120,7 @@ pub gen-drawn : (a : Admitted) (seed : ℕ) → IsRuled a → (c h : ℕ) (case 
     → slice_get (gen_of a seed).cases c ≡ Some case → slice_get case.streams h ≡ Some s → IsDrawn s
 gen-drawn a seed ruled c h case s at_case at_stream =
     let there = case-of a seed c case at_case in
-    let is = all-get (IsRuledCase (sharing_in a) a.windows) a.cases c there.0 ruled.each there.1 in
+    let is = all-at (IsRuledCase (sharing_in a) a.windows) a.cases c there.0 ruled.each there.1 in
     let made : slice_get (case_of a seed c there.0).streams h ≡ Some s =
     subst (λ (k : Case). slice_get k.streams h ≡ Some s) (sym there.2) at_stream in
     let its = map_at-get (stream_of a seed c) 0 h there.0.bodies s made in

@@ -10,6 +10,7 @@ use Rattle.tm_plan_map.specs.Map.{windows_base, windows_size}
 use Rattle.tm_plan_cases.specs.declared.cases.Cases.{Cases}
 use Rattle.tm_plan_cases.specs.declared.masks.CaseMask.{CaseMask}
 use Rattle.tm_plan_cases.specs.Shaped.{IsShapedMask, MasksFit}
+use Rattle.tm_gen.proofs.SlotLemmas.{images-lt}
 use Rattle.tm_race.specs.Exact.{is_held, bits_of, checked_word, is_checked, checked_mark, mask_of, masks_of}
 
 -- ---- words
@@ -30,11 +31,6 @@ word-small : (cases : Cases) (c h : ℕ) → checked_word cases c h < 2 ^ 32
 unfolding checked_word
 word-small cases c h = let below = bits-small (λ r. nat_lt 0 r && not (is_held cases c h r)) 31 in omega (arith, below)
 
-images-small : (f : ℕ → ℕ) (m : ℕ) (xs : List ℕ) → 0 < m → ((x : ℕ) → f x < m) → (k : ℕ) → slice_index (map f xs) k < m
-images-small f m [] some each k = some
-images-small f m (x ∷ xs) some each zero = each x
-images-small f m (x ∷ xs) some each (suc k) = images-small f m xs some each k
-
 -- what holds of the mask of each case holds of each mask
 of-each : (P : CaseMask → Type 0) (f : ℕ → CaseMask) (xs : List ℕ) → ((c : ℕ) → P (f c)) → (c : ℕ) (m : CaseMask)
     → slice_get (map f xs) c ≡ Some m → P m
@@ -44,7 +40,7 @@ of-each P f (x ∷ xs) each (suc c) m at = of-each P f xs each c m at
 
 words-small : (cases : Cases) (c h : ℕ) → slice_index (mask_of cases c).regs h < 2 ^ 32
 unfolding mask_of
-words-small cases c h = images-small (checked_word cases c) (2 ^ 32) (range_with_len 0 cases.harts) (lit< tt)
+words-small cases c h = images-lt (checked_word cases c) (2 ^ 32) (range_with_len 0 cases.harts) (lit< tt)
     (word-small cases c) h
 
 pub mask-words : (cases : Cases) (c : ℕ) (m : CaseMask) → slice_get (masks_of cases).cases c ≡ Some m → (h : ℕ)

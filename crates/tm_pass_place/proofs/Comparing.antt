@@ -16,7 +16,7 @@ use Rattle.tm_plan_owned.proofs.Reach.{reach, line_most}
 use Rattle.tm_blocks_compare.specs.Words.{register_loop, line_turn, window_check, own_check, last_check, next_check}
 use Rattle.tm_blocks_compare.specs.Words.{first_check, pass_head, pass_body, pass_tail, one_pass, all_passes, closing}
 use Rattle.tm_blocks_compare.specs.Words.{compare_all_but_last, compare_all}
-use Rattle.tm_blocks_compare.proofs.Lengths.{length-window, pass-short}
+use Rattle.tm_blocks_compare.proofs.Lengths.{own-short, pass-short}
 use Rattle.tm_pass_place.proofs.Fits.{Fitting, Nil, Fit, fit-append, fit-constant}
 
 fit-registers : (far : ℕ) → far ≤ 200 → Fitting (register_loop far)
@@ -75,18 +75,14 @@ module _ (cases : Cases) (h : ℕ) (s : AreShaped cases) (first masks bytes cell
       (cases.line * cases.harts - cases.line) far (omega (arith, e.place)) e.count
       (omega (arith, line_most cases s)) stride m
 
-  own-short : (v far : ℕ) → length (own_check cases h bytes v far) ≤ 28
-  own-short v far = length-window (bytes + line_place cases h v) (line_count cases h v) (cases.line / 8)
-      (cases.line * cases.harts - cases.line) far
-
   last-short : length (last_check cases h bytes) ≤ 28
-  last-short = own-short 2 5
+  last-short = own-short cases h bytes 2 5
 
   next-short : length (next_check cases h bytes) ≤ 28
-  next-short = own-short 1 (5 + length (last_check cases h bytes))
+  next-short = own-short cases h bytes 1 (5 + length (last_check cases h bytes))
 
   first-short : length (first_check cases h bytes) ≤ 28
-  first-short = own-short 0 (5 + length (last_check cases h bytes) + length (next_check cases h bytes))
+  first-short = own-short cases h bytes 0 (5 + length (last_check cases h bytes) + length (next_check cases h bytes))
 
   fit-head : Fitting (pass_head first)
   unfolding pass_head

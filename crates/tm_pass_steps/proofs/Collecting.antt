@@ -27,6 +27,7 @@ use Rattle.tm_runs.proofs.Compose.{keeps_map, takes_map, takes_then, takes_more,
 use Rattle.tm_runs.proofs.Places.{fixed-place, guest-true}
 use Rattle.tm_runs.proofs.Worlds.{private-dword, own-private}
 use Rattle.tm_legal.proofs.Formed.{formed-sizes}
+use Rattle.tm_legal.proofs.Phases.{or-assoc}
 use Rattle.tm_legal.specs.Tame.{Formed}
 use Rattle.tm_blocks_base.specs.Laws.{Uses, with_access, accesses}
 use Rattle.tm_blocks_base.proofs.Lists.{accesses-append}
@@ -271,10 +272,6 @@ module _ (p : Program) (formed : Formed p) (fit : MasksFit p.cases p.masks) (h :
       ne (sym z ∙ phase-all p formed fit h number q base phase es
       (far p formed fit h number limit lo hi clear Takes-in es each.1))))
       ∙ (or-none (read_in p h r x (es ++ base)) ∙ other-phase r base es each.1 phase x ne)
-
-  or-assoc : (a c e : Option ℕ) → or_else (or_else a c) e ≡ or_else a (or_else c e)
-  or-assoc None c e = refl
-  or-assoc (Some x) c e = refl
 
   first-with : (x : ℕ) (a : Access) (xs : List Access) → first_access x (with_access a xs)
       ≡ or_else (first_access x xs) (got a x)

@@ -1,6 +1,6 @@
 -- What holds of each image of a list's elements, and of each two.
 use Rattle.std.proofs.Common.{◌≡◌, ◌+◌, ◌<◌, ◌⊎◌, ℕ, zero, suc, Bool, true, false, List, [], ◌∷◌, ◌++◌, map}
-use Rattle.std.proofs.Common.{replicate, length, get_or, take, Some, slice_get, refl, subst, arith, inl, inr}
+use Rattle.std.proofs.Common.{replicate, length, get_or, take, Some, slice_get, subst, arith, inl, inr}
 use Rattle.std.specs.Prelude.{All, AllPairs}
 use Rattle.std.specs.List.{list_any}
 use Rattle.std.proofs.lemmas.Bool.{cases_Bool}
@@ -40,11 +40,6 @@ any-fails p (y ∷ xs) (suc j) none (suc i) x before at =
           any-fails p xs j later i x (omega arith) at
     ]
 
-pub stands-at : {A : Type 0} (xs : List A) (k : ℕ) → k < length xs → (x : A) × (slice_get xs k ≡ Some x)
-stands-at [] k within = absurd (omega arith)
-stands-at (x ∷ xs) zero within = (x, refl)
-stands-at (x ∷ xs) (suc k) within = stands-at xs k (omega arith)
-
 -- an element of two lists joined is one of the first, or one of the second
 pub joined-at : {A : Type 0} (xs ys : List A) (n : ℕ) (x : A) → slice_get (xs ++ ys) n ≡ Some x
     → (slice_get xs n ≡ Some x) ⊎ ((m : ℕ) × (n ≡ length xs + m) × (slice_get ys m ≡ Some x))
@@ -65,7 +60,3 @@ counted-at a zero k x at = cc
 counted-at a (suc n) zero x at = let same : a ≡ x = cc in (omega arith, omega arith)
 counted-at a (suc n) (suc k) x at = let later = counted-at (suc a) n k x at in
     (omega (arith, later.0), omega (arith, later.1))
-
-pub length-counted : (a n : ℕ) → length (count_from a n) ≡ n
-length-counted a zero = refl
-length-counted a (suc n) = omega (arith, length-counted (suc a) n)

@@ -6,6 +6,7 @@ use Rattle.std.proofs.lemmas.Bool.{leb-true, eq-eqb, and_parts, true≢false}
 use Rattle.std.proofs.lemmas.List.{length-map, length-take-le}
 use Rattle.tm_table.specs.Words.{Fits}
 use Rattle.tm_base.specs.Lists.{count_from}
+use Rattle.tm_base.proofs.ListLemmas.{get-some, length-count_from}
 use Rattle.tm_base.specs.Limits.{image_version, most_cases}
 use Rattle.tm_base.specs.declared.limits.TheConstants.{LEAST_PASSES, MOST_PASSES}
 use Rattle.tm_plan_map.specs.declared.windows.Window.{Window}
@@ -32,7 +33,7 @@ use Rattle.tm_rules_first.proofs.CountLemmas.{total-none, count-small}
 use Rattle.tm_rules_first.proofs.SoundLemmas.{windows-sound, mapped-at, body-sound, case-sound, system-harts}
 use Rattle.tm_rules_first.proofs.TemplateLemmas.{parts-none}
 use Rattle.tm_rules.specs.Admitting.{nothing, slots_in, written_out, hart_slots, admitted_case, admitted_of}
-use Rattle.tm_rules.proofs.EachLemmas.{all-images, pair-images, any-fails, stands-at, counted-at, length-counted}
+use Rattle.tm_rules.proofs.EachLemmas.{all-images, pair-images, any-fails, counted-at}
 use Rattle.tm_rules.proofs.SlotLemmas.{shared, shared-shown, Has, written-count, written-ruled}
 use Rattle.tm_place.specs.Placing.{shape_of}
 
@@ -103,7 +104,7 @@ case-ruled : (topo : Topology) (windows : List Window) (c : CaseDecl) → Shown 
     → IsRuledCase (shared topo windows) windows (admitted_case topo c)
 unfolding hart_slots
 case-ruled topo windows c shown none = record {
-  harts = length-map (count_from 0 (harts_of topo)) (hart_slots topo c.bodies) ∙ length-counted 0 (harts_of topo);
+  harts = length-map (count_from 0 (harts_of topo)) (hart_slots topo c.bodies) ∙ length-count_from 0 (harts_of topo);
   each = λ h slots at.
       let place = mapped-at (hart_slots topo c.bodies) (count_from 0 (harts_of topo)) h slots at in
       let number = counted-at 0 (harts_of topo) h place.0 place.1 in
@@ -131,7 +132,7 @@ few-cases : (topo : Topology) (t : Template)
     → (most_cases image_version < length t.cases → ⊥)
 few-cases topo t none many =
     let most = most_cases image_version in
-    let last = stands-at t.cases most many in
+    let last = get-some t.cases most many in
     let rules = (case-parts topo t none most last.0 last.1).0 in
     (case-sound (length t.cases) (take most t.cases) last.0.name rules).0 (length-take-le most t.cases (omega arith))
 

@@ -16,8 +16,8 @@ HasHart topo whom = (h : ℕ) × (h < harts_of topo) × IsTrue (in_team topo who
 
 -- a line that spells an instruction which each hart of a body, and there is one, may run in its slot has no fault
 abbrev pub LinesPass : Placement → Type 0
-LinesPass p = (topo : Topology) (whom : Selector) (n len : ℕ) (text : List ℕ) → p.harts ≡ harts_of topo → len ≤ MOST_SLOTS
-    → HasHart topo whom
+LinesPass p = (topo : Topology) (whom : Selector) (n len : ℕ) (text : List ℕ) → p.harts ≡ harts_of topo
+    → len ≤ MOST_SLOTS → HasHart topo whom
     → IsRuledLine (sharing_of p) topo whom len n text → emit_fault p.line p.part p.shape topo whom n len text ≡ None
 
 -- weights of which a class can be drawn have no fault

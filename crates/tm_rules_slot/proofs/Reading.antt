@@ -7,10 +7,8 @@ use Rattle.std.specs.Char.{is_digit, digit_value}
 use Rattle.std.proofs.lemmas.Bool.{cases_Bool, and_parts, ltb-true, eqb-true}
 use Rattle.std.proofs.lemmas.Int.{ints}
 use Rattle.tm_table.specs.declared.instr.Op.{Op}
-use Rattle.tm_table.specs.declared.instr.Op.TheVariants.{Lui}
 use Rattle.tm_table.specs.declared.instr.Instr.{Instr}
 use Rattle.tm_table.specs.declared.table.Layout.{Layout}
-use Rattle.tm_table.specs.declared.table.Layout.TheVariants.{R, I, S, B, U, J, Shift6, Shift5, Order, Whole}
 use Rattle.tm_table.specs.Table.{row_of}
 use Rattle.tm_table.specs.Words.{low, Fits, FitsAs, From}
 use Rattle.tm_asm_line.specs.declared.fault.AsmFault.{AsmFault}
@@ -30,6 +28,7 @@ use Rattle.tm_asm_line.specs.Reading.{or_register, or_number, or_set, operand_re
 use Rattle.tm_asm_line.specs.Reading.{and_place, and_then, taken, operand, after_blanks, bare, named, line_of, op_of}
 use Rattle.tm_asm_line.specs.Reading.{name_at}
 use Rattle.tm_asm_line.proofs.Cutting.{set-small}
+use Rattle.tm_asm_line.proofs.Printed.{layout_of, same_layout}
 
 -- What holds of an instruction once the pieces that are left are read, whatever they say.
 abbrev pub After : List Piece → (Instr → Type 0) → Instr → Type 0
@@ -175,25 +174,6 @@ wider first last more z few h = (h.0, omega (arith, ints, h.1))
 sets-in : (n m : ℕ) → n < 16 → m < 16 → From (pos 0) (pos 255) (pos (16 * set_before (pos (16 * n + 0 % 16)) + m))
 sets-in n m a b = (omega (arith, ints), omega (arith, ints))
 
--- the layout whose ranges a shape has
-abbrev layout_of : Shape → Layout
-layout_of Upper = U
-layout_of Jump = J
-layout_of Memory = I
-layout_of Branch = B
-layout_of Store = S
-layout_of Immediate = I
-layout_of Shift64 = Shift6
-layout_of Shift32 = Shift5
-layout_of Registers = R
-layout_of Fences = Order
-layout_of Bare = Whole
-
-layout-same : (op : Op) → layout_of (shape_of op) ≡ (row_of op).layout
-unfolding shape_of
-layout-same Lui = refl
-layout-same _ = refl
-
 -- an instruction of an op, in the ranges of a layout
 abbrev IsLaid : Op → Layout → Instr → Type 0
 IsLaid op l i = (i.op ≡ op) × FitsAs l i
@@ -235,7 +215,7 @@ shape-after Bare op = (refl, (refl, refl, refl, refl))
 laid-fits : (op : Op) (i : Instr) → IsLaid op (layout_of (shape_of op)) i → Fits i
 unfolding Fits
 laid-fits op i h =
-    let same : layout_of (shape_of op) ≡ (row_of i.op).layout = rw h.0 (layout-same op) in
+    let same : layout_of (shape_of op) ≡ (row_of i.op).layout = rw h.0 (same_layout op) in
     subst (λ (l : Layout). FitsAs l i) same (h.1)
 
 named-fits : (text : List ℕ) (at : ℕ) (o : Option Op) (i : Instr) → named text at o ≡ Ok i → Fits i
