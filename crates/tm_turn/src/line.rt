@@ -168,6 +168,11 @@ impl<T: Kept> Line<T> {
         self.table.shared.load::<Count>(&mut seat.seat, COUNT)
     }
 
+    /// How many entries there are, by one load for which no seat is needed. No contract tells of it. It doesn't wait.
+    pub fn glance(&self) -> u64 {
+        self.table.shared.peek(COUNT)
+    }
+
     /// Ends the line, and gives the value back. It needs all seats, in any order.
     pub fn close(self, mut seats: Vec<LineSeat<T>>) -> T
         requires { AreAllOutside self seats.items }
