@@ -92,6 +92,12 @@ impl<'a> Mill<'a> {
         self.line.count(seat)
     }
 
+    /// How many events there are, by one load for which no seat is needed. No contract tells of it: it only decides when
+    /// a seat that waits goes on.
+    pub(crate) fn glance(&self) -> u64 {
+        self.line.glance()
+    }
+
     /// Ends the mill, and gives the guest back. It needs all seats, in any order.
     pub fn close(self, seats: Vec<Seat<'a>>) -> Guest<'a>
         requires { AreAllOf self seats.items }

@@ -4,18 +4,21 @@ ghost use Rattle.tm_harts.specs.Mills.{AreOf, AreAllOf};
 ghost use Rattle.tm_harts.specs.Driven.{AreDriven};
 
 use crate::mill::{Mill, Seat};
+use crate::waiting::Waiting;
 use std::sync::Wait;
 use std::thread;
 use std::thread::Threads;
 use tm_desk::Gate;
 use tm_guest::Turn;
 
-/// How many times in a row a hart may hold back until its work ends.
+/// How many times in a row a hart may hold back until its work ends. A sleep in which no event came counts for some of
+/// them.
 const PATIENCE: u32 = 10_000_000;
 
 /// Drives each seat by work of its own, which a thread does where threads are to be had, and returns when all are
 /// done. The work on a seat passes the gate and takes a turn, over and over, until the turn answers `Halted` or
-/// `Full`, or has answered `None` 10,000,000 times in a row. It may wait, and takes no memory.
+/// `Full`, or has answered `None` 10,000,000 times in a row, where a sleep of a millisecond in which no event came counts
+/// for 1,000 of them. It may wait, and takes no memory.
 pub fn run_threads<'a, R: Threads + Wait + Sync, G: Gate>(
     rt: &R,
     mill: &Mill<'a>,
@@ -27,7 +30,14 @@ pub fn run_threads<'a, R: Threads + Wait + Sync, G: Gate>(
     ensures driven { AreDriven mill.now seats.old seats.new }
     ensures all { AreAllOf mill.now seats.old → AreAllOf mill.now seats.new }
 {
-    work_on_each(rt, &Driver { rt, mill, gate }, seats);
+    let waiting = Waiting::new();
+    let driver = Driver {
+        rt,
+        mill,
+        gate,
+        waiting: &waiting,
+    };
+    work_on_each(rt, &driver, seats);
 }
 
 /// Work on a value, which any thread may do. (A closure won't do in its place: the seats name the lifetime of the
@@ -68,6 +78,7 @@ struct Driver<'b, 'a, R, G> {
     rt: &'b R,
     mill: &'b Mill<'a>,
     gate: &'b G,
+    waiting: &'b Waiting,
 }
 
 impl<'b, 'a, R: Wait + Sync, G: Gate> Work<Seat<'a>> for Driver<'b, 'a, R, G> {
@@ -79,20 +90,37 @@ impl<'b, 'a, R: Wait + Sync, G: Gate> Work<Seat<'a>> for Driver<'b, 'a, R, G> {
     ghost leaves = { λ d old new. IsDriven d.mill.now old new };
 
     fn work(&self, seat: &mut Seat<'a>) {
-        let Driver { rt, mill, gate } = self;
+        let Driver {
+            rt,
+            mill,
+            gate,
+            waiting,
+        } = self;
+        waiting.begin();
         let mut held_back = 0;
         for _ in rt.forever() {
+            let known = if held_back == 0 { 0 } else { mill.glance() };
             gate.pass(seat.number());
             match mill.turn(*rt, seat) {
                 None => {
-                    held_back += 1;
+                    held_back = waiting.held_back(*rt, mill, held_back, known);
                     if held_back >= PATIENCE {
+                        waiting.end();
                         return;
                     }
                 }
-                Some(Turn::Stepped { .. }) => held_back = 0,
-                Some(Turn::Halted) => return,
-                Some(Turn::Full) => return,
+                Some(Turn::Stepped { place, .. }) => {
+                    held_back = 0;
+                    waiting.made(place);
+                }
+                Some(Turn::Halted) => {
+                    waiting.end();
+                    return;
+                }
+                Some(Turn::Full) => {
+                    waiting.end();
+                    return;
+                }
             }
         }
         unreachable!()

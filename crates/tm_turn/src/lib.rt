@@ -9,6 +9,7 @@
 //! turns come in a fair order, or when they come: who doesn't leave holds up all others.
 #![tactic(auto)]
 
+mod bells;
 mod kept;
 mod line;
 mod steps;

@@ -8,6 +8,7 @@ mod closing;
 mod opening;
 mod turns;
 
+use crate::bells::Bells;
 use crate::kept::Kept;
 use crate::steps::{Count, Draw, PassOn};
 use crate::table::{About, COUNT, FirstCome, SERVING, TICKET, TableSeat, VALUE, View};
@@ -26,6 +27,8 @@ use turns::{wait, write_down};
 #[derive(Drop)]
 pub struct Line<T: Kept> {
     table: Table<Option<T>, View<T::Entry, T::Fixed>, About<T>, FirstCome, Global>,
+    // Where seats sleep that wait for their turn.
+    bells: Bells,
 }
 
 impl<T: Kept> Model for Line<T> {
@@ -108,7 +111,8 @@ impl<T: Kept> Line<T> {
         Ok((line, all))
     }
 
-    /// Draws a ticket, waits for its turn, and takes the value. While it waits, it yields to other threads.
+    /// Draws a ticket, waits for its turn, and takes the value. It looks for its turn some times in a row, and then
+    /// sleeps until who leaves passes the turn on to it.
     ///
     /// Its turn comes once everyone who drew a ticket before has left, if they do.
     pub fn enter<R: Wait>(&self, rt: &R, seat: &mut LineSeat<T>) -> T
@@ -123,7 +127,7 @@ impl<T: Kept> Line<T> {
     {
         let shared = &self.table.shared;
         let ticket = shared.fetch_add::<Draw>(&mut seat.seat, TICKET, 1);
-        wait(rt, shared, &mut seat.seat, ticket);
+        wait(rt, shared, &self.bells, &mut seat.seat, ticket);
         let Some(value) = shared.exchange(&mut seat.seat, VALUE, None) else {
             unreachable!()
         };
@@ -131,7 +135,8 @@ impl<T: Kept> Line<T> {
         value
     }
 
-    /// Hands the value back, with one entry more at most, and passes the turn on. It doesn't wait.
+    /// Hands the value back, with one entry more at most, passes the turn on, and wakes who is next where it sleeps. It
+    /// doesn't wait.
     pub fn leave(&self, seat: &mut LineSeat<T>, value: T)
         requires line { seat.old.line ≡ self.now }
         requires inside { seat.old.inside ≡ true }
@@ -148,7 +153,8 @@ impl<T: Kept> Line<T> {
         let shared = &self.table.shared;
         write_down(shared, &mut seat.seat, seat.entries, &value);
         let _nothing = shared.exchange(&mut seat.seat, VALUE, Some(value));
-        shared.fetch_add::<PassOn>(&mut seat.seat, SERVING, 1);
+        let served = shared.fetch_add::<PassOn>(&mut seat.seat, SERVING, 1);
+        self.bells.ring(served.wrapping_add(1));
     }
 
     /// How many entries there are, by one load. It doesn't wait, whoever is inside, and one seat never reads less than
@@ -160,6 +166,11 @@ impl<T: Kept> Line<T> {
         ensures seat { seat.new ≡ record seat.old { counted = max seat.old.counted result } }
     {
         self.table.shared.load::<Count>(&mut seat.seat, COUNT)
+    }
+
+    /// How many entries there are, by one load for which no seat is needed. No contract tells of it. It doesn't wait.
+    pub fn glance(&self) -> u64 {
+        self.table.shared.peek(COUNT)
     }
 
     /// Ends the line, and gives the value back. It needs all seats, in any order.

@@ -84,7 +84,7 @@ pub fn finish<T: Kept>(line: Line<T>, first: TableSeat<T>) -> T
         → BearsOut T.maker (T.history result) f }
     ensures strangers { HasNoneFrom T.maker line.seats (T.history result) }
 {
-    let Line { table } = line;
+    let Line { table, bells: _ } = line;
     let mut closed = table.close_with(first);
     let value = closed.take(VALUE);
     closed.free();

@@ -4,6 +4,7 @@ ghost use Rattle.tm_turn.specs.Seats.{AreNew};
 ghost use Rattle.tm_turn.specs.Views.{first_view, fresh_view};
 
 use super::{Line, LineSeat};
+use crate::bells::Bells;
 use crate::kept::Kept;
 use crate::steps::Deal;
 use crate::table::{About, TableSeat};
@@ -24,6 +25,7 @@ pub fn lay<T: Kept>(
     ensures first { IfOk result (λ r.
         (r.1.table_id ≡ r.0.table) × (r.1.me ≡ (first_view (T.fixed value) seats, []))) }
 {
+    let bells = Bells::hang(alloc, seats)?;
     let about = About {
         value: Snapshot::of(&value),
         seats,
@@ -33,7 +35,7 @@ pub fn lay<T: Kept>(
     };
     slots.push_reserved(Some(value));
     match Table::new(alloc, &[0, 0, 0], slots, &about) {
-        Ok((table, first)) => Ok((Line { table }, first)),
+        Ok((table, first)) => Ok((Line { table, bells }, first)),
         Err(_) => Err(NoMemory),
     }
 }

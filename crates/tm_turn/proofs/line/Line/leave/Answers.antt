@@ -6,8 +6,8 @@ use Rattle.tm_turn.proofs.Turns.{leaves}
 use Rattle.tm_turn.proofs.Recording.{IsSeat-left}
 use Rattle.tm_turn.proofs.line.Line.leave.Goals as goal
 
-pub fetch_add-requires : goal.fetch_add-requires
-fetch_add-requires g c =
+pub fetch_add-served-requires : goal.fetch_add-served-requires
+fetch_add-served-requires g c =
     let k = g.T.Kept in
     let S = SeatState g.row.T-Entry.Denot g.row.T-Fixed.Denot in
     let L = LineId g.row.T-Fixed.Denot in
@@ -31,15 +31,15 @@ invariant_of-seat g c =
     let log = k.history c.args.value in
     let next = subst (λ (s : S). AddsAtMostOne k.maker s.number s.seen log) (sym c.seat.view_is) c.requires.history in
     IsSeat-left k.maker _ _ c.seat.inside.seat.me _ _ _ _ log c.seat.invariant next c.write_down.ensures.recorded
-    c.exchange-nothing.ensures.3 c.fetch_add.ensures.2
+    c.exchange-nothing.ensures.3 c.fetch_add-served.ensures.2
 
 pub returns-clause-own : goal.returns-clause-own
 returns-clause-own g c =
     let k = g.T.Kept in
     let S = SeatState g.row.T-Entry.Denot g.row.T-Fixed.Denot in
     let log = k.history c.args.value in
-    let end = c.fetch_add.new.seat.me in
+    let end = c.fetch_add-served.new.seat.me in
     let next = subst (λ (s : S). AddsAtMostOne k.maker s.number s.seen log) (sym c.seat.view_is) c.requires.history in
     let sits = IsSeat-left k.maker c.seat.inside.number c.seat.inside.entries c.seat.inside.seat.me _ _ end _ log
-    c.seat.invariant next c.write_down.ensures.recorded c.exchange-nothing.ensures.3 c.fetch_add.ensures.2 in
+    c.seat.invariant next c.write_down.ensures.recorded c.exchange-nothing.ensures.3 c.fetch_add-served.ensures.2 in
     ap (λ (n : ℕ). made_by k.maker n end.0.seen) sits.number_is ∙ sits.own
