@@ -1,17 +1,13 @@
 -- The memory after one step more.
-use Rattle.std.proofs.Common.{◌≡◌, ℕ, ◌≤◌, List, ◌∷◌, Option, None, Some, refl, sym, ap, ◌∙◌, subst, arith}
+use Rattle.std.proofs.Common.{ℕ, ◌≤◌, List, ◌∷◌, sym, ap, ◌∙◌, subst, arith}
 use Rattle.std.specs.Prelude.{unwrap_or}
 use Rattle.tm_plan_cases.specs.declared.program.Program.{Program}
 use Rattle.tm_ram.specs.Region.{Region}
-use Rattle.tm_world.specs.Lists.{or_else}
 use Rattle.tm_world.specs.Place.{image_byte}
 use Rattle.tm_world.specs.Run.{Step, access_of, written, last_write}
+use Rattle.tm_world.proofs.Options.{unwrap_or-or_else}
 use Rattle.tm_guest.specs.Memory.{IsWritten}
 use Rattle.tm_guest.specs.Fields.{IsMemory}
-
-unwrap-else : (x y : Option ℕ) (d : ℕ) → unwrap_or (or_else x y) d ≡ unwrap_or x (unwrap_or y d)
-unwrap-else (Some v) y d = refl
-unwrap-else None y d = refl
 
 pub memory-more : (p : Program) (s : Step) (past : List Step) (r t : Region) → IsWritten r (access_of s) t
     → IsMemory p past r → IsMemory p (s ∷ past) t
@@ -21,5 +17,5 @@ memory-more p s past r t w m = record {
       let from : r.base ≤ b = subst (λ (x : ℕ). x ≤ b) (sym m.region.base) lo in
       w.bytes b from
       ∙ (ap (unwrap_or (written (access_of s) b)) (m.bytes b lo hi)
-      ∙ sym (unwrap-else (written (access_of s) b) (last_write b past) (image_byte p b)));
+      ∙ sym (unwrap_or-or_else (written (access_of s) b) (last_write b past) (image_byte p b)));
 }

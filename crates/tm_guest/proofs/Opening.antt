@@ -4,6 +4,7 @@ use Rattle.std.proofs.Common.{get_or-set_other}
 use Rattle.std.specs.Prelude.{replicate}
 use Rattle.std.proofs.lemmas.Bool.{cases_eq, cases_lt}
 use Rattle.std.proofs.lemmas.List.{get_or-replicate, get_or_past}
+use Rattle.tm_base.specs.declared.limits.TheConstants.{MOST_EVENTS}
 use Rattle.tm_plan_cases.specs.declared.program.Program.{Program}
 use Rattle.tm_plan_cases.specs.Shaped.{IsProgram}
 use Rattle.tm_plan_script.specs.declared.faults.FaultLine.{FaultLine}
@@ -33,7 +34,7 @@ unfolding opening
 is-opening h l = record { count = refl; fits = λ r. opening-fits h r l; zero = refl; number = refl }
 
 pub keeps-fresh : (p : Program) (lines : List FaultLine) (limit : ℕ) (decodes : List Decoded) (states : List HartState)
-    (r : Region) → IsProgram p → lines ≡ [] → NeverStuck p lines → limit ≤ 100000000 → AreDecoded p.text decodes
+    (r : Region) → IsProgram p → lines ≡ [] → NeverStuck p lines → limit ≤ MOST_EVENTS → AreDecoded p.text decodes
     → AreOpened p.cases.harts states → IsMemory p [] r
     → KeepsReplay p lines limit decodes states r (record { events = []; room = limit })
 unfolding steps_of

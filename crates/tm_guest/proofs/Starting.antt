@@ -4,6 +4,8 @@ use Rattle.std.proofs.Common.{refl, sym, ap, ◌∙◌, subst, length, get_or, a
 use Rattle.std.specs.Prelude.{slice_index}
 use Rattle.std.proofs.lemmas.Bool.{cases_eq, cases_lt}
 use Rattle.std.proofs.lemmas.List.{get_or_append_left, get_or-append_right}
+use Rattle.tm_base.specs.declared.limits.TheConstants.{TEXT_WORDS, TABLES_BYTES}
+use Rattle.tm_plan_map.specs.declared.addresses.TheConstants.{TEXT_ADDRESS, TABLES_ADDRESS}
 use Rattle.tm_plan_map.specs.Map.{guest_base, guest_end}
 use Rattle.tm_ram.specs.Region.{Region, IsPlace}
 use Rattle.tm_world.specs.Place.{byte_of}
@@ -43,8 +45,8 @@ region-more r t at width value s g = record { base = s.base ∙ g.base; end = om
 
 -- ---- text
 
-pub text-place : (r : Region) (i n : ℕ) → IsGuestRegion r → i < n → n ≤ 2097152
-    → IsPlace r (2147483648 + 4 * i) 4
+pub text-place : (r : Region) (i n : ℕ) → IsGuestRegion r → i < n → n ≤ TEXT_WORDS
+    → IsPlace r (TEXT_ADDRESS + 4 * i) 4
 unfolding guest_base guest_end
 text-place r i n g l m = record {
   wide = inr (inr (inl refl));
@@ -73,7 +75,7 @@ text-more text i r0 r t s h = record {
 
 -- ---- tables
 
-pub tables-place : (r : Region) (i n : ℕ) → IsGuestRegion r → i < n → n ≤ 4194304 → IsPlace r (2155872256 + i) 1
+pub tables-place : (r : Region) (i n : ℕ) → IsGuestRegion r → i < n → n ≤ TABLES_BYTES → IsPlace r (TABLES_ADDRESS + i) 1
 unfolding guest_base guest_end
 tables-place r i n g l m = record {
   wide = inl refl;

@@ -1,9 +1,8 @@
 -- A hart's next event is the only one.
-use Rattle.std.proofs.Common.{◌≡◌, ℕ, List, [], ◌∷◌, ◌++◌, Option, None, Some, refl, sym, ap, ◌∙◌, subst}
-use Rattle.std.specs.Int.Bits.{xor_zero_r}
+use Rattle.std.proofs.Common.{◌≡◌, ℕ, List, [], ◌∷◌, ◌++◌, Option, None, Some, sym, ap, ◌∙◌, subst}
 use Rattle.tm_table.specs.declared.instr.Instr.{Instr}
 use Rattle.tm_table.specs.declared.state.Access.{Access}
-use Rattle.tm_table.specs.declared.state.Access.TheVariants.{Quiet, Read, Write}
+use Rattle.tm_table.specs.declared.state.Access.TheVariants.{Read}
 use Rattle.tm_table.specs.State.{Hart}
 use Rattle.tm_table.specs.Words.{low}
 use Rattle.tm_table.specs.Row.{Effect, Gives, Loads, Stores, Branches, Jumps, effect_at, after, row, row_word}
@@ -23,6 +22,7 @@ use Rattle.tm_guest.specs.Turns.{IsNextEvent}
 use Rattle.tm_guest.specs.Laws.{OneNextEvent}
 use Rattle.tm_guest.proofs.Bytes.{same-xored}
 use Rattle.tm_memory.proofs.NoLines.{opened}
+use Rattle.tm_memory.proofs.Nothing.{same-access, same-read}
 use Rattle.tm_world.proofs.Replaying.{steps-more}
 
 module _ (p : Program) (past : List Step) where
@@ -72,16 +72,6 @@ module _ (p : Program) (past : List Step) where
     shape : HasShape clean
     reads : Reads (plain_owed p past) (unloaded change clean)
     is : access_of s ≡ access_by change clean
-
-  same-access : (a : Access) → access_by nothing a ≡ a
-  same-access Quiet = refl
-  same-access (Read addr width value) = refl
-  same-access (Write addr width value) = ap (Write addr width) (xor_zero_r value)
-
-  same-read : (a : Access) → unloaded nothing a ≡ a
-  same-read Quiet = refl
-  same-read (Write addr width value) = refl
-  same-read (Read addr width value) = ap (Read addr width) (xor_zero_r value)
 
   known : (h : ℕ) (change : Change) (c : Option ℕ) (before : Hart) (s : Step)
       → FaultedStep p h change c before past s → Known (change_in c change) before s

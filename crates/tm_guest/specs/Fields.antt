@@ -11,6 +11,7 @@ use Rattle.tm_plan_journal.specs.Journaled.{Journaled}
 use Rattle.tm_plan_cases.specs.Shaped.{IsProgram}
 use Rattle.tm_ram.specs.Region.{Region}
 use Rattle.tm_base.specs.Lists.{any}
+use Rattle.tm_base.specs.declared.limits.TheConstants.{MOST_EVENTS}
 use Rattle.tm_world.specs.Place.{harts, exit_of, image_byte, word_at}
 use Rattle.tm_world.specs.Run.{Step, own, phase, last_write}
 use Rattle.tm_world.specs.Kinds.{IsPossible}
@@ -60,12 +61,12 @@ pub record IsMemory (p : Program) (steps : List Step) (r : Region) : Type 0 wher
 
 -- The fields of a guest: its state is what replaying its journal gives, and its journal is a run that the script has
 -- changed. So far the script has no lines.
-pub record KeepsReplay (p : Program) (lines : List FaultLine) (limit : ℕ) (decodes : List Decoded) (states : List HartState)
-    (ram : Region) (journal : Journaled) : Type 0 where
+pub record KeepsReplay (p : Program) (lines : List FaultLine) (limit : ℕ) (decodes : List Decoded)
+    (states : List HartState) (ram : Region) (journal : Journaled) : Type 0 where
   pub program : IsProgram p
   pub none : lines ≡ []
   pub unstuck : NeverStuck p lines
-  pub few : limit ≤ 100000000
+  pub few : limit ≤ MOST_EVENTS
   pub room : journal.room ≡ limit
   pub within : length journal.events ≤ limit
   pub rows : AreDecoded p.text decodes

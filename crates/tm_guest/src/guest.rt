@@ -1,6 +1,7 @@
 // The guest: one state, stepped hart by hart.
 ghost use Rattle.std.specs.Prelude.{◌≡◌, ◌↔◌, ◌+◌, ◌<◌, ◌≤◌, ◌^◌, [], length, IsTrue, IfOk};
 ghost use Rattle.tm_base.specs.Lists.{any};
+ghost use Rattle.tm_base.specs.declared.limits.TheConstants.{MOST_EVENTS};
 ghost use Rattle.tm_plan_cases.specs.declared.event.Event.{Event};
 ghost use Rattle.tm_table.specs.State.{hart_of};
 ghost use Rattle.tm_plan_cases.specs.Shaped.{IsProgram};
@@ -19,13 +20,14 @@ use crate::act::next_access;
 use crate::decoded::{Decoded, decoded_text};
 use crate::hart::HartState;
 use crate::idle::finds_less;
-use crate::start::{TEXT, image, opened};
+use crate::start::{image, opened};
 use crate::turn::Turn;
 use std::alloc::Global;
 use std::marker::Model;
 use tm_base::NoMemory;
 use tm_plan_cases::{Event, Program};
 use tm_plan_journal::Journal;
+use tm_plan_map::TEXT_ADDRESS;
 use tm_plan_script::Faults;
 use tm_ram::Ram;
 use tm_table::{Access, Cpu};
@@ -74,7 +76,7 @@ impl<'a> Guest<'a> {
     ) -> Result<Guest<'a>, NoMemory>
         requires program { IsProgram program.now }
         requires some { 1 ≤ limit }
-        requires few { limit ≤ 100000000 }
+        requires few { limit ≤ MOST_EVENTS }
         requires none { faults ≡ [] }
         requires unstuck { NeverStuck program.now faults }
         ensures { IfOk result (λ g. g ≡ fresh program.now faults limit) }
@@ -214,7 +216,7 @@ impl<'a> Guest<'a> {
         ensures { IsRow self.now.program (state self.now h) result }
     {
         let hart = &self.harts[h as usize];
-        let place = (hart.cpu.pc - TEXT) / 4;
+        let place = (hart.cpu.pc - TEXT_ADDRESS) / 4;
         self.decodes[place as usize]
     }
 

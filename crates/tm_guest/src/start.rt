@@ -1,5 +1,6 @@
 // The first state of a guest.
 ghost use Rattle.std.specs.Prelude.{◌≡◌, ◌≤◌, ◌*◌, [], length, IfOk};
+ghost use Rattle.tm_base.specs.declared.limits.TheConstants.{TABLES_BYTES, TEXT_WORDS};
 ghost use Rattle.tm_table.specs.State.{hart_of};
 ghost use Rattle.tm_plan_cases.specs.Shaped.{IsProgram};
 ghost use Rattle.tm_world.specs.Run.{first_state};
@@ -10,19 +11,11 @@ ghost use Rattle.tm_guest.specs.Fields.{IsMemory};
 
 use crate::hart::HartState;
 use std::alloc::Global;
-use tm_base::NoMemory;
+use tm_base::{GUEST_ADDRESS, GUEST_BYTES, NoMemory};
 use tm_plan_cases::Program;
+use tm_plan_map::{TABLES_ADDRESS, TEXT_ADDRESS};
 use tm_ram::Ram;
 use tm_table::Cpu;
-
-/// Where the guest's memory and in it the text begin.
-pub const TEXT: u64 = 0x8000_0000;
-
-// Where the tables begin.
-const TABLES: u64 = 0x8080_0000;
-
-// How long the guest's memory is.
-const SIZE: u64 = 0x100_0000;
 
 /// The harts before their first steps.
 pub fn opened(alloc: Global, harts: u32) -> Result<Vec<HartState>, NoMemory>
@@ -58,7 +51,7 @@ fn first_cpu(h: u32) -> Cpu
 {
     let mut x = [0; 32];
     x[10] = u64::from(h);
-    Cpu::new(TEXT, x)
+    Cpu::new(TEXT_ADDRESS, x)
 }
 
 /// The memory before the first step: the text's words, the tables' bytes, and 0 elsewhere.
@@ -66,7 +59,7 @@ pub fn image(alloc: Global, program: &Program) -> Result<Ram, NoMemory>
     requires { IsProgram program.now }
     ensures { IfOk result (λ r. IsMemory program.now [] r) }
 {
-    let mut ram = Ram::new(alloc, TEXT, SIZE)?;
+    let mut ram = Ram::new(alloc, GUEST_ADDRESS, GUEST_BYTES)?;
     put_text(&mut ram, program.text.as_slice());
     put_tables(&mut ram, program.tables.as_slice());
     Ok(ram)
@@ -75,23 +68,23 @@ pub fn image(alloc: Global, program: &Program) -> Result<Ram, NoMemory>
 // Puts the words of the text at its begin.
 fn put_text(ram: &mut Ram, text: &[u32])
     requires region { IsGuestRegion ram.old }
-    requires few { length text.now ≤ 2097152 }
+    requires few { length text.now ≤ TEXT_WORDS }
     ensures region { IsGuestRegion ram.new }
     ensures text { HasText text.now (length text.now) ram.old ram.new }
 {
     for (i, word) in text.iter().enumerate() {
-        ram.store(TEXT + 4 * i as u64, 4, u64::from(*word));
+        ram.store(TEXT_ADDRESS + 4 * i as u64, 4, u64::from(*word));
     }
 }
 
 // Puts the bytes of the tables at their begin.
 fn put_tables(ram: &mut Ram, tables: &[u8])
     requires region { IsGuestRegion ram.old }
-    requires few { length tables.now ≤ 4194304 }
+    requires few { length tables.now ≤ TABLES_BYTES }
     ensures region { IsGuestRegion ram.new }
     ensures tables { HasTables tables.now (length tables.now) ram.old ram.new }
 {
     for (i, byte) in tables.iter().enumerate() {
-        ram.store(TABLES + i as u64, 1, u64::from(*byte));
+        ram.store(TABLES_ADDRESS + i as u64, 1, u64::from(*byte));
     }
 }

@@ -1,4 +1,5 @@
 use Rattle.std.proofs.Common.{◌≡◌, ◌+◌, ◌-◌, get_or, arith}
+use Rattle.tm_plan_map.specs.declared.addresses.TheConstants.{TABLES_ADDRESS}
 use Rattle.tm_plan_map.specs.Map.{guest_base}
 use Rattle.tm_guest.proofs.Starting.{tables-place, tables-more, region-more, stores-to}
 use Rattle.tm_guest.proofs.start.put_tables.Goals as goal
@@ -16,7 +17,7 @@ loop-i-preserved c =
     let i = c.loop-i.i in
     let tables = c.args.tables.now in
     let known = c.loop-i.invariant in
-    let at : 2155872256 + i - r.base ≡ 8388608 + i = omega (arith, known.region.base) in
+    let at : TABLES_ADDRESS + i - r.base ≡ 8388608 + i = omega (arith, known.region.base) in
     let s =
     stores-to r t _ _ 1 _ (get_or tables i 0)
     (record { base = e.base; long = e.long; inside = e.inside; outside = e.outside }) at c.from.ensures in

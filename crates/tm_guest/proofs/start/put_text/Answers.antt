@@ -1,4 +1,5 @@
 use Rattle.std.proofs.Common.{◌≡◌, ◌+◌, ◌*◌, ◌-◌, get_or, arith}
+use Rattle.tm_plan_map.specs.declared.addresses.TheConstants.{TEXT_ADDRESS}
 use Rattle.tm_plan_map.specs.Map.{guest_base}
 use Rattle.tm_guest.proofs.Starting.{text-place, text-more, region-more, stores-to}
 use Rattle.tm_guest.proofs.start.put_text.Goals as goal
@@ -16,7 +17,7 @@ loop-i-preserved c =
     let i = c.loop-i.i in
     let text = c.args.text.now in
     let known = c.loop-i.invariant in
-    let at : 2147483648 + 4 * i - r.base ≡ 4 * i = omega (arith, known.region.base) in
+    let at : TEXT_ADDRESS + 4 * i - r.base ≡ 4 * i = omega (arith, known.region.base) in
     let s =
     stores-to r t _ _ 4 _ (get_or text i 0)
     (record { base = e.base; long = e.long; inside = e.inside; outside = e.outside }) at c.from.ensures in
