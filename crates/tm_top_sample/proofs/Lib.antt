@@ -1,4 +1,3 @@
 mod Sums
-mod Halting
 mod Building
 mod Running

@@ -1,7 +1,7 @@
 use Rattle.std.proofs.Common.{sym, ap, subst, length, ◌∙◌}
 use Rattle.tm_harts.specs.Mills.{AreAllOf}
 use Rattle.tm_harts.proofs.Callers.{all_back}
-use Rattle.tm_top_run.proofs.Running.{never_stuck}
+use Rattle.tm_top_owed.proofs.Simulations.{never_stuck}
 use Rattle.tm_top_run.proofs.threads.driven.Goals as goal
 
 pub start-requires-clause-unstuck : goal.start-requires-clause-unstuck

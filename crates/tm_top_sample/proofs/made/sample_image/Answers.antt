@@ -1,6 +1,7 @@
 use Rattle.std.proofs.Common.{◌∙◌}
 use Rattle.tm_sample.specs.Texts.{sample_topology, sample_template}
-use Rattle.tm_top_sample.proofs.Building.{never_refused, built_of_texts}
+use Rattle.tm_top_owed.proofs.Built.{built_of_texts}
+use Rattle.tm_top_sample.proofs.Building.{never_refused}
 use Rattle.tm_top_sample.proofs.made.sample_image.Goals as goal
 
 pub returns-in-Ok : goal.returns-in-Ok
