@@ -17,7 +17,7 @@ use Rattle.tm_top_owed.specs.Inputs.{not_opened, refused_image, fault_of_image, 
 use Rattle.tm_top_owed.specs.Changes.{DeskChange}
 use Rattle.tm_top_owed.specs.Owed.{IsOpened, reads}
 use Rattle.tm_top_owed.specs.Owed.InputFailure.{unread, missing}
-use Rattle.tm_top_owed.specs.Steps.{ReadStop, FileStop, ImageStop, IsHeldImage, InputStop}
+use Rattle.tm_top_owed.specs.Steps.{ReadStop, FileStop, OpenStop, IsHeldImage, InputStop}
 use Rattle.tm_top_owed.proofs.Limits.{long, short}
 
 -- ---- its fault
@@ -41,7 +41,7 @@ image_read name files file held h = rw held (short IMAGE_BYTES refused_image fil
 -- a read of it that stopped
 pub read_stop : (s : Stop) (name : List ℕ) (desk : DeskChange)
     → ReadStop s roles.Image (IsTrue desk.tells) (desk.held name) IMAGE_BYTES desk.faults desk.faults_after
-    → ImageStop s name desk
+    → OpenStop s name desk
 read_stop (stop.Refused by fault) name desk (role_is, fault_is, h) =
     rw (role_is, fault_is) (refl, refl, refl, λ told. image_long name desk.held (h told))
 read_stop (stop.Failed by) name desk (role_is, inl rose) = (role_is, inl rose)
@@ -52,7 +52,7 @@ read_stop stop.NoMemory name desk h = tt
 -- where it isn't opened
 pub file_stop : (s : Stop) (name : List ℕ) (desk : DeskChange) (file : List ℕ)
     → (IsTrue desk.tells → desk.held name ≡ Some file) → length file ≤ IMAGE_BYTES → FileStop s (opened file)
-    → ImageStop s name desk
+    → OpenStop s name desk
 file_stop (stop.Refused by fault) name desk file there h (refusal, refused, role_is, fault_is, has_line) =
     rw (role_is, fault_is) (
       refl,
@@ -82,7 +82,7 @@ held_image name desk file program seed there h image = record {
 command_stop : (s : Stop) (c : Command) (name : List ℕ) (desk : DeskChange) → IsTrue (reads c roles.Image)
     → fault_before c roles.Image desk.held ≡ None
     → ((fault : AnyFault) → fault_of_image name desk.held ≡ Some fault
-    → first_fault c desk.held ≡ Some (roles.Image, fault)) → ImageStop s name desk → InputStop s c desk
+    → first_fault c desk.held ≡ Some (roles.Image, fault)) → OpenStop s name desk → InputStop s c desk
 command_stop (stop.Refused by fault) c name desk input none first (role_is, status, has_line, is) =
     rw role_is (record {
       read = input;
@@ -97,12 +97,12 @@ command_stop (stop.Failed by) c name desk input none first (role_is, inr (told, 
 command_stop stop.NoMemory c name desk input none first h = tt
 
 -- a listing stops
-pub list_stop : (s : Stop) (name : List ℕ) (desk : DeskChange) → ImageStop s name desk → InputStop s (to_list name) desk
+pub list_stop : (s : Stop) (name : List ℕ) (desk : DeskChange) → OpenStop s name desk → InputStop s (to_list name) desk
 unfolding first_fault
 list_stop s name desk h = command_stop s (to_list name) name desk refl refl (λ fault is. rw is refl) h
 
 -- a run stops
-pub run_stop : (s : Stop) (r : Run) (desk : DeskChange) → ImageStop s r.image desk → InputStop s (to_run r) desk
+pub run_stop : (s : Stop) (r : Run) (desk : DeskChange) → OpenStop s r.image desk → InputStop s (to_run r) desk
 unfolding first_fault
 run_stop s r desk h = command_stop s (to_run r) r.image desk refl refl (λ fault is. rw is refl) h
 

@@ -34,14 +34,14 @@ FileStop (stop.Failed by) opened = ⊥
 FileStop stop.NoMemory opened = Unit {0}
 
 -- why the image of a name isn't opened: it is refused with its fault, the desk's count rose, or it isn't held
-abbrev pub ImageStop : Stop → List ℕ → DeskChange → Type 0
-ImageStop (stop.Refused by fault) name desk =
+abbrev pub OpenStop : Stop → List ℕ → DeskChange → Type 0
+OpenStop (stop.Refused by fault) name desk =
     (by ≡ roles.Image) × (status_of fault ≡ 3) × IsFalse (wants_memory fault)
     × (IsTrue desk.tells → fault_of_image name desk.held ≡ Some fault)
-ImageStop (stop.Failed by) name desk =
+OpenStop (stop.Failed by) name desk =
     (by ≡ roles.Image)
     × (DeskFailed desk ⊎ (IsTrue desk.tells × (fault_of_image name desk.held ≡ Some (Desk Failed))))
-ImageStop stop.NoMemory name desk = Unit {0}
+OpenStop stop.NoMemory name desk = Unit {0}
 
 -- The program and the seed are those of the image that is held under a name, and that has no fault.
 pub record IsHeldImage (name : List ℕ) (tells : Bool) (held : Files) (program : Program) (seed : ℕ) : Type 0 where

@@ -3,7 +3,7 @@ ghost use Rattle.std.specs.Prelude.{◌≡◌, ◌≤◌, IsTrue, IfErr, IfOk};
 ghost use Rattle.tm_image_build.specs.Opened.{opened};
 ghost use Rattle.tm_top_owed.specs.Changes.{desk_change};
 ghost use Rattle.tm_top_owed.specs.Owed.{IsOpened};
-ghost use Rattle.tm_top_owed.specs.Steps.{FileStop, ImageStop, IsHeldImage};
+ghost use Rattle.tm_top_owed.specs.Steps.{FileStop, OpenStop, IsHeldImage};
 
 use crate::steps::read_input;
 use crate::stop::Stop;
@@ -35,7 +35,7 @@ pub fn open_input<D: Desk>(alloc: Global, name: &str, desk: &mut D) -> Result<Im
     ensures unchanged { IsTrue D.tells → D.held desk.new ≡ D.held desk.old }
     ensures later { D.faults desk.old ≤ D.faults desk.new }
     ensures cause { IfErr result (λ stop.
-        ImageStop stop name.now (desk_change D.tells D.held D.faults desk.old desk.new)) }
+        OpenStop stop name.now (desk_change D.tells D.held D.faults desk.old desk.new)) }
 {
     let file = match read_input(desk, Role::Image, name, IMAGE_BYTES) {
         Ok(file) => file,
