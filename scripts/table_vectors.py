@@ -2,11 +2,11 @@
 """Compares the instruction table with GNU binutils for RISC-V.
 
 Outside the gate: it needs riscv64-linux-gnu-as and riscv64-linux-gnu-objdump (Debian: binutils-riscv64-linux-gnu) and
-the kit's rt, and says so and ends where one is missing. It assembles each of the 52 instructions with many operands,
-and compares the words with `encode` and `decode`; it disassembles many words, and compares what stands there with
-`decode`. The table's calls run in a small program that is written into a temporary folder. FENCE words outside the
-table's profile (fm, rd or rs1 not zero), FENCE.I, and CSR and privileged instructions have no row, whatever the
-disassembler names them.
+the kit's rt, and says so and ends where one is missing. It assembles each of the 65 instructions, RV64I's 52 and M's
+13, with many operands, and compares the words with `encode` and `decode`; it disassembles many words, and compares
+what stands there with `decode`. The table's calls run in a small program that is written into a temporary folder.
+FENCE words outside the table's profile (fm, rd or rs1 not zero), FENCE.I, and CSR and privileged instructions have no
+row, whatever the disassembler names them.
 
 usage: scripts/table_vectors.py [SEED]
 """
@@ -33,7 +33,8 @@ SHAPES = {
     "immediate": "addi slti sltiu xori ori andi addiw",
     "shift": "slli srli srai",
     "word_shift": "slliw srliw sraiw",
-    "registers": "add sll slt sltu xor srl or and sub sra addw sllw srlw subw sraw",
+    "registers": "add sll slt sltu xor srl or and sub sra addw sllw srlw subw sraw "
+    "mul mulh mulhsu mulhu div divu rem remu mulw divw divuw remw remuw",
     "fence": "fence",
     "bare": "ecall ebreak",
 }
@@ -188,7 +189,7 @@ def assembled(folder, lines):
     source = os.path.join(folder, "vectors.s")
     with open(source, "w") as out:
         out.write("\t.option norvc\n\t.option norelax\n" + "".join("\t%s\n" % line for line in lines))
-    run([ASSEMBLER, "-march=rv64i", "-mabi=lp64", "-mno-relax", "-o", "vectors.o", "vectors.s"], folder)
+    run([ASSEMBLER, "-march=rv64im", "-mabi=lp64", "-mno-relax", "-o", "vectors.o", "vectors.s"], folder)
     text = run([DISASSEMBLER, "-d", "-z", "-M", "no-aliases,numeric", "vectors.o"], folder)
     found = re.findall(r"^\s*([0-9a-f]+):\s+([0-9a-f]{8}|[0-9a-f]{4})\s+(\S+)[ \t]*([^\n]*)$", text, re.M)
     return [

@@ -4,6 +4,8 @@ from .numbers import NotACase, number, small
 
 NOT_A_CASE = "not a case"
 
+SETTINGS = {"calm", "desk", "err", "most", "out", "pc", "read"}
+
 ESCAPES = {"n": b"\n", "t": b"\t", "r": b"\r", "e": b"", "\\": b"\\"}
 
 
@@ -122,13 +124,21 @@ def words_of(rest, count=8):
     return words + [""] * (count - len(words))
 
 
+def settings_of(text):
+    """Settings by name: the first of a name counts, and an unknown name makes the line no case."""
+    pairs = [word.partition("=") for word in text.split(" ") if word]
+    for name, _, value in pairs:
+        if not (name in SETTINGS or name[:1] == "x" and name[1:].isdigit()):
+            raise NotACase(name)
+        for one in value.split(","):
+            number(one)
+    return {name: value for name, _, value in reversed(pairs)}
+
+
 def options_of(rest):
     """The options in front of `: `, by name, and what stands behind."""
     options, is_split, words = rest.partition(": ")
-    if not is_split:
-        return {}, rest
-    pairs = [word.partition("=") for word in options.split(" ")]
-    return {key: value for key, _, value in reversed(pairs)}, words
+    return (settings_of(options), words) if is_split else ({}, rest)
 
 
 def calls(options, name):

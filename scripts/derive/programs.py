@@ -4,7 +4,7 @@ import hashlib
 
 from . import memory_map as places
 from .assembler import parse_line, print_line
-from .book import calls, changed, options_of, shown, words_of
+from .book import calls, changed, options_of, settings_of, shown, words_of
 from .bounds import budget, owned, work
 from .commands import Call
 from .desks import Desk, Sink
@@ -140,8 +140,7 @@ def exec_step(_, rest):
     if i is None:
         return "none"
     pc, x, found = 0x80000100, [0] * 32, 0
-    for setting in settings.split(" "):
-        name, _, value = setting.partition("=")
+    for name, value in settings_of(settings).items():
         if name == "pc":
             pc = number(value)
         elif name == "read":

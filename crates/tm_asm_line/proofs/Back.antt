@@ -14,7 +14,8 @@ use Rattle.tm_base.proofs.PrintLemmas.{decimal_reads_back}
 use Rattle.tm_asm_line.specs.Shapes.{set_text}
 use Rattle.tm_asm_line.specs.Reading.{is_blank, is_delimiter, register_of, signed_of, signed_by, value_of, negative}
 use Rattle.tm_asm_line.specs.Reading.{set_of}
-use Rattle.tm_asm_line.proofs.Cut.{and_parts, none, none-append}
+use Rattle.std.proofs.lemmas.Bool.{and_parts}
+use Rattle.tm_asm_line.proofs.Cut.{none, none-append}
 
 -- ---- a test on all numbers below one
 

@@ -1,16 +1,10 @@
 -- What is cut out of a text behind a place, where the bytes there are known.
-use Rattle.std.proofs.Common.{◌≡◌, ◌≢◌, ℕ, zero, suc, ◌+◌, Bool, true, false, not, ◌&&◌, ◌||◌, List, [], ◌∷◌, ◌++◌}
+use Rattle.std.proofs.Common.{◌≡◌, ◌≢◌, ℕ, ◌+◌, Bool, true, false, not, ◌&&◌, ◌||◌, List, [], ◌∷◌, ◌++◌}
 use Rattle.std.proofs.Common.{length, drop, take, refl, sym, ap, ◌∙◌, arith}
 use Rattle.std.specs.List.{prefix_len, take_while}
+use Rattle.std.proofs.lemmas.Bool.{and_parts, not-true}
+use Rattle.std.proofs.lemmas.List.{drop-drop}
 use Rattle.tm_asm_line.specs.Reading.{is_blank, is_delimiter, after_blanks, operand, name_at}
-
-pub and_parts : (a b : Bool) → a && b ≡ true → (a ≡ true) × (b ≡ true)
-and_parts true b h = (refl, h)
-and_parts false b h = absurd (cc)
-
-not_true : (b : Bool) → not b ≡ true → b ≡ false
-not_true true h = absurd (cc)
-not_true false h = refl
 
 -- no byte stops
 abbrev pub none : (ℕ → Bool) → List ℕ → Bool
@@ -49,19 +43,10 @@ pub cut : (stop : ℕ → Bool) (bs rest : List ℕ) → none stop bs ≡ true �
     → take_while (λ b. not (stop b)) (bs ++ rest) ≡ bs
 cut stop bs rest h k = rw (prefix-none stop bs rest h k) (take_front bs rest)
 
-drop_nil : (n : ℕ) → drop {A = ℕ} n [] ≡ []
-drop_nil zero = refl
-drop_nil (suc n) = refl
-
-pub drop-drop : (xs : List ℕ) (m n : ℕ) → drop (m + n) xs ≡ drop n (drop m xs)
-drop-drop xs zero n = let e : 0 + n ≡ n = omega arith in rw e
-drop-drop [] (suc m) n = let e : suc m + n ≡ suc (m + n) = omega arith in rw e (sym (drop_nil n))
-drop-drop (x ∷ xs) (suc m) n = let e : suc m + n ≡ suc (m + n) = omega arith in rw e (drop-drop xs m n)
-
 -- what stands behind bytes that stand at a place
 pub drop_behind : (text bs rest : List ℕ) (at : ℕ) → drop at text ≡ bs ++ rest → drop (at + length bs) text ≡ rest
 drop_behind text bs rest at here =
-    drop-drop text at (length bs) ∙ (ap (λ (l : List ℕ). drop (length bs) l) here ∙ drop_front bs rest)
+    sym (drop-drop (length bs) at text) ∙ (ap (λ (l : List ℕ). drop (length bs) l) here ∙ drop_front bs rest)
 
 pub operand-here : (text bs rest : List ℕ) (at : ℕ) → drop at text ≡ bs ++ rest → none is_delimiter bs ≡ true
     → ends is_delimiter rest ≡ true → operand text at ≡ bs
@@ -82,14 +67,14 @@ no_blank (b ∷ bs) = not (is_blank b)
 pub blanks-none : (text rest : List ℕ) (at : ℕ) → drop at text ≡ rest → no_blank rest ≡ true → after_blanks text at ≡ at
 unfolding after_blanks
 blanks-none text [] at here h = rw here (omega arith)
-blanks-none text (b ∷ bs) at here h = let e = not_true (is_blank b) h in rw (here, e) (omega arith)
+blanks-none text (b ∷ bs) at here h = let e = not-true (is_blank b) h in rw (here, e) (omega arith)
 
 -- one blank stands at the place
 pub blanks-one : (text rest : List ℕ) (at : ℕ) → drop at text ≡ 32 ∷ rest → no_blank rest ≡ true → after_blanks text at
     ≡ at + 1
 unfolding after_blanks is_blank
 blanks-one text [] at here h = rw here
-blanks-one text (b ∷ bs) at here h = let e = not_true (is_blank b) h in rw (here, e)
+blanks-one text (b ∷ bs) at here h = let e = not-true (is_blank b) h in rw (here, e)
 
 or_false : (a b : Bool) → a || b ≡ false → a ≡ false
 or_false true b h = absurd (cc)
@@ -101,5 +86,5 @@ unfolding is_delimiter
 no_blank-none [] rest some h = absurd (some refl)
 no_blank-none (b ∷ bs) rest some h =
     let p = and_parts (not (is_delimiter b)) (none is_delimiter bs) h in
-    let e = or_false (is_blank b) _ (not_true (is_delimiter b) p.0) in
+    let e = or_false (is_blank b) _ (not-true (is_delimiter b) p.0) in
     rw e

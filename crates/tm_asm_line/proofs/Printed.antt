@@ -1,5 +1,5 @@
 -- What is printed is read back, a whole line.
-use Rattle.std.proofs.Common.{◌≡◌, ◌≢◌, ◌≤◌, ◌<◌, ℕ, suc, ◌+◌, ◌-◌, ◌*◌, ◌%◌, ◌^◌, Bool, T, lit<, true, false, ◌&&◌}
+use Rattle.std.proofs.Common.{◌≡◌, ◌≢◌, ◌≤◌, ◌<◌, ℕ, suc, ◌+◌, ◌*◌, ◌%◌, ◌^◌, Bool, T, lit<, true, false, ◌&&◌}
 use Rattle.std.proofs.Common.{eqb, nat_le, nat_lt, List, [], ◌∷◌, ◌++◌, length, drop, get_or, ℤ}
 use Rattle.std.proofs.Common.{pos, negsuc, Some, Ok, refl, sym, ap, subst, inl, inr, arith, length-append}
 use Rattle.std.specs.Prelude.{int_le}
@@ -29,7 +29,8 @@ use Rattle.tm_asm_line.specs.Reading.{bare}
 use Rattle.tm_asm_line.specs.Reading.{op_of, name_at, line_of}
 use Rattle.tm_asm_line.specs.Printing.{register_in, set_in, operand_text, mark_text, piece_text, pieces_text, gap}
 use Rattle.tm_asm_line.specs.Printing.{printed}
-use Rattle.tm_asm_line.proofs.Cut.{and_parts, none, ends, no_blank, blanks-none, blanks-one}
+use Rattle.std.proofs.lemmas.Bool.{and_parts}
+use Rattle.tm_asm_line.proofs.Cut.{none, ends, no_blank, blanks-none, blanks-one}
 use Rattle.tm_asm_line.proofs.Cut.{drop_behind, name-here}
 use Rattle.tm_asm_line.proofs.Back.{set_short}
 use Rattle.tm_asm_line.proofs.Pieces.{Holds, set_low, Fine, filled}
@@ -84,7 +85,7 @@ positive_mag last (pos n) b h = let top : n ≤ last = omega (arith, ints, h.1) 
 positive_mag last (negsuc n) b h = absurd (omega (arith, ints, h.0))
 
 -- the layout whose ranges a shape has
-abbrev layout_of : Shape → Layout
+abbrev pub layout_of : Shape → Layout
 layout_of Upper = U
 layout_of Jump = J
 layout_of Memory = I
@@ -97,7 +98,7 @@ layout_of Registers = R
 layout_of Fences = Order
 layout_of Bare = Whole
 
-same_layout : (op : Op) → layout_of (shape_of op) ≡ (row_of op).layout
+pub same_layout : (op : Op) → layout_of (shape_of op) ≡ (row_of op).layout
 unfolding shape_of
 same_layout Lui = refl
 same_layout _ = refl

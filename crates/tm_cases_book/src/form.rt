@@ -2,6 +2,9 @@
 use crate::book::Book;
 use tm_base::read_number;
 
+/// The names of settings, beside those of registers.
+const SETTINGS: &[&str] = &["calm", "desk", "err", "most", "out", "pc", "read"];
+
 /// Whether the rest of a line has the form, whose letters `Kinds` tells.
 pub fn has_form(texts: &Book, form: &str, rest: &str) -> bool {
     let mut left = rest;
@@ -56,12 +59,20 @@ fn are_changes(left: &str) -> bool {
 // Whether these are settings, each a name, `=` and numbers between commas.
 fn are_settings(left: &str) -> bool {
     for setting in left.split(' ') {
-        let (_, numbers) = setting.split_once('=').unwrap_or((setting, ""));
-        if !setting.is_empty() && !are_numbers(numbers) {
+        let (name, numbers) = setting.split_once('=').unwrap_or((setting, ""));
+        if !setting.is_empty() && !(is_setting(name) && are_numbers(numbers)) {
             return false;
         }
     }
     true
+}
+
+// Whether this is a setting's name: one of the list, or a register's, as `x6`.
+fn is_setting(name: &str) -> bool {
+    match name.strip_prefix("x") {
+        Some(register) => is_number(register),
+        None => SETTINGS.iter().any(|setting| *setting == name),
+    }
 }
 
 fn are_numbers(numbers: &str) -> bool {

@@ -3,7 +3,6 @@ use Rattle.std.proofs.Common.{◌≡◌, ◌≢◌, ℕ, ◌+◌, ◌-◌, ◌*�
 use Rattle.std.proofs.Common.{None, Result, Ok, Err, IfOk, IfErr, MatchResult, List, ◌++◌, length, take, drop, refl}
 use Rattle.std.proofs.Common.{ap, ◌∙◌, sym, arith, inl, inr, ◌⊎◌, ⊎_elim}
 use Rattle.std.specs.Int.{from_le_bytes, to_le_bytes, w32, w64}
-use Rattle.std.specs.Prelude.{codes}
 use Rattle.std.proofs.lemmas.Bool.Decides.{nat_tests}
 use Rattle.std.proofs.lemmas.List.{take_at, drop_at, drop-drop}
 use Rattle.std.proofs.lemmas.Nat.{from_le_bytes-to_le_bytes_4, from_le_bytes-to_le_bytes_8}
@@ -14,14 +13,13 @@ use Rattle.tm_elf_write.specs.declared.parts.Plan.{Plan}
 use Rattle.tm_elf_write.specs.declared.places.Places.{Places}
 use Rattle.tm_elf_write.specs.Elf.{IsWritable, elf_file, text_bytes}
 use Rattle.tm_elf_write.specs.Fields.{field_bytes}
-use Rattle.tm_elf_write.specs.Places.{places}
 use Rattle.tm_elf_write.specs.Plan.{plan_bytes, plan_mark}
 use Rattle.tm_elf_write.specs.Sections.{section_fields, sections, sections_bytes}
 use Rattle.tm_elf_write.specs.Segments.{segment_fields, segments, segments_bytes}
 use Rattle.tm_elf_write.specs.Stands.{ReadsAs, places_in}
 use Rattle.tm_elf_write.specs.Symbols.{string_bytes, symbol_bytes}
 use Rattle.tm_elf_write.proofs.Lengths.{length_plan, length_symbols, length_text}
-use Rattle.tm_elf_write.proofs.Standing.{reads_as}
+use Rattle.tm_elf_write.proofs.Standing.{InOrder, in_order, reads_as}
 use Rattle.tm_elf_write.specs.declared.parts.TheConstants.{MOST_SYMBOLS}
 use Rattle.tm_refusals.specs.declared.elf.ElfFault.{ElfFault}
 use Rattle.tm_refusals.specs.declared.elf.ElfFault.TheVariants.{Short, BadMagic, NotRiscv, NotExec, BadHeader}
@@ -38,39 +36,6 @@ use Rattle.tm_elf_head.proofs.HeaderLemmas.{alike, header_back}
 use Rattle.tm_elf.proofs.NameLemmas.{strings_short, symbols_back}
 use Rattle.tm_elf_head.proofs.StandLemmas.{fronts, long_back, word_back}
 use Rattle.tm_elf.proofs.WordLemmas.{text_back}
-
--- the places of parts are in order, and not far
-next_page : (n : ℕ) → (n ≤ (n + (4096 - 1)) / 4096 * 4096) × ((n + (4096 - 1)) / 4096 * 4096 ≤ n + 4095)
-next_page n = (omega arith, omega arith)
-
-next_eight : (n : ℕ) → (n ≤ (n + (8 - 1)) / 8 * 8) × ((n + (8 - 1)) / 8 * 8 ≤ n + 7)
-next_eight n = (omega arith, omega arith)
-
-record InOrder (text tables plan symbols strings : ℕ) (p : Places) : Type 0 where
-  tables_at : 4096 + text ≤ p.tables
-  tables_near : p.tables ≤ 4096 + text + 4095
-  plan_at : p.tables + tables ≤ p.plan
-  plan_near : p.plan ≤ p.tables + tables + 7
-  symbols_at : p.plan + plan ≤ p.symbols
-  symbols_near : p.symbols ≤ p.plan + plan + 7
-  strings_at : p.strings ≡ p.symbols + symbols
-  sections_at : p.strings + strings + 55 ≤ p.sections
-  sections_near : p.sections ≤ p.strings + strings + 55 + 7
-
-in_order : (text tables plan symbols strings : ℕ)
-    → InOrder text tables plan symbols strings (places text tables plan symbols strings)
-unfolding places
-in_order text tables plan symbols strings = record {
-  tables_at = (next_page _).0;
-  tables_near = (next_page _).1;
-  plan_at = (next_eight _).0;
-  plan_near = (next_eight _).1;
-  symbols_at = (next_eight _).0;
-  symbols_near = (next_eight _).1;
-  strings_at = refl;
-  sections_at = (next_eight _).0;
-  sections_near = (next_eight _).1;
-}
 
 abbrev OrderOf : Parts → Type 0
 OrderOf p = InOrder (length (text_bytes p.text)) (length p.tables) (length (plan_bytes p.plan))

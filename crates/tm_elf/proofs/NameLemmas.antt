@@ -8,6 +8,7 @@ use Rattle.std.proofs.lemmas.Bool.Decides.{nat_tests}
 use Rattle.std.proofs.lemmas.List.{take-take, take_at, drop_at, drop-drop, length-take, append_assoc}
 use Rattle.std.proofs.lemmas.List.Elements.{All-head, All-tail}
 use Rattle.std.proofs.lemmas.Nat.{from_le_bytes-to_le_bytes_4, from_le_bytes-to_le_bytes_8}
+use Rattle.std.proofs.lemmas.Bool.{and_parts}
 use Rattle.tm_elf_write.specs.declared.parts.Symbol.{Symbol}
 use Rattle.tm_elf_write.specs.Fields.{field_bytes, bytes_of}
 use Rattle.tm_elf_write.specs.Symbols.{IsName, entry, entries, string_bytes, symbol_bytes}
@@ -15,7 +16,6 @@ use Rattle.tm_elf_write.specs.declared.parts.TheConstants.{MOST_SYMBOLS, SYMBOL_
 use Rattle.tm_refusals.specs.declared.elf.ElfFault.{ElfFault}
 use Rattle.tm_elf_head.specs.Numbers.{word_at, long_at}
 use Rattle.tm_elf.specs.SymbolTable.{is_name, name_len, symbol_at, symbols_from, then_symbols}
-use Rattle.tm_elf_head.proofs.FitLemmas.{both}
 
 some_byte : (b : ℕ) → nat_lt 0 b ≡ true → (b == 0) ≡ false
 some_byte b h = grind (arith, nat_tests)
@@ -25,8 +25,8 @@ front_of_name : (name rest : List ℕ) (m : ℕ) → length name < m → list_al
 front_of_name name rest zero less ascii = absurd (omega (arith, less))
 front_of_name [] rest (suc m) less ascii = refl
 front_of_name (b ∷ bs) rest (suc m) less ascii =
-    let a = both (nat_lt 0 b && nat_lt b 128) (list_all (λ b. nat_lt 0 b && nat_lt b 128) bs) ascii in
-    let c = both (nat_lt 0 b) (nat_lt b 128) a.0 in
+    let a = and_parts (nat_lt 0 b && nat_lt b 128) (list_all (λ b. nat_lt 0 b && nat_lt b 128) bs) ascii in
+    let c = and_parts (nat_lt 0 b) (nat_lt b 128) a.0 in
     let some : (b == 0) ≡ false = some_byte b c.0 in
     let more = front_of_name bs rest m (omega (arith, less)) a.1 in
     rw (some, more) (omega arith)

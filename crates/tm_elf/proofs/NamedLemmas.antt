@@ -4,6 +4,7 @@ use Rattle.std.proofs.Common.{option_map, Result, Ok, Err, List, [], ◌∷◌, 
 use Rattle.std.proofs.Common.{subst, arith}
 use Rattle.std.proofs.lemmas.List.{length-take}
 use Rattle.std.proofs.lemmas.List.Elements.{All-cons}
+use Rattle.std.proofs.lemmas.Bool.{and_parts}
 use Rattle.tm_elf_write.specs.declared.parts.Symbol.{Symbol}
 use Rattle.tm_elf_write.specs.Elf.{IsWritable}
 use Rattle.tm_elf_write.specs.Symbols.{IsName}
@@ -15,13 +16,13 @@ use Rattle.tm_elf.specs.Read.{parts_in, symbols_in, words_from}
 use Rattle.tm_elf_head.specs.Spans.{segment, section, bytes_in}
 use Rattle.tm_elf.specs.SymbolTable.{is_name, name_len, symbol_at, symbols_from, then_symbols}
 use Rattle.tm_elf.proofs.WordLemmas.{length_words}
-use Rattle.tm_elf_head.proofs.FitLemmas.{both, at_most, below, text_fits, plan_fits, plan_lengths, symbols_fit}
+use Rattle.tm_elf_head.proofs.FitLemmas.{at_most, below, text_fits, plan_fits, plan_lengths, symbols_fit}
 
 name_holds : (name : List ℕ) → is_name name ≡ true → IsName name
 unfolding is_name
 name_holds name h =
-    let a = both _ _ h in
-    let b = both _ _ a.1 in
+    let a = and_parts _ _ h in
+    let b = and_parts _ _ a.1 in
     record { some = below _ _ a.0; short = at_most _ _ b.0; ascii = b.1 }
 
 chosen : (t : Bool) (n m : ℕ) → cond t (Some n) None ≡ Some m → (t ≡ true) × (n ≡ m)
@@ -32,7 +33,7 @@ named : (bytes : List ℕ) (n : ℕ) → name_len bytes ≡ Some n → is_name (
 unfolding name_len
 named bytes n h =
     let c = chosen _ _ n h in
-    let b = both _ _ c.0 in
+    let b = and_parts _ _ c.0 in
     ap (λ k. is_name (take k bytes)) (sym c.1) ∙ b.1
 
 mapped : {A B : Type 0} (f : A → B) (o : Option A) (b : B) → option_map f o ≡ Some b → (a : A) × (o ≡ Some a)

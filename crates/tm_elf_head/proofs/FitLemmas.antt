@@ -1,7 +1,8 @@
 -- What the tests say of the ranges that are read.
-use Rattle.std.proofs.Common.{◌≡◌, ℕ, ◌+◌, ◌-◌, ◌%◌, ◌<◌, ◌≤◌, ◌==◌, ◌&&◌, Bool, true, false, cond, nat_lt, nat_le, ◌*◌}
+use Rattle.std.proofs.Common.{◌≡◌, ℕ, ◌+◌, ◌-◌, ◌%◌, ◌<◌, ◌≤◌, ◌==◌, Bool, true, false, cond, nat_lt, nat_le, ◌*◌}
 use Rattle.std.proofs.Common.{Option, Some, None, List, length, drop, refl, arith, length-drop}
 use Rattle.std.proofs.lemmas.List.{length-take}
+use Rattle.std.proofs.lemmas.Bool.{and_parts}
 use Rattle.std.proofs.lemmas.Bool.Decides.{nat_tests}
 use Rattle.tm_elf_write.specs.declared.parts.TheConstants.{MOST_SYMBOLS}
 use Rattle.tm_base.specs.declared.limits.TheConstants.{TEXT_WORDS, TABLES_BYTES, TOPOLOGY_BYTES, TEMPLATE_BYTES}
@@ -9,10 +10,6 @@ use Rattle.tm_elf_head.specs.declared.spans.Span.{Span}
 use Rattle.tm_elf_head.specs.Numbers.{word_at}
 use Rattle.tm_elf_head.specs.PartFaults.{is_text, is_tables, bad_segment, is_plan, plan_of, has_plan, has_symbols}
 use Rattle.tm_elf_head.specs.Spans.{ends_by, segment, section, bytes_in, headers_at}
-
-pub both : (a b : Bool) → (a && b) ≡ true → (a ≡ true) × (b ≡ true)
-both true b h = (refl, h)
-both false b h = cc
 
 pub at_most : (a b : ℕ) → nat_le a b ≡ true → a ≤ b
 at_most a b h = grind (arith, nat_tests)
@@ -47,10 +44,10 @@ segments_hold false b h = cc
 text_holds : (bytes : List ℕ) → is_text bytes ≡ true → is_tables bytes ≡ true → TextFits bytes
 unfolding is_text is_tables
 text_holds bytes t u =
-    let a = both _ _ t in
-    let b = both _ _ a.1 in
-    let c = both _ _ b.1 in
-    let e = both (ends_by (headers_at bytes) (segment bytes 1)) (nat_le (segment bytes 1).len TABLES_BYTES) u in
+    let a = and_parts _ _ t in
+    let b = and_parts _ _ a.1 in
+    let c = and_parts _ _ b.1 in
+    let e = and_parts (ends_by (headers_at bytes) (segment bytes 1)) (nat_le (segment bytes 1).len TABLES_BYTES) u in
     let end : (segment bytes 0).at + (segment bytes 0).len ≤ length bytes - 512 =
     ends (headers_at bytes) (segment bytes 0) a.0 in
     record {
@@ -67,7 +64,7 @@ text_fits bytes h = let s = segments_hold (is_text bytes) (is_tables bytes) h in
 
 pub plan_fits : (bytes : List ℕ) → has_plan bytes ≡ true → is_plan (bytes_in (section bytes 4) bytes) ≡ true
 unfolding has_plan
-plan_fits bytes h = let a = both _ _ h in let b = both _ _ a.1 in b.1
+plan_fits bytes h = let a = and_parts _ _ h in let b = and_parts _ _ a.1 in b.1
 
 pub record SymbolsFit (bytes : List ℕ) : Type 0 where
   pub some : 0 < (section bytes 5).len
@@ -78,10 +75,10 @@ pub record SymbolsFit (bytes : List ℕ) : Type 0 where
 pub symbols_fit : (bytes : List ℕ) → has_symbols bytes ≡ true → SymbolsFit bytes
 unfolding has_symbols
 symbols_fit bytes h =
-    let a = both _ _ h in
-    let b = both _ _ a.1 in
-    let c = both _ _ b.1 in
-    let d = both _ _ c.1 in
+    let a = and_parts _ _ h in
+    let b = and_parts _ _ a.1 in
+    let c = and_parts _ _ b.1 in
+    let d = and_parts _ _ c.1 in
     let end : (section bytes 5).at + (section bytes 5).len ≤ length bytes - 512 =
     ends (headers_at bytes) (section bytes 5) a.0 in
     record {
@@ -98,10 +95,10 @@ pub record PlanFits (bytes : List ℕ) : Type 0 where
 pub plan_lengths : (bytes : List ℕ) → is_plan bytes ≡ true → PlanFits bytes
 unfolding is_plan plan_of
 plan_lengths bytes h =
-    let a = both _ _ h in
-    let b = both _ _ a.1 in
-    let c = both _ _ b.1 in
-    let d = both _ _ c.1 in
+    let a = and_parts _ _ h in
+    let b = and_parts _ _ a.1 in
+    let c = and_parts _ _ b.1 in
+    let d = and_parts _ _ c.1 in
     let topo : word_at bytes 16 ≤ TOPOLOGY_BYTES = at_most _ _ c.0 in
     let template : word_at bytes 20 ≤ TEMPLATE_BYTES = at_most _ _ d.0 in
     let whole : 24 + word_at bytes 16 + word_at bytes 20 ≡ length bytes = is_equal _ _ d.1 in

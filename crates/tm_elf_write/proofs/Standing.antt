@@ -2,7 +2,7 @@
 use Rattle.std.proofs.Common.{◌≡◌, ◌∙◌, ◌≤◌, ◌+◌, ◌-◌, ◌*◌, ◌/◌, ℕ, List, [], ◌∷◌, ◌++◌, length, take, drop, ap}
 use Rattle.std.proofs.Common.{subst, sym, refl, arith, length-append}
 use Rattle.std.specs.Int.{to_le_bytes, w64}
-use Rattle.std.proofs.lemmas.List.{append_assoc, length-replicate}
+use Rattle.std.proofs.lemmas.List.{append_assoc, length-replicate, nil_from_length}
 use Rattle.std.proofs.Math.Seq.{take-append_seam, drop-append_seam}
 use Rattle.tm_elf_write.specs.declared.parts.Parts.{Parts}
 use Rattle.tm_elf_write.specs.declared.places.Places.{Places}
@@ -65,35 +65,39 @@ stands {place = place} {part = part} w =
     ∙ ap (λ b. take (length part) b) (drop-append_seam w.front (part ++ w.rest))
     ∙ take-append_seam part w.rest
 
-nothing : (xs : List ℕ) → length xs ≡ 0 → xs ≡ []
-nothing [] e = refl
-nothing (x ∷ xs) e = absurd (omega (arith, e))
+-- the places of parts are in order, and not far
+next_page : (n : ℕ) → (n ≤ (n + (4096 - 1)) / 4096 * 4096) × ((n + (4096 - 1)) / 4096 * 4096 ≤ n + 4095)
+next_page n = (omega arith, omega arith)
 
--- the places are in order
-next_page : (n : ℕ) → n ≤ (n + (4096 - 1)) / 4096 * 4096
-next_page n = omega arith
+next_eight : (n : ℕ) → (n ≤ (n + (8 - 1)) / 8 * 8) × ((n + (8 - 1)) / 8 * 8 ≤ n + 7)
+next_eight n = (omega arith, omega arith)
 
-next_eight : (n : ℕ) → n ≤ (n + (8 - 1)) / 8 * 8
-next_eight n = omega arith
+pub record InOrder (text tables plan symbols strings : ℕ) (p : Places) : Type 0 where
+  pub tables_at : 4096 + text ≤ p.tables
+  pub tables_near : p.tables ≤ 4096 + text + 4095
+  pub plan_at : p.tables + tables ≤ p.plan
+  pub plan_near : p.plan ≤ p.tables + tables + 7
+  pub symbols_at : p.plan + plan ≤ p.symbols
+  pub symbols_near : p.symbols ≤ p.plan + plan + 7
+  pub strings_at : p.symbols + symbols ≡ p.strings
+  pub names_at : p.strings + strings ≡ p.names
+  pub sections_at : p.names + 55 ≤ p.sections
+  pub sections_near : p.sections ≤ p.names + 55 + 7
 
-record InOrder (text tables plan symbols strings : ℕ) (p : Places) : Type 0 where
-  tables_at : 4096 + text ≤ p.tables
-  plan_at : p.tables + tables ≤ p.plan
-  symbols_at : p.plan + plan ≤ p.symbols
-  strings_at : p.symbols + symbols ≡ p.strings
-  names_at : p.strings + strings ≡ p.names
-  sections_at : p.names + 55 ≤ p.sections
-
-in_order : (text tables plan symbols strings : ℕ)
+pub in_order : (text tables plan symbols strings : ℕ)
     → InOrder text tables plan symbols strings (places text tables plan symbols strings)
 unfolding places
 in_order text tables plan symbols strings = record {
-  tables_at = next_page _;
-  plan_at = next_eight _;
-  symbols_at = next_eight _;
+  tables_at = (next_page _).0;
+  tables_near = (next_page _).1;
+  plan_at = (next_eight _).0;
+  plan_near = (next_eight _).1;
+  symbols_at = (next_eight _).0;
+  symbols_near = (next_eight _).1;
   strings_at = refl;
   names_at = refl;
-  sections_at = next_eight _;
+  sections_at = (next_eight _).0;
+  sections_near = (next_eight _).1;
 }
 
 -- lengths of the headers and names
@@ -193,7 +197,7 @@ stand_in p = file_stands (text_bytes p.text) p.tables (plan_bytes p.plan) (symbo
     (string_bytes p.symbols)
 
 at_begin : {part bytes : List ℕ} (w : Within 0 part bytes) → bytes ≡ part ++ w.rest
-at_begin {part = part} w = w.whole ∙ ap (λ front. front ++ (part ++ w.rest)) (nothing w.front w.before)
+at_begin {part = part} w = w.whole ∙ ap (λ front. front ++ (part ++ w.rest)) (nil_from_length w.front w.before)
 
 begins : (p : Parts) → take 40 (elf_file p) ≡ first_bytes
 begins p =

@@ -1,5 +1,6 @@
 -- The file header, Elf64_Ehdr: 64 bytes at offset 0.
 use Rattle.std.specs.Prelude.{ℕ, List, [], ◌∷◌}
+use Rattle.tm_plan_map.specs.declared.addresses.TheConstants.{TEXT_ADDRESS}
 use Rattle.tm_elf_write.specs.declared.fields.Field.{Field}
 use Rattle.tm_elf_write.specs.declared.fields.Field.TheVariants.{Byte, Half, Word, Long}
 
@@ -16,7 +17,7 @@ header sections =
     ∷ Half 2  -- 16 e_type: ET_EXEC
     ∷ Half 243  -- 18 e_machine: EM_RISCV
     ∷ Word 1  -- 20 e_version: EV_CURRENT
-    ∷ Long 0x80000000  -- 24 e_entry: the text's first word
+    ∷ Long TEXT_ADDRESS  -- 24 e_entry: the text's first word
     ∷ Long 64  -- 32 e_phoff: right after this header
     ∷ Long sections  -- 40 e_shoff
     ∷ Word 0  -- 48 e_flags: no compressed words, soft float

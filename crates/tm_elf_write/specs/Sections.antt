@@ -1,9 +1,11 @@
 -- The section headers, Elf64_Shdr: eight of 64 bytes at the file's end; and the sections' names.
 use Rattle.std.specs.Prelude.{ℕ, List, [], ◌∷◌, ◌++◌, codes}
 use Rattle.std.specs.List.{flat_map}
+use Rattle.tm_plan_map.specs.declared.addresses.TheConstants.{TEXT_ADDRESS, TABLES_ADDRESS}
 use Rattle.tm_elf_write.specs.declared.fields.Field.{Field}
 use Rattle.tm_elf_write.specs.declared.fields.Field.TheVariants.{Word, Long}
 use Rattle.tm_elf_write.specs.declared.places.Places.{Places}
+use Rattle.tm_elf_write.specs.declared.places.TheConstants.{WORK_ADDRESS, WORK_LEN}
 use Rattle.tm_elf_write.specs.declared.sections.Section.{Section}
 use Rattle.tm_elf_write.specs.Fields.{bytes_of}
 
@@ -42,9 +44,9 @@ section name kind flags address offset size link info align entry =
 unfoldable pub sections : (text tables plan symbols strings : ℕ) → Places → List Section
 sections text tables plan symbols strings at =
     section 0 0 0 0 0 0 0 0 0 0
-    ∷ section 1 1 6 0x80000000 4096 text 0 0 4096 0
-    ∷ section 7 1 2 0x80800000 at.tables tables 0 0 4096 0
-    ∷ section 15 8 3 0x80C00000 0 0x300000 0 0 4096 0
+    ∷ section 1 1 6 TEXT_ADDRESS 4096 text 0 0 4096 0
+    ∷ section 7 1 2 TABLES_ADDRESS at.tables tables 0 0 4096 0
+    ∷ section 15 8 3 WORK_ADDRESS 0 WORK_LEN 0 0 4096 0
     ∷ section 21 1 0 0 at.plan plan 0 0 8 0
     ∷ section 29 2 0 0 at.symbols symbols 6 1 8 24
     ∷ section 37 3 0 0 at.strings strings 0 0 1 0

@@ -1,9 +1,11 @@
 -- The program headers, Elf64_Phdr: three of 56 bytes from offset 64.
 use Rattle.std.specs.Prelude.{ℕ, List, [], ◌∷◌}
 use Rattle.std.specs.List.{flat_map}
+use Rattle.tm_plan_map.specs.declared.addresses.TheConstants.{TEXT_ADDRESS, TABLES_ADDRESS}
 use Rattle.tm_elf_write.specs.declared.fields.Field.{Field}
 use Rattle.tm_elf_write.specs.declared.fields.Field.TheVariants.{Word, Long}
 use Rattle.tm_elf_write.specs.declared.places.Places.{Places}
+use Rattle.tm_elf_write.specs.declared.places.TheConstants.{WORK_ADDRESS, WORK_LEN}
 use Rattle.tm_elf_write.specs.declared.segments.Segment.{Segment}
 use Rattle.tm_elf_write.specs.Fields.{bytes_of}
 
@@ -35,9 +37,9 @@ segment flags offset address filesz memsz = record {
 -- (this project).
 unfoldable pub segments : (text tables : ℕ) → Places → List Segment
 segments text tables at =
-    segment 5 4096 0x80000000 text text
-    ∷ segment 4 at.tables 0x80800000 tables tables
-    ∷ segment 6 0 0x80C00000 0 0x300000
+    segment 5 4096 TEXT_ADDRESS text text
+    ∷ segment 4 at.tables TABLES_ADDRESS tables tables
+    ∷ segment 6 0 WORK_ADDRESS 0 WORK_LEN
     ∷ []
 
 -- program headers one after the other (ELF gABI)

@@ -4,7 +4,7 @@ ghost use Rattle.tm_elf_write.specs.Fields.{bytes_of};
 ghost use Rattle.tm_elf_write.specs.Header.{header};
 
 use crate::fields::{Field, put_fields};
-use crate::places::TEXT_ADDRESS;
+use tm_plan_map::TEXT_ADDRESS;
 use tm_base::{Bytes, NoMemory};
 
 /// Appends the header of a file whose section headers stand at this offset.

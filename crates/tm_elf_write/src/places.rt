@@ -3,6 +3,8 @@ ghost use Rattle.std.specs.Prelude.{◌≡◌, ◌+◌, ◌%◌, ◌^◌, ◌≤
 ghost use Rattle.tm_elf_write.specs.Fields.{next_multiple as multiple};
 ghost use Rattle.tm_elf_write.specs.Places.{places};
 
+use tm_plan_map::FLAGS_ADDRESS;
+
 /// The step of the parts that a loader maps.
 pub const PAGE: u64 = 4096;
 
@@ -12,14 +14,8 @@ pub const TEXT_AT: u64 = 4096;
 /// The length of the section names.
 pub const NAMES_LEN: u64 = 55;
 
-/// Where the text stands in memory.
-pub const TEXT_ADDRESS: u64 = 0x8000_0000;
-
-/// Where the tables stand in memory.
-pub const TABLES_ADDRESS: u64 = 0x8080_0000;
-
-/// Where the memory stands that no bytes of the file fill.
-pub const WORK_ADDRESS: u64 = 0x80C0_0000;
+/// Where the memory stands that no bytes of the file fill, from the harts' flags on.
+pub const WORK_ADDRESS: u64 = FLAGS_ADDRESS;
 
 /// The length of that memory.
 pub const WORK_LEN: u64 = 0x30_0000;

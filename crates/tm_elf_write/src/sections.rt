@@ -5,10 +5,9 @@ ghost use Rattle.tm_elf_write.specs.Sections.{section as section_row, section_fi
 ghost use Rattle.tm_elf_write.specs.Sections.{sections_bytes};
 
 use crate::fields::{Field, put_fields};
-use crate::places::{
-    NAMES_LEN, PAGE, Places, TABLES_ADDRESS, TEXT_ADDRESS, TEXT_AT, WORK_ADDRESS, WORK_LEN,
-};
+use crate::places::{NAMES_LEN, PAGE, Places, TEXT_AT, WORK_ADDRESS, WORK_LEN};
 use tm_base::{Bytes, NoMemory};
+use tm_plan_map::{TABLES_ADDRESS, TEXT_ADDRESS};
 
 /// A range of the file, described.
 #[derive(Clone, Copy, Debug, PartialEq, Eq)]

@@ -4,7 +4,8 @@ ghost use Rattle.tm_elf_write.specs.Fields.{bytes_of};
 ghost use Rattle.tm_elf_write.specs.Segments.{segment_fields, segments, segments_bytes};
 
 use crate::fields::{Field, put_fields};
-use crate::places::{PAGE, Places, TABLES_ADDRESS, TEXT_ADDRESS, TEXT_AT, WORK_ADDRESS, WORK_LEN};
+use crate::places::{PAGE, Places, TEXT_AT, WORK_ADDRESS, WORK_LEN};
+use tm_plan_map::{TABLES_ADDRESS, TEXT_ADDRESS};
 use tm_base::{Bytes, NoMemory};
 
 /// A part of memory, loaded from an offset of the file.

@@ -10,3 +10,4 @@ pub mod Starting
 pub mod Image
 pub mod Opening
 pub mod Rounding
+pub mod Budgeted

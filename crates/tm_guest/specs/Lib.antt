@@ -1,6 +1,7 @@
 pub mod Guested
 pub mod Turns
 pub mod Rounds
+pub mod Budget
 pub mod Waiting
 pub mod Laws
 pub mod Fields

@@ -1,6 +1,6 @@
 use Rattle.std.proofs.Common.{◌≡◌, ◌≤◌, ◌<◌, ℕ, ◌+◌, ◌-◌, not, eqb, List, [], ◌++◌, length, take, drop, Some, None}
 use Rattle.std.proofs.Common.{Result, Ok, Err, refl, sym, ap, ◌∙◌, arith, inl, inr, ◌⊎◌, append-nil, append_assoc}
-use Rattle.std.proofs.Common.{length-take-le, length-drop}
+use Rattle.std.proofs.Common.{length-take-le, length-drop, drop-drop}
 use Rattle.std.specs.List.{prefix_len, slice_split}
 use Rattle.std.proofs.lemmas.List.Sums.{prefix_len-le-length}
 use Rattle.std.proofs.Math.Seq.{take-length}
@@ -8,7 +8,7 @@ use Rattle.tm_base.proofs.PrintLemmas.{drop_whole}
 use Rattle.tm_lex.specs.declared.token.Token.{Token}
 use Rattle.tm_lex.specs.declared.token.LexFault.{LexFault}
 use Rattle.tm_lex.specs.Lexing.{line_fault, line_tokens, lines_reading, before, tokens_of}
-use Rattle.tm_lex.proofs.WordLemmas.{split-last, split-more, drop_more_than}
+use Rattle.tm_lex.proofs.WordLemmas.{split-last, split-more}
 
 pub before-before : (a b : List Token) (r : Result (List Token) LexFault) → before a (before b r) ≡ before (a ++ b) r
 before-before a b (Ok ts) = ap Ok (sym (append_assoc a b ts))
@@ -91,7 +91,7 @@ module _ (text : List ℕ) (number from n : ℕ) (out : List Token)
   more-there new within end fault put =
       let size : n < length (drop from text) = omega (arith, length-drop from text) in
       let rest : drop (from + n + 1) text ≡ drop (n + 1) (drop from text) =
-      (let at : from + n + 1 ≡ from + (n + 1) = omega arith in rw at (drop_more_than text from (n + 1))) in
+      (let at : from + n + 1 ≡ from + (n + 1) = omega arith in rw at (sym (drop-drop (n + 1) from text))) in
       rw (
         rw line_is at put,
         rest,

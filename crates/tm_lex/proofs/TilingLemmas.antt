@@ -3,7 +3,7 @@ use Rattle.std.proofs.Common.{length, drop, get_or, reverse, codes, refl, sym, a
 use Rattle.std.specs.List.{prefix_len, suffix_len, list_all}
 use Rattle.std.specs.Str.{bytes_eq}
 use Rattle.std.proofs.lemmas.Bool.{cases_Bool, cases_lt, true≢false}
-use Rattle.std.proofs.lemmas.List.{get_or-reverse, length-reverse}
+use Rattle.std.proofs.lemmas.List.{get_or-reverse, length-reverse, nil_from_length}
 use Rattle.std.proofs.lemmas.List.Sums.{prefix_len_passes, prefix_len_stops, prefix_len-le-length, suffix_len-le-length}
 use Rattle.std.proofs.lemmas.Slice.Eq.{bytes_eq-Decides}
 use Rattle.std.proofs.lemmas.Bool.Decides.{nat_tests}
@@ -45,10 +45,6 @@ begins_gap (b ∷ gap) x some h = apart_gap (b ∷ []) (elim (cases_Bool (is_wor
   | inr other ↦ rw other
 ])
 
-no_bytes : (gap : List ℕ) → length gap ≡ 0 → gap ≡ []
-no_bytes [] h = refl
-no_bytes (b ∷ gap) h = absurd (omega arith)
-
 -- a byte of a word by itself before what doesn't go on with it
 word_alone : (i b : ℕ) (bs : List ℕ) → is_word b ≡ true → begins_no_word bs ≡ true → (ss : List Span)
     → WordsAt ss (i + 1) bs
@@ -77,7 +73,7 @@ word_before i b bs here (s ∷ ss) h =
     elim (cases_Bool (eqb s.0 (i + 1))) [
       | inl joined ↦
           let at : s.0 ≡ i + 1 = grind (arith, nat_tests) in
-          let none = no_bytes h.0 (omega (arith, h.3.begins)) in
+          let none = nil_from_length h.0 (omega (arith, h.3.begins)) in
           rw joined (
             [],
             b ∷ h.1,

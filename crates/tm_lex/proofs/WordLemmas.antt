@@ -3,12 +3,9 @@ use Rattle.std.proofs.Common.{length, take, drop, refl, sym, ◌∙◌, arith, i
 use Rattle.std.specs.List.{prefix_len, slice_split}
 use Rattle.std.proofs.lemmas.Bool.{cases_Bool}
 use Rattle.std.proofs.lemmas.Bool.Decides.{nat_tests}
-use Rattle.std.proofs.lemmas.Grind.{common_steps}
+use Rattle.std.proofs.lemmas.List.{drop-drop}
 use Rattle.tm_base.proofs.PrintLemmas.{drop_whole}
 use Rattle.tm_lex.specs.Lexing.{is_word, words, word_byte}
-
-pub drop_more_than : (xs : List ℕ) (i n : ℕ) → drop (i + n) xs ≡ drop n (drop i xs)
-drop_more_than xs i n = grind (arith, common_steps)
 
 -- bytes that are no word's are passed over
 pub words-gap : (i g : ℕ) (bs : List ℕ) → g ≤ prefix_len (λ b. not (is_word b)) bs
@@ -130,7 +127,7 @@ next-none bs at g n gap run none =
     let whole = drop_whole bs at (length bs) refl in
     let rest = drop_whole bs (at + g) (length bs) refl in
     let gap' : g ≡ prefix_len (λ b. not (is_word b)) (drop at bs) = rw whole at gap in
-    let split : drop (at + g) bs ≡ drop g (drop at bs) = drop_more_than bs at g in
+    let split : drop (at + g) bs ≡ drop g (drop at bs) = sym (drop-drop g at bs) in
     let run' : 0 ≡ prefix_len is_word (drop g (drop at bs)) = sym none ∙ run ∙ rw (rest, split) in
     none_after at (drop at bs) (rw (← gap') (sym run'))
 
@@ -141,9 +138,9 @@ next-some bs at g n gap run some =
     let whole = drop_whole bs at (length bs) refl in
     let rest = drop_whole bs (at + g) (length bs) refl in
     let gap' : g ≡ prefix_len (λ b. not (is_word b)) (drop at bs) = rw whole at gap in
-    let split : drop (at + g) bs ≡ drop g (drop at bs) = drop_more_than bs at g in
+    let split : drop (at + g) bs ≡ drop g (drop at bs) = sym (drop-drop g at bs) in
     let run' : n ≡ prefix_len is_word (drop (at + g) bs) = rw rest at run in
-    let after : drop (at + g + n) bs ≡ drop n (drop (at + g) bs) = drop_more_than bs (at + g) n in
+    let after : drop (at + g + n) bs ≡ drop n (drop (at + g) bs) = sym (drop-drop n (at + g) bs) in
     let here : 0 < prefix_len is_word (drop (at + g) bs) = omega (arith, run', some) in
     words-gap at g (drop at bs) (omega (arith, gap')) ∙ rw (← split)
     (words-run (at + g) (drop (at + g) bs) here ∙ rw (← run', after))

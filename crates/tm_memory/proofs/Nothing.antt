@@ -20,12 +20,12 @@ use Rattle.tm_legal.proofs.Own.{own-here, own-there}
 use Rattle.tm_world.specs.Faulted.{access_by, unloaded, state_by, nothing, FaultedStep, Faulted}
 use Rattle.tm_memory.specs.Laws.{NothingIsPlain}
 
-same-access : (a : Access) → access_by nothing a ≡ a
+pub same-access : (a : Access) → access_by nothing a ≡ a
 same-access Quiet = refl
 same-access (Read addr width value) = refl
 same-access (Write addr width value) = ap (λ (v : ℕ). Write addr width v) (xor_zero_r value)
 
-same-read : (a : Access) → unloaded nothing a ≡ a
+pub same-read : (a : Access) → unloaded nothing a ≡ a
 same-read Quiet = refl
 same-read (Write addr width value) = refl
 same-read (Read addr width value) = ap (λ (v : ℕ). Read addr width v) (xor_zero_r value)

@@ -1,7 +1,7 @@
 -- A run without idle reads is all work, so it ends within the harts' bounds.
 use Rattle.std.proofs.Common.{◌≡◌, ℕ, zero, suc, ◌+◌, ◌*◌, ◌<◌, ◌≤◌, List, [], ◌∷◌, length, Bool, false, inl, inr}
 use Rattle.std.proofs.Common.{refl, sym, ap, ◌∙◌, subst, arith}
-use Rattle.std.specs.Prelude.{IsFalse, if◌then◌else◌}
+use Rattle.std.specs.Prelude.{if◌then◌else◌}
 use Rattle.std.proofs.lemmas.Bool.{cases_eq, or_from}
 use Rattle.tm_plan_cases.specs.declared.program.Program.{Program}
 use Rattle.tm_plan_cases.specs.Collected.{sum_of, work_of, budget_of}
@@ -11,17 +11,16 @@ use Rattle.tm_world.specs.Run.{Step, Always, own, hart_of}
 use Rattle.tm_world.specs.Work.{is_idle_read, idle_lately, work_steps}
 use Rattle.tm_legal.proofs.Own.{own-here, own-there}
 use Rattle.tm_legal.proofs.Order.{sum-zero}
-use Rattle.tm_pace.specs.Laws.{QuietRunsEnd}
+use Rattle.tm_pace.specs.Laws.{NoIdleRead, QuietRunsEnd}
 use Rattle.tm_pace.proofs.Sums.{sum-le, sum-grew}
 
 -- ---- one hart
 
 -- hart h makes no idle read
-abbrev Quiet : Program → ℕ → List Step → Type 0
+abbrev pub Quiet : Program → ℕ → List Step → Type 0
 Quiet p h = Always (λ past s. is_idle_read p h past s ≡ false)
 
-own-quiet : (p : Program) (h : ℕ) (steps : List Step)
-    → Always (λ past s. IsFalse (is_idle_read p (hart_of s) (own (hart_of s) past) s)) steps → Quiet p h (own h steps)
+pub own-quiet : (p : Program) (h : ℕ) (steps : List Step) → NoIdleRead p steps → Quiet p h (own h steps)
 own-quiet p h [] q = tt
 own-quiet p h (s ∷ past) q = elim (cases_eq (hart_of s) h) [
   | inl e ↦ subst (Quiet p h) (sym (own-here h s past e)) (
@@ -32,13 +31,13 @@ own-quiet p h (s ∷ past) q = elim (cases_eq (hart_of s) h) [
   | inr n ↦ subst (Quiet p h) (sym (own-there h s past n)) (own-quiet p h past q.1)
 ]
 
-lately-quiet : (p : Program) (h n : ℕ) (steps : List Step) → Quiet p h steps → idle_lately p h n steps ≡ false
+pub lately-quiet : (p : Program) (h n : ℕ) (steps : List Step) → Quiet p h steps → idle_lately p h n steps ≡ false
 lately-quiet p h zero steps q = refl
 lately-quiet p h (suc n) [] q = refl
 lately-quiet p h (suc n) (s ∷ past) q = or_from (is_idle_read p h past s) (idle_lately p h n past) q.0
     (lately-quiet p h n past q.1)
 
-all-work : (p : Program) (h : ℕ) (steps : List Step) → Quiet p h steps → work_steps p h steps ≡ length steps
+pub all-work : (p : Program) (h : ℕ) (steps : List Step) → Quiet p h steps → work_steps p h steps ≡ length steps
 all-work p h [] q = refl
 all-work p h (s ∷ past) q =
     ap (λ (t : Bool). if t then work_steps p h past else suc (work_steps p h past)) (lately-quiet p h 4 (s ∷ past) q) ∙
@@ -46,7 +45,7 @@ all-work p h (s ∷ past) q =
 
 -- ---- all harts
 
-own-lengths : (n : ℕ) (steps : List Step) → Always (λ past s. hart_of s < n) steps
+pub own-lengths : (n : ℕ) (steps : List Step) → Always (λ past s. hart_of s < n) steps
     → length steps ≡ sum_of (λ h. length (own h steps)) (count_from 0 n)
 own-lengths n [] o = sym (sum-zero (λ h. 0) (count_from 0 n) (λ h. refl))
 own-lengths n (s ∷ past) o =
@@ -56,7 +55,7 @@ own-lengths n (s ∷ past) o =
     (λ h d. ap length (own-there h s past (λ e. d (sym e)))))
 
 -- n times a number is no less than it
-times : (n x : ℕ) → 1 ≤ n → x ≤ n * x
+pub times : (n x : ℕ) → 1 ≤ n → x ≤ n * x
 times zero x l = absurd (omega arith)
 times (suc n) x l = omega arith
 

@@ -1,10 +1,10 @@
 -- Laws of how much harts work (this project's own).
-use Rattle.std.specs.Prelude.{◌^◌, ℕ, suc, ◌+◌, ◌*◌, ◌<◌, ◌≤◌, length, IsFalse}
+use Rattle.std.specs.Prelude.{◌^◌, ℕ, suc, ◌+◌, ◌*◌, ◌<◌, ◌≤◌, List, length, IsFalse}
 use Rattle.tm_plan_cases.specs.declared.program.Program.{Program}
 use Rattle.tm_plan_cases.specs.Collected.{sum_of, work_of, budget_of}
 use Rattle.tm_base.specs.Lists.{count_from}
 use Rattle.tm_world.specs.Place.{harts, passes, exit_of}
-use Rattle.tm_world.specs.Run.{Run, Always, hart_of, own, phase}
+use Rattle.tm_world.specs.Run.{Step, Run, Always, hart_of, own, phase}
 use Rattle.tm_world.specs.Course.{OnHalf, last_phase}
 use Rattle.tm_world.specs.Work.{is_idle_read, work_steps, GoesOn, Bound}
 use Rattle.tm_legal.specs.Laws.{OnLegal}
@@ -45,10 +45,14 @@ FaultedPaceHolds p = AllMeet p → (h : ℕ) → h < harts p → (pace : Pace) �
     → (change : ℕ → ℕ → ℕ → Change) → ((g q pc : ℕ) → (change g q pc).result < 2 ^ 64)
     → (r : Run) → Faulted p change r → work_steps p h (own h r.steps) ≤ work_of p.cases h
 
+-- None of these steps is an idle read, told of each step by its hart's own steps before it.
+abbrev pub NoIdleRead : Program → List Step → Type 0
+NoIdleRead p = Always (λ past s. IsFalse (is_idle_read p (hart_of s) (own (hart_of s) past) s))
+
 -- A run in which no hart reads idly, and each works within its bound, has at most as many steps as all harts may
 -- work, and so no more than the budget.
 abbrev pub QuietRunsEnd : Program → Type 0
 QuietRunsEnd p = 1 ≤ harts p → (r : Run) → Always (λ past s. hart_of s < harts p) r.steps
     → ((h : ℕ) → h < harts p → work_steps p h (own h r.steps) ≤ work_of p.cases h)
-    → Always (λ past s. IsFalse (is_idle_read p (hart_of s) (own (hart_of s) past) s)) r.steps
+    → NoIdleRead p r.steps
     → (length r.steps ≤ sum_of (work_of p.cases) (count_from 0 (harts p))) × (length r.steps ≤ budget_of p.cases)

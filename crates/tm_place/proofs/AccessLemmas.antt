@@ -12,7 +12,7 @@ use Rattle.tm_table.specs.Row.{IsWidth}
 use Rattle.tm_place.proofs.PartLemmas.{part-at, part-from}
 use Rattle.tm_place.proofs.SpotLemmas.{Sound, sound-of, stands-one, stands-next}
 
-width-some : (width : ℕ) → IsWidth width → 1 ≤ width
+pub width-some : (width : ℕ) → IsWidth width → 1 ≤ width
 width-some width (inl h) = omega arith
 width-some width (inr (inl h)) = omega arith
 width-some width (inr (inr (inl h))) = omega arith

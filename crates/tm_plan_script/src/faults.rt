@@ -1,8 +1,9 @@
 // What a script of faults says.
-ghost use Rattle.std.specs.Prelude.{◌≡◌, []};
+ghost use Rattle.std.specs.Prelude.{◌≡◌, ◌++◌, ◌∷◌, [], OnOk, OnErr};
 
 use std::alloc::Global;
 use std::marker::Model;
+use tm_base::NoMemory;
 
 /// What is done to a step of a stream. Each number is xored, so that 0 would change nothing.
 #[derive(Clone, Copy, Debug, PartialEq, Eq)]
@@ -53,6 +54,17 @@ impl Faults {
     {
         Faults {
             lines: Vec::new(alloc),
+        }
+    }
+
+    /// Puts a line behind all others, or changes nothing.
+    pub fn put(&mut self, line: FaultLine) -> Result<(), NoMemory>
+        ensures ok { OnOk result (self.new ≡ self.old ++ line ∷ []) }
+        ensures err { OnErr result (self.new ≡ self.old) }
+    {
+        match self.lines.push(line) {
+            Ok(()) => Ok(()),
+            Err(_) => Err(NoMemory),
         }
     }
 

@@ -5,3 +5,4 @@ mod Template
 mod Ruled
 pub mod Accepted
 pub mod Lengths
+pub mod Small

@@ -1,10 +1,11 @@
 -- The two texts of a sample: a test of up to 4 harts and 8 drawn cases, with all three kinds of window (this project's
 -- own).
-use Rattle.std.specs.Prelude.{◌≡◌, ℕ, ◌+◌, ◌%◌, ◌==◌, if◌then◌else◌, List, ◌++◌, codes, Ok}
+use Rattle.std.specs.Prelude.{◌≡◌, ℕ, ◌+◌, ◌≤◌, ◌%◌, ◌==◌, if◌then◌else◌, List, ◌++◌, length, codes, Ok}
 use Rattle.std.specs.List.{flat_map}
 use Rattle.std.specs.Fmt.{decimal}
 use Rattle.tm_base.specs.Lists.{count_from}
 use Rattle.tm_plan_map.specs.declared.admitted.Admitted.{Admitted}
+use Rattle.tm_plan_owned.specs.Lines.{lines_of}
 use Rattle.tm_image_inputs.specs.Inputs.{inputs}
 
 -- the line size of a sample: 32, 64 or 128 bytes, in turn
@@ -35,3 +36,16 @@ sample_template n =
 -- a topology and a template are accepted: they ask for a test, and no rule is broken
 abbrev pub AreAccepted : (topo template : List ℕ) → Type 0
 AreAccepted topo template = (a : Admitted) × (inputs topo template ≡ Ok a)
+
+-- ---- the test
+
+-- The test that a sample asks for: up to 4 harts, 4 passes, 8 cases and 12 lines.
+pub record IsSampleForm (a : Admitted) : Type 0 where
+  pub harts : a.harts ≤ 4
+  pub passes : a.passes ≤ 4
+  pub cases : length a.cases ≡ 8
+  pub lines : lines_of 0 a.windows + lines_of 1 a.windows + lines_of 2 a.windows ≡ 12
+
+-- So is each test that two texts ask for.
+abbrev pub AskForASample : (topo template : List ℕ) → Type 0
+AskForASample topo template = (a : Admitted) → inputs topo template ≡ Ok a → IsSampleForm a

@@ -1,11 +1,11 @@
 -- A printed template is read back.
-use Rattle.std.proofs.Common.{◌≡◌, ◌<◌, ℕ, ◌+◌, ◌-◌, ◌^◌, Bool, true, false, not, eqb, nat_lt, nat_le, ◌&&◌, List, []}
+use Rattle.std.proofs.Common.{◌≡◌, ◌<◌, ℕ, ◌+◌, ◌-◌, ◌^◌, Bool, true, false, eqb, nat_lt, nat_le, ◌&&◌, List, []}
 use Rattle.std.proofs.Common.{◌∷◌, ◌++◌, length, take, drop, map, All, codes, None, Ok, refl, sym, ap, subst, ◌∙◌}
 use Rattle.std.proofs.Common.{arith, append_assoc}
 use Rattle.std.specs.List.{list_all, slice_split}
 use Rattle.std.specs.Str.{bytes_eq}
 use Rattle.std.specs.Fmt.{decimal}
-use Rattle.std.proofs.lemmas.Bool.{true≢false}
+use Rattle.std.proofs.lemmas.Bool.{not-true}
 use Rattle.std.proofs.lemmas.Bool.Decides.{nat_tests}
 use Rattle.std.proofs.lemmas.Grind.{common_steps}
 use Rattle.std.proofs.lemmas.List.Splits.{slice_split_at}
@@ -153,10 +153,6 @@ keyword w h = record {
   bytes = grind (arith, nat_tests);
 }
 
-not_true : (b : Bool) → not b ≡ true → b ≡ false
-not_true true h = absurd (true≢false (sym h))
-not_true false h = refl
-
 kind_plain : (k : Kind) → IsPlain (kind_word k)
 unfolding is_word
 kind_plain True = keyword (codes "true") refl
@@ -296,4 +292,4 @@ printed-read (s ∷ ss) good text pre n from same place =
     )
     (one_statement text n from _ s ss good.0 line more) where
       apart : (bs : List ℕ) → list_all may_stand bs ≡ true → All (λ x. eqb x 10 ≡ false) bs
-      apart bs h k d below = not_true _ (no-line-end bs h k d below)
+      apart bs h k d below = not-true _ (no-line-end bs h k d below)

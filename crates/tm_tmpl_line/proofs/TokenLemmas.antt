@@ -3,7 +3,7 @@ use Rattle.std.proofs.Common.{◌≡◌, ◌<◌, ℕ, ◌^◌, Bool, true, fals
 use Rattle.std.proofs.Common.{Some, Result, Ok, Err, refl, sym, ap, subst, arith, inl, inr, ◌&&◌, ◌⊎◌}
 use Rattle.std.specs.Str.{bytes_eq}
 use Rattle.std.specs.Fmt.{decimal}
-use Rattle.std.proofs.lemmas.Bool.{cases_Bool, true≢false}
+use Rattle.std.proofs.lemmas.Bool.{and_parts, cases_Bool, true≢false}
 use Rattle.std.proofs.lemmas.Bool.Decides.{nat_tests}
 use Rattle.std.proofs.lemmas.Option.{same_Some}
 use Rattle.std.proofs.lemmas.Slice.Eq.{bytes_eq-Decides}
@@ -46,10 +46,6 @@ if_not : {A : Type 0} (b : Bool) (o : Option A) (a : A) → cond (not b) None o 
 if_not true o a h = (refl, h)
 if_not false o a h = absurd (cc)
 
-both : (a b : Bool) → (a && b) ≡ true → (a ≡ true) × (b ≡ true)
-both true b h = (refl, h)
-both false b h = absurd (true≢false (sym h))
-
 word_is : (k : TokenKind) → is_word k ≡ true → k ≡ Word
 word_is Word h = refl
 word_is Raw h = absurd (true≢false (sym h))
@@ -79,7 +75,7 @@ pub name-reads : Reads (List ℕ) want.Name name a_name
 name-reads = record {
   fits = λ x n h.
       let found = if_some (is_word x.0.kind && is_name x.1) (Some x.1) n h in
-      let tests = both (is_word x.0.kind) (is_name x.1) found.0 in
+      let tests = and_parts (is_word x.0.kind) (is_name x.1) found.0 in
       let same : x.1 ≡ n = same_Some _ _ found.1 in
       (word_is x.0.kind tests.0, same, subst (λ v. is_name v ≡ true) same tests.1);
   reads = λ x n h. rw (h.0, h.1, h.2);
@@ -190,7 +186,7 @@ pub keyword-reads : (w : List ℕ) → Reads (Unit {0}) want.Class (keyword w) (
 keyword-reads w = record {
   fits = λ x u h.
       let found = if_some (is_word x.0.kind && bytes_eq x.1 w) (Some tt) u h in
-      let tests = both (is_word x.0.kind) (bytes_eq x.1 w) found.0 in
+      let tests = and_parts (is_word x.0.kind) (bytes_eq x.1 w) found.0 in
       (word_is x.0.kind tests.0, (bytes_eq-Decides x.1 w).0 tests.1);
   reads = λ x u h. rw (h.0, h.1, (bytes_eq-Decides w w).1 refl);
   wants = λ u. refl;

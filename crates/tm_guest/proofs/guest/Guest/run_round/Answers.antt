@@ -1,6 +1,8 @@
 use Rattle.std.proofs.Common.{refl}
 use Rattle.tm_guest.specs.Rounds.{Begins}
+use Rattle.tm_guest.specs.declared.turn.RoundEnd.TheVariants as ends
 use Rattle.tm_guest.proofs.Rounding.{goes-then, same-still, same-then}
+use Rattle.tm_guest.proofs.Budgeted.{in-budget}
 use Rattle.tm_guest.proofs.guest.Guest.run_round.Goals as goal
 
 pub loop-self-init : goal.loop-self-init
@@ -15,6 +17,12 @@ returns-then-not-round-clause-order c =
     let known = c.loop-self.invariant in
     let (h, turns) = (c.if-not-round.ensures.part refl).0 in
     (h, goes-then c.args.self.now c.loop-self.self known.same.program known.goes h c.round.new.self turns)
+
+pub returns-then-not-round-clause-bounded : goal.returns-then-not-round-clause-bounded
+returns-then-not-round-clause-bounded c = λ budget.
+    let (h, turns) = returns-then-not-round-clause-order c in
+    in-budget c.args.self.now c.round.new.self h ends.Full budget c.journal.ensures.faulted turns
+    (c.if-not-round.ensures.part refl).1
 
 pub loop-self-preserved : goal.loop-self-preserved
 loop-self-preserved c =

@@ -1,0 +1,157 @@
+-- What is read of tokens, one behind the other.
+use Rattle.std.proofs.Common.{◌≡◌, ◌≢◌, ◌∙◌, ◌<◌, ◌≤◌, ◌+◌, ◌^◌, ◌*◌, ◌&&◌, ◌||◌, not, ℕ, Bool, cond, true, false, zero, suc, refl, sym, ap, ap₂, subst, arith, List, [], ◌∷◌, ◌++◌, length, Option, Some, None, Result, Ok, Err, true≢false, nat_lt, nat_le, inl, inr, ◌⊎◌, All, append_assoc}
+use Rattle.std.specs.Borrow.{Bor}
+use Rattle.std.proofs.lemmas.Bool.Decides.{nat_tests}
+use Rattle.tm_lex.specs.declared.token.Token.{Token}
+use Rattle.tm_fault.specs.declared.fault.FaultScriptFault.{FaultScriptFault}
+use Rattle.tm_fault.specs.declared.fault.FaultScriptFault.TheVariants.{Expected}
+use Rattle.tm_fault.specs.declared.fault.Want2.{Want2}
+use Rattle.tm_plan_script.specs.declared.faults.Action.{Action}
+use Rattle.tm_lex.specs.Lines.{Lexeme, lexemes, ◌>>=◌, fitting, IsSpan}
+use Rattle.tm_fault.specs.Script.{Reading, one, Reads, ReadsIn, Passes, IsLeft, IsLeftIn, xor, numbered, with_number}
+use Rattle.tm_fault.specs.Spelled.{Piece, AreFit}
+
+-- ---- truth values
+
+pub both : (a b : Bool) → (a && b) ≡ true → (a ≡ true) × (b ≡ true)
+both true b e = (refl, e)
+both false b e = absurd (true≢false (sym e))
+
+pub false_or_true : (b : Bool) → (b ≡ true) ⊎ (b ≡ false)
+false_or_true true = inl refl
+false_or_true false = inr refl
+
+-- ---- results
+
+abbrev is_read : {A E : Type 0} → Result A E → Bool
+is_read (Ok a) = true
+is_read (Err e) = false
+
+pub err≢ok : {A E : Type 0} (e : E) (a : A) → ◌≡◌ {A = Result A E} (Err e) (Ok a) → ⊥
+err≢ok e a same = true≢false (sym (ap is_read same))
+
+abbrev got_or : {A E : Type 0} → A → Result A E → A
+got_or a (Ok b) = b
+got_or a (Err e) = a
+
+pub ok-same : {A E : Type 0} (a b : A) → ◌≡◌ {A = Result A E} (Ok a) (Ok b) → a ≡ b
+ok-same a b same = ap (got_or a) same
+
+abbrev fault_or : {A E : Type 0} → E → Result A E → E
+fault_or e (Ok b) = e
+fault_or e (Err d) = d
+
+pub err-same : {A E : Type 0} (d e : E) → ◌≡◌ {A = Result A E} (Err d) (Err e) → d ≡ e
+err-same d e same = ap (fault_or d) same
+
+abbrev some_or : {A : Type 0} → A → Option A → A
+some_or a (Some b) = b
+some_or a None = a
+
+pub some-same : {A : Type 0} (a b : A) → Some a ≡ Some b → a ≡ b
+some-same a b same = ap (some_or a) same
+
+abbrev is_there : {A : Type 0} → Option A → Bool
+is_there (Some a) = true
+is_there None = false
+
+pub none≢some : {A : Type 0} (a : A) → None ≡ Some a → ⊥
+none≢some a same = true≢false (sym (ap is_there same))
+
+-- ---- one behind the other
+
+-- what two readers read, one behind the other
+pub record Bound {A B : Type 0} (r : Reading A) (f : A → List Lexeme → Reading B) (b : B) (rest : List Lexeme) : Type 0 where
+  pub a : A
+  pub mid : List Lexeme
+  pub first : r ≡ Ok (a, mid)
+  pub second : f a mid ≡ Ok (b, rest)
+
+pub bound : {A B : Type 0} (r : Reading A) (f : A → List Lexeme → Reading B) (b : B) (rest : List Lexeme) → r >>= f ≡ Ok (b, rest) → Bound r f b rest
+bound (Ok p) f b rest e = record { a = p.0; mid = p.1; first = refl; second = e }
+bound (Err x) f b rest e = absurd (err≢ok x (b, rest) e)
+
+-- what one token was read as
+pub record One {A : Type 0} (read : Lexeme → Option A) (xs : List Lexeme) (a : A) (rest : List Lexeme) : Type 0 where
+  pub x : Lexeme
+  pub whole : xs ≡ x ∷ rest
+  pub is : read x ≡ Some a
+
+pub one_read : {A : Type 0} (w : Want2) (read : Lexeme → Option A) (xs : List Lexeme) (a : A) (rest : List Lexeme) → one w read xs ≡ Ok (a, rest) → One read xs a rest
+one_read w read [] a rest e = absurd (err≢ok _ (a, rest) e)
+one_read w read (x ∷ xs) a rest e = go (read x) refl e
+  where
+    go : (o : Option _) → read x ≡ o → fitting (Expected x.0.at w) xs o ≡ Ok (a, rest) → One read (x ∷ xs) a rest
+    go None is e = absurd (err≢ok _ (a, rest) e)
+    go (Some b) is e =
+        let same = ok-same (b, xs) (a, rest) e in
+        record { x = x; whole = ap (λ p. x ∷ p.1) same; is = is ∙ ap (λ p. Some p.0) same }
+
+-- ---- pieces
+
+-- tokens that stand for pieces, before others
+pub record Got (qs : List Piece) (xs rest : List Lexeme) : Type 0 where
+  pub front : List Lexeme
+  pub whole : xs ≡ front ++ rest
+  pub fit : AreFit qs front
+
+pub fit_both : (qs ps : List Piece) (xs ys : List Lexeme) → AreFit qs xs → AreFit ps ys → AreFit (qs ++ ps) (xs ++ ys)
+fit_both [] ps [] ys f g = g
+fit_both [] ps (x ∷ xs) ys f g = absurd f
+fit_both (q ∷ qs) ps [] ys f g = absurd f
+fit_both (q ∷ qs) ps (x ∷ xs) ys f g = (f.0, fit_both qs ps xs ys f.1 g)
+
+pub got_both : (qs ps : List Piece) (xs mid rest : List Lexeme) → Got qs xs mid → Got ps mid rest → Got (qs ++ ps) xs rest
+got_both qs ps xs mid rest g h = record {
+  front = g.front ++ h.front;
+  whole = g.whole ∙ ap (λ t. g.front ++ t) h.whole ∙ sym (append_assoc g.front h.front rest);
+  fit = fit_both qs ps g.front h.front g.fit h.fit;
+}
+
+-- tokens that stand for pieces in two parts
+pub record Parted (qs ps : List Piece) (xs : List Lexeme) : Type 0 where
+  pub front : List Lexeme
+  pub back : List Lexeme
+  pub whole : xs ≡ front ++ back
+  pub first : AreFit qs front
+  pub second : AreFit ps back
+
+pub fit_parts : (qs ps : List Piece) (xs : List Lexeme) → AreFit (qs ++ ps) xs → Parted qs ps xs
+fit_parts [] ps xs f = record { front = []; back = xs; whole = refl; first = tt; second = f }
+fit_parts (q ∷ qs) ps [] f = absurd f
+fit_parts (q ∷ qs) ps (x ∷ xs) f =
+    let rest = fit_parts qs ps xs f.1 in
+    record { front = x ∷ rest.front; back = rest.back; whole = ap (λ t. x ∷ t) rest.whole; first = (f.0, rest.first); second = rest.second }
+
+-- ---- the code's steps
+
+pub reads_on : {A : Type 0} (text : List ℕ) (f : List Lexeme → Reading A) (g : List Lexeme → Reading A) (tokens rest : List Token)
+    (r : Result (A × Bor (List Token)) FaultScriptFault) → f (lexemes text tokens) ≡ g (lexemes text rest) → length rest ≤ length tokens → Reads text g rest r → Reads text f tokens r
+reads_on text f g tokens rest (Ok r) same less h = (same ∙ h.0, (h.1.0, omega (arith, less, h.1.1)))
+reads_on text f g tokens rest (Err e) same less h = same ∙ h
+
+pub reads_in_on : {A : Type 0} (text : List ℕ) (f : List Lexeme → Reading A) (g : List Lexeme → Reading A) (tokens rest : List Token)
+    (r : Result (A × Bor (List Token)) FaultScriptFault) → f (lexemes text tokens) ≡ g (lexemes text rest) → length rest < length tokens → ReadsIn text g rest r → Reads text f tokens r
+reads_in_on text f g tokens rest (Ok r) same less h = (same ∙ h.0, (h.1.0, omega (arith, less, h.1.1)))
+reads_in_on text f g tokens rest (Err e) same less h = same ∙ h
+
+-- a word that was passed, and what was read behind it
+pub passes_on : {A : Type 0} (text : List ℕ) (f : List Lexeme → Reading (Unit {0})) (g : List Lexeme → Reading A) (tokens : List Token) (rest : Bor (List Token))
+    (r : Result (A × Bor (List Token)) FaultScriptFault) → Passes text f tokens (Ok rest) → Reads text g rest.now r → Reads text (λ xs. f xs >>= (λ _ mid. g mid)) tokens r
+passes_on text f g tokens rest (Ok r) p h = (ap (λ x. x >>= (λ _ mid. g mid)) p.0 ∙ h.0, (h.1.0, omega (arith, p.1.1, h.1.1)))
+passes_on text f g tokens rest (Err e) p h = ap (λ x. x >>= (λ _ mid. g mid)) p.0 ∙ h
+
+-- what was read, and what was read behind it
+pub reads_then : {A B : Type 0} (text : List ℕ) (f : List Lexeme → Reading A) (g : A → List Lexeme → Reading B) (tokens : List Token) (p : A × Bor (List Token))
+    (r : Result (B × Bor (List Token)) FaultScriptFault) → Reads text f tokens (Ok p) → Reads text (g p.0) p.1.now r → Reads text (λ xs. f xs >>= g) tokens r
+reads_then text f g tokens p (Ok r) h k = (ap (λ x. x >>= g) h.0 ∙ k.0, (k.1.0, omega (arith, h.1.1, k.1.1)))
+reads_then text f g tokens p (Err e) h k = ap (λ x. x >>= g) h.0 ∙ k
+
+-- a number that was read
+pub reads_numbered : (text : List ℕ) (f : ℕ → Action) (width : ℕ) (tokens : List Token) (p : ℕ × Bor (List Token)) → Reads text (xor (2 ^ (8 * width))) tokens (Ok p)
+    → Reads text (numbered f width) tokens (Ok (f p.0, p.1))
+reads_numbered text f width tokens p h = (ap (with_number f) h.0, h.1)
+
+pub reads_in : {A : Type 0} (text : List ℕ) (f : List Lexeme → Reading A) (tokens : List Token) (r : Result (A × Bor (List Token)) FaultScriptFault) → Reads text f tokens r → ReadsIn text f tokens r
+reads_in text f tokens (Ok r) h = (h.0, (h.1.0, omega (arith, h.1.1)))
+reads_in text f tokens (Err e) h = h
