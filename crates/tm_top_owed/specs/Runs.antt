@@ -3,6 +3,7 @@ use Rattle.std.specs.Prelude.{◌≡◌, ◌⊎◌, ℕ, ◌≤◌, ◌==◌, Bo
 use Rattle.std.specs.List.{count_by}
 use Rattle.tm_base.specs.Lists.{count_from}
 use Rattle.tm_plan_cases.specs.declared.program.Program.{Program}
+use Rattle.tm_plan_cases.specs.Collected.{budget_of}
 use Rattle.tm_plan_cases.specs.declared.event.Event.{Event}
 use Rattle.tm_plan_journal.specs.Journaled.{Journaled}
 use Rattle.tm_world.specs.Place.{harts, halt_of}
@@ -40,11 +41,13 @@ abbrev pub InOrder : (threads : Bool) → Program → (limit : ℕ) → List Eve
 InOrder true p limit events = Unit {0}
 InOrder false p limit events = IsRoundOrder p limit events
 
--- A simulation of a program has ended under no script: all harts are at halt, or the journal is full.
+-- A simulation of a program has ended under no script: all harts are at halt, or the journal is full; and all are at
+-- halt where the limit is at least the program's budget.
 pub record IsOver (p : Program) (g : Guested) : Type 0 where
   pub its_program : g.program ≡ p
   pub no_script : g.faults ≡ []
   pub ended : AllHalted g ⊎ (length g.journal ≡ g.limit)
+  pub ends : budget_of p.cases ≤ g.limit → AllHalted g
 
 -- how many harts are at their halt marks
 unfoldable pub halted_of : Guested → ℕ

@@ -27,6 +27,7 @@ run_of_order r tells held program seed events text status journal its told order
     in_order = order;
     told = told.its.told;
     silent = told.its.silent;
+    ends = told.its.ends;
   };
   read = its.read;
   accepted = λ tells_them. run_accepted r held (its.accepted tells_them);

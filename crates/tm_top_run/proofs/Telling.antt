@@ -1,19 +1,37 @@
 -- How simulations that have ended are told.
-use Rattle.std.proofs.Common.{◌≡◌, ℕ, ◌+◌, ◌*◌, ◌<◌, List, [], length, inl, inr, sym, ap, ap₂, subst, ◌∙◌, arith}
+use Rattle.std.proofs.Common.{◌≡◌, ℕ, ◌+◌, ◌*◌, ◌<◌, ◌≤◌, List, [], length, inl, inr, sym, ap, ap₂, subst, ◌∙◌, arith}
 use Rattle.std.specs.Prelude.{slice_index}
 use Rattle.tm_plan_cases.specs.declared.program.Program.{Program}
+use Rattle.tm_plan_cases.specs.Collected.{budget_of}
 use Rattle.tm_plan_cases.specs.declared.event.Event.{Event}
 use Rattle.tm_world.specs.Place.{harts}
 use Rattle.tm_world.specs.Sound.{Sound}
-use Rattle.tm_guest.specs.Guested.{Guested}
-use Rattle.tm_guest.specs.Rounds.{AllHalted}
+use Rattle.tm_plan_script.specs.declared.faults.FaultLine.{FaultLine}
+use Rattle.tm_guest.specs.declared.turn.RoundEnd.{RoundEnd}
+use Rattle.tm_guest.specs.declared.turn.RoundEnd.TheVariants as ends
+use Rattle.tm_guest.specs.Guested.{Guested, fresh}
+use Rattle.tm_guest.specs.Rounds.{AllHalted, IsSame, EndsAs}
+use Rattle.tm_guest.specs.Budget.{HasBudget}
+use Rattle.tm_harts.specs.Mills.{Milled, guest_after}
+use Rattle.tm_harts.specs.Idle.{NoIdle}
 use Rattle.tm_report_run.specs.Verdicts.{verdict_in, verdicts_of}
 use Rattle.tm_report_run.specs.Report.{AreVerdicts, report, full_line}
 use Rattle.tm_top_owed.specs.Runs.{verdicts_in, halted_of, IsOver, IsSimulated, IsTold, AllAgree}
 use Rattle.tm_top_owed.specs.Runs.IsTold.{agreed, full}
-use Rattle.tm_top_owed.proofs.Simulations.{as_guest, full_of}
+use Rattle.tm_top_owed.proofs.Simulations.{as_guest, full_of, over_from}
 use Rattle.tm_top_run.specs.Steps.{IsToldOf, IsToldSilent, IsStatusOf}
 use Rattle.tm_top_run.proofs.Silent.{silent-verdict, no-report}
+
+-- turns that have ended, from a guest on that a mill gave back
+pub over_driven : (p : Program) (lines : List FaultLine) (limit : ℕ) (m : Milled) (start g t : Guested)
+    (end : RoundEnd) → Sound p → start ≡ fresh p lines limit → lines ≡ [] → guest_after m [] ≡ start
+    → g ≡ guest_after m g.journal → NoIdle g → IsSame g t → EndsAs end t → (HasBudget g → end ≡ ends.Done)
+    → IsOver p t
+over_driven p lines limit m start g t end sound is none begun given quiet same ended bounded =
+    let from = begun ∙ is in
+    over_from p g t end sound
+    (ap (λ (x : Guested). x.program) given ∙ ap (λ (x : Guested). x.program) from)
+    (ap (λ (x : Guested). x.faults) given ∙ (ap (λ (x : Guested). x.faults) from ∙ none)) quiet same ended bounded
 
 -- each verdict is one of its hart
 pub are-verdicts : (p : Program) (g : Guested) (v : List ℕ) (events : List Event) → Sound p
@@ -39,6 +57,7 @@ told-reported p g v text status count events sound over made halted same is coun
     record {
       told = subst (IsTold g text) (sym zero_is) (agreed halted (subst AllAgree its agree) whole);
       silent = λ one_is. let e : 0 ≡ 1 = sym zero_is ∙ one_is in absurd (omega (arith, e));
+      ends = λ room four_is. let e : 0 ≡ 4 = sym zero_is ∙ four_is in absurd (omega (arith, e));
     }
   where
     by : IsStatusOf v status → AllAgree v → status ≡ 0
@@ -51,6 +70,8 @@ pub told-cut : (p : Program) (g : Guested) (text : List ℕ) → IsOver p g → 
 told-cut p g text over running is = record {
   told = full (full_of p g over running) is;
   silent = λ e. absurd (omega (arith, e));
+  ends = λ room is_4. running (over.ends
+      (subst (λ (q : Program). budget_of q.cases ≤ g.limit) over.its_program room));
 }
 
 -- what is kept of it

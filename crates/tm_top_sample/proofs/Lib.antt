@@ -1,3 +1,4 @@
 mod Sums
 mod Building
+mod Small
 mod Running

@@ -1,19 +1,16 @@
 -- How the simulation of a sample is told.
-use Rattle.std.proofs.Common.{◌≡◌, ◌∙◌, ℕ, List, length, refl, sym, ap₂, subst, Some}
+use Rattle.std.proofs.Common.{◌≡◌, ◌∙◌, ℕ, List, refl, sym, ap₂, subst, Some}
 use Rattle.tm_base.specs.declared.limits.TheConstants.{DEFAULT_EVENTS}
 use Rattle.tm_plan_cases.specs.declared.program.Program.{Program}
 use Rattle.tm_plan_cases.specs.declared.event.Event.{Event}
-use Rattle.tm_world.specs.Place.{harts}
 use Rattle.tm_guest.specs.Guested.{Guested}
 use Rattle.tm_guest.specs.Rounds.{AllHalted}
-use Rattle.tm_report_run.specs.Report.{full_line}
 use Rattle.tm_report_run.specs.Verdicts.{verdicts_of}
-use Rattle.tm_top_owed.specs.Runs.{guest_of, halted_of, IsOver, IsSimulated, IsRoundOrder}
-use Rattle.tm_top_owed.specs.Owed.IsSummed.{summed, cut}
+use Rattle.tm_top_owed.specs.Runs.{guest_of, IsOver, IsSimulated, IsRoundOrder}
 use Rattle.tm_top_owed.specs.Owed.{IsBuiltOf, IsSampleOf, IsSummed}
 use Rattle.tm_sample.specs.Texts.{sample_topology, sample_template}
 use Rattle.tm_top_owed.specs.Sample.{summary}
-use Rattle.tm_top_owed.proofs.Simulations.{as_guest, full_of}
+use Rattle.tm_top_owed.proofs.Simulations.{as_guest}
 use Rattle.tm_top_sample.specs.Steps.{IsSummary}
 
 -- ---- the end of the simulation
@@ -22,13 +19,12 @@ use Rattle.tm_top_sample.specs.Steps.{IsSummary}
 pub summed_whole : (n : ℕ) (p : Program) (g : Guested) (events : List Event) (text : List ℕ) → IsOver p g
     → AllHalted g → events ≡ g.journal → text ≡ summary n p.cases (verdicts_of p.cases events) → IsSummed n g text 0
 summed_whole n p g events text over halted is said =
-    summed halted (said ∙ ap₂ (λ (q : Program) (es : List Event). summary n q.cases (verdicts_of q.cases es))
-    (sym over.its_program) is)
-
--- some hart isn't
-pub summed_cut : (n : ℕ) (p : Program) (g : Guested) (text : List ℕ) → IsOver p g → (AllHalted g → ⊥)
-    → text ≡ full_line (length g.journal) (halted_of g) (harts g.program) → IsSummed n g text 4
-summed_cut n p g text over running said = cut (full_of p g over running) said
+    record {
+      halted = halted;
+      its_text = said ∙ ap₂ (λ (q : Program) (es : List Event). summary n q.cases (verdicts_of q.cases es))
+          (sym over.its_program) is;
+      is_status = refl;
+    }
 
 -- ---- what is kept of it
 

@@ -12,8 +12,7 @@ use std::alloc::Global;
 use tm_desk::Sink;
 use tm_top_owed::{Outcome, Stop, print_simulated};
 
-/// Builds the sample of a number, simulates it and prints its line. The status is 0 where all harts come to halt, and
-/// 4 where the journal is full before.
+/// Builds the sample of a number, simulates it and prints its line. All harts come to halt, and the status is 0.
 ///
 /// It stops where the sink fails, or for want of memory: no sample is refused. It reads and writes no file, so that
 /// what it owes holds of each desk that stays as it is.
