@@ -107,8 +107,8 @@ pub record IsListingOf (image : List ℕ) (tells : Bool) (held : Files) (text : 
 -- ---- a run
 
 -- The file is an image, and what it ends as is how a simulation of it is told: one of at most the events that the run
--- asks for, in round order where it asks for that. Under no script no case is reported; and all harts come to halt where
--- as many events are allowed as the program's budget.
+-- asks for, in round order where it asks for that. Under no script no case is reported; and where as many events are
+-- allowed as the program's budget, all harts come to halt.
 pub record IsRunIn (r : Run) (file : List ℕ) (e : Ending) : Type 0 where
   pub program : Program
   pub seed : ℕ
