@@ -2,6 +2,7 @@
 -- project's own).
 use Rattle.std.specs.Prelude.{◌≡◌, ◌≢◌, ◌⊎◌, ℕ, Bool, true, false, IsTrue, IsFalse, List, [], length, Option, None}
 use Rattle.std.specs.Prelude.{Some, Ok}
+use Rattle.tm_base.specs.declared.limits.TheConstants.{DEFAULT_EVENTS}
 use Rattle.tm_desk.specs.Causes.{Files}
 use Rattle.tm_desk.specs.declared.desk.DeskError.TheVariants.{Failed, TooLong, NoMemory}
 use Rattle.tm_plan_map.specs.declared.admitted.Admitted.{Admitted}
@@ -20,7 +21,7 @@ use Rattle.tm_report.specs.Listing.{listing}
 use Rattle.tm_top_line.specs.declared.fault.AnyFault.{AnyFault}
 use Rattle.tm_top_line.specs.declared.fault.AnyFault.TheVariants.{Input, Image, Desk}
 use Rattle.tm_top_line.specs.Lines.{fault_text, wants_memory}
-use Rattle.tm_words.specs.Words.{Build, Run, Command, default_events}
+use Rattle.tm_words.specs.Words.{Build, Run, Command}
 use Rattle.tm_words.specs.Words.Command.{to_build, to_list, to_run, to_sample}
 use Rattle.tm_top_owed.specs.Texts.{usage, built_line}
 use Rattle.tm_top_owed.specs.Inputs.{first_fault, fault_before}
@@ -141,9 +142,9 @@ pub record IsSampleOf (number : ℕ) (e : Ending) : Type 0 where
   pub its : IsBuiltOf (sample_topology number) (sample_template number) number program file
   pub events : List Event
   pub its_journal : e.journal ≡ Some events
-  pub simulated : IsSimulated program default_events events
-  pub in_order : IsRoundOrder program default_events events
-  pub told : IsSummed number (guest_of program default_events events) e.text e.status
+  pub simulated : IsSimulated program DEFAULT_EVENTS events
+  pub in_order : IsRoundOrder program DEFAULT_EVENTS events
+  pub told : IsSummed number (guest_of program DEFAULT_EVENTS events) e.text e.status
 
 -- ---- each command
 

@@ -1,5 +1,5 @@
 -- What is owed of a simulation and of its end (this project's own).
-use Rattle.std.specs.Prelude.{◌≡◌, ℕ, ◌≤◌, ◌==◌, Bool, true, false, List, [], length, All, Option, None, Some}
+use Rattle.std.specs.Prelude.{◌≡◌, ◌⊎◌, ℕ, ◌≤◌, ◌==◌, Bool, true, false, List, [], length, All, Option, None, Some}
 use Rattle.std.specs.List.{count_by}
 use Rattle.tm_base.specs.Lists.{count_from}
 use Rattle.tm_plan_cases.specs.declared.program.Program.{Program}
@@ -39,6 +39,12 @@ IsRoundOrder p limit events = (h : ℕ) × Goes (fresh p [] limit) h (guest_of p
 abbrev pub InOrder : (threads : Bool) → Program → (limit : ℕ) → List Event → Type 0
 InOrder true p limit events = Unit {0}
 InOrder false p limit events = IsRoundOrder p limit events
+
+-- A simulation of a program has ended under no script: all harts are at halt, or the journal is full.
+pub record IsOver (p : Program) (g : Guested) : Type 0 where
+  pub its_program : g.program ≡ p
+  pub no_script : g.faults ≡ []
+  pub ended : AllHalted g ⊎ (length g.journal ≡ g.limit)
 
 -- how many harts are at their halt marks
 unfoldable pub halted_of : Guested → ℕ
