@@ -1,6 +1,7 @@
 -- A built file is read as the parts that it was written of, and so built again.
 use Rattle.std.proofs.Common.{◌≡◌, ◌≤◌, ◌<◌, ℕ, ◌^◌, List, length, Option, Some, None, Result, Ok, Err, refl, ap, ◌∙◌}
 use Rattle.std.proofs.Common.{subst}
+use Rattle.tm_base.specs.declared.limits.TheConstants.{TOPOLOGY_BYTES, TEMPLATE_BYTES}
 use Rattle.tm_topo.specs.declared.system.Topology.{Topology}
 use Rattle.tm_topo.specs.declared.system.TopoFault.{TopoFault}
 use Rattle.tm_topo.specs.Reading.{topology_of, document}
@@ -76,8 +77,8 @@ unfolding built image_file
 built_again topo template seed a read = rw read refl
 
 reopened : (topo template : List ℕ) (seed : ℕ) (r : Result Admitted InputFault) (file : List ℕ) → inputs topo template
-    ≡ r → seed < 2 ^ 64 → length topo ≤ 65536
-    → length template ≤ 1048576 → built_of topo template seed r ≡ Ok file → opened file ≡ Ok file
+    ≡ r → seed < 2 ^ 64 → length topo ≤ TOPOLOGY_BYTES
+    → length template ≤ TEMPLATE_BYTES → built_of topo template seed r ≡ Ok file → opened file ≡ Ok file
 unfolding image_file parts_of
 reopened topo template seed (Err f) file read small short few h = absurd (cc)
 reopened topo template seed (Ok a) file read small short few h =

@@ -8,6 +8,7 @@ ghost use Rattle.tm_image_build.specs.Opened.{compared, opened, rebuilt};
 ghost use Rattle.tm_refusals.specs.Named.{IsNamedFault};
 
 use std::alloc::Global;
+use tm_base::{TEMPLATE_BYTES, TOPOLOGY_BYTES};
 use tm_elf::read_elf;
 use tm_elf_head::first_difference;
 use tm_elf_write::Parts;
@@ -40,8 +41,8 @@ pub fn open_image(alloc: Global, bytes: &[u8]) -> Result<Image, ImageFault>
 // The image of parts' plan, if its file is these bytes.
 #[tactic(auto, unfolding(tm_image_build::specs::Opened::rebuilt), using(tm_elf_head::proofs::DifferenceLemmas::same_lists))]
 fn rebuild(alloc: Global, parts: &Parts, bytes: &[u8]) -> Result<Image, ImageFault>
-    requires topo { length parts.now.plan.topo ≤ 65536 }
-    requires template { length parts.now.plan.template ≤ 1048576 }
+    requires topo { length parts.now.plan.topo ≤ TOPOLOGY_BYTES }
+    requires template { length parts.now.plan.template ≤ TEMPLATE_BYTES }
     ensures ok { IfOk result (λ image. compared bytes.now (rebuilt parts.now) ≡ Ok image.file) }
     ensures file { IfOk result (λ image. image.file ≡ bytes.now) }
     ensures plan { IfOk result (λ image. rebuilt parts.now ≡ Ok bytes.now) }

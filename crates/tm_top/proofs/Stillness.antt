@@ -4,9 +4,10 @@ use Rattle.std.proofs.Common.{refl, subst, lit≤}
 use Rattle.std.specs.Prelude.{if◌then◌else◌, nat_le, ◌&&◌, option_map, codes}
 use Rattle.std.specs.Str.{bytes_eq}
 use Rattle.std.proofs.lemmas.Bool.{leb-true, and_parts}
+use Rattle.tm_base.specs.declared.limits.TheConstants.{MOST_EVENTS}
 use Rattle.tm_base.specs.Numbers.{number_of}
 use Rattle.tm_base.specs.declared.numbers.NumberFault.{NumberFault}
-use Rattle.tm_words.specs.Words.{Run, Command, RunOption, most_events, events_of, order_of, option_of, run_with_one}
+use Rattle.tm_words.specs.Words.{Run, Command, RunOption, events_of, order_of, option_of, run_with_one}
 use Rattle.tm_words.specs.Words.{run_with_two, run_of}
 use Rattle.tm_words.specs.Words.{run_behind, sample_of, sample_behind, build_of, build_behind, list_behind}
 use Rattle.tm_words.specs.Words.{command_behind, command_of, still_only, command_if, is_name}
@@ -16,7 +17,7 @@ use Rattle.tm_top.specs.Still.{IsStill, IsInRange}
 
 -- as many events as there may be
 abbrev InRange : ℕ → Type 0
-InRange n = (1 ≤ n) × (n ≤ most_events)
+InRange n = (1 ≤ n) × (n ≤ MOST_EVENTS)
 
 -- an option's events are in range
 abbrev OptionFits : Option RunOption → Type 0
@@ -45,9 +46,9 @@ command-if false x y h g = g
 -- ---- options
 
 events-fit : (r : Result ℕ NumberFault) → OptionFits (events_of r)
-events-fit (Ok n) = option-if (nat_le 1 n && nat_le n most_events) (Some (Events n)) None
-    (λ e. let both = and_parts (nat_le 1 n) (nat_le n most_events) e in
-    (leb-true 1 n both.0, leb-true n most_events both.1)) tt
+events-fit (Ok n) = option-if (nat_le 1 n && nat_le n MOST_EVENTS) (Some (Events n)) None
+    (λ e. let both = and_parts (nat_le 1 n) (nat_le n MOST_EVENTS) e in
+    (leb-true 1 n both.0, leb-true n MOST_EVENTS both.1)) tt
 events-fit (Err fault) = tt
 
 order-fits : (name : List ℕ) → OptionFits (order_of name)

@@ -11,20 +11,12 @@ use std::alloc::Global;
 use std::sync::Wait;
 use std::thread::Threads;
 use tm_desk::{Desk, Gate, Sink};
-use tm_plan_journal::Journal;
 use tm_top_build::build_command;
 use tm_top_list::list_command;
-use tm_top_owed::{Done, Stop, tell_stop, tell_usage};
+use tm_top_owed::{Outcome, Stop, tell_stop, tell_usage};
 use tm_top_run::{run_command, threads_command};
 use tm_top_sample::sample_command;
 use tm_words::{CommandWords, read_words};
-
-/// How a call ended: its status, and the journal of a simulation where the command made one.
-#[derive(Drop)]
-pub struct Outcome {
-    pub status: u8,
-    pub journal: Option<Journal>,
-}
 
 // Does what a command asks for, or stops with the cause.
 fn done_by<D: Desk, O: Sink>(
@@ -32,7 +24,7 @@ fn done_by<D: Desk, O: Sink>(
     command: &CommandWords<'_>,
     desk: &mut D,
     out: &mut O,
-) -> Result<Done, Stop>
+) -> Result<Outcome, Stop>
     requires { IsStill (command_in command.now) }
     ensures done { IfOk result (λ d. IsDone (command_in command.now)
         (desk_change D.tells D.held D.faults desk.old desk.new)
@@ -44,14 +36,14 @@ fn done_by<D: Desk, O: Sink>(
 {
     match command {
         CommandWords::Build(build) => match build_command(alloc, build, desk, out) {
-            Ok(()) => Ok(Done {
+            Ok(()) => Ok(Outcome {
                 status: 0,
                 journal: None,
             }),
             Err(stop) => Err(stop),
         },
         CommandWords::List(image) => match list_command(alloc, image, desk, out) {
-            Ok(()) => Ok(Done {
+            Ok(()) => Ok(Outcome {
                 status: 0,
                 journal: None,
             }),
@@ -70,7 +62,7 @@ fn done_at<R: Threads + Wait + Sync, D: Desk, O: Sink, G: Gate>(
     desk: &mut D,
     out: &mut O,
     gate: &G,
-) -> Result<Done, Stop>
+) -> Result<Outcome, Stop>
     requires { IsInRange (command_in command.now) }
     ensures done { IfOk result (λ d. IsDone (command_in command.now)
         (desk_change D.tells D.held D.faults desk.old desk.new)
@@ -115,10 +107,7 @@ pub fn still<D: Desk, O: Sink, E: Sink>(
         };
     };
     match done_by(alloc, &command, desk, out) {
-        Ok(done) => Outcome {
-            status: done.status,
-            journal: done.journal,
-        },
+        Ok(outcome) => outcome,
         Err(stop) => Outcome {
             status: tell_stop(alloc, err, &stop),
             journal: None,
@@ -154,10 +143,7 @@ pub fn top<R: Threads + Wait + Sync, D: Desk, O: Sink, G: Gate, E: Sink>(
         };
     };
     match done_at(rt, alloc, &command, desk, out, gate) {
-        Ok(done) => Outcome {
-            status: done.status,
-            journal: done.journal,
-        },
+        Ok(outcome) => outcome,
         Err(stop) => Outcome {
             status: tell_stop(alloc, err, &stop),
             journal: None,

@@ -6,7 +6,7 @@ ghost use Rattle.tm_top_owed.specs.Changes.{desk_change, sink_change};
 ghost use Rattle.tm_top_owed.specs.Runs.{events_in};
 ghost use Rattle.tm_top.specs.Program.{OwesFor, EndsFor, IsCauseOf, IsOwed};
 
-use crate::call::{Outcome, top};
+use crate::call::top;
 use std::alloc::Global;
 use std::env::{self, Args};
 use std::io::{self, ErrorKind};
@@ -15,7 +15,7 @@ use std::rt::HostRuntime;
 use std::sync::Wait;
 use std::thread::Threads;
 use tm_desk::{Desk, Gate, OpenGate, RealDesk, RealSink, Sink};
-use tm_top_owed::{Stop, tell_stop};
+use tm_top_owed::{Outcome, Stop, tell_stop};
 
 /// Why the words couldn't be had.
 #[derive(Drop)]

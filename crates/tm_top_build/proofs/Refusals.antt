@@ -2,6 +2,7 @@
 use Rattle.std.proofs.Common.{◌≡◌, ◌≤◌, ◌<◌, ◌∙◌, ap, sym, subst, refl, ℕ, List, Option, None, Some, Result, Ok, Err}
 use Rattle.std.proofs.Common.{IsTrue, length, arith, inl, inr}
 use Rattle.std.specs.Prelude.{IsSomeAnd}
+use Rattle.tm_base.specs.declared.limits.TheConstants.{TOPOLOGY_BYTES, TEMPLATE_BYTES}
 use Rattle.tm_plan_map.specs.declared.admitted.Admitted.{Admitted}
 use Rattle.tm_desk.specs.Causes.{Files}
 use Rattle.tm_desk.specs.declared.desk.DeskError.TheVariants.{TooLong, Failed}
@@ -18,7 +19,7 @@ use Rattle.tm_top_owed.specs.declared.stop.Stop.TheVariants as stop
 use Rattle.tm_words.specs.Words.{Build}
 use Rattle.tm_words.specs.Words.Command.{to_build}
 use Rattle.tm_top_owed.proofs.Limits.{long, short}
-use Rattle.tm_top_owed.specs.Inputs.{topology_limit, template_limit, refusal_of, as_fault, text_of, refused_topology}
+use Rattle.tm_top_owed.specs.Inputs.{refusal_of, as_fault, text_of, refused_topology}
 use Rattle.tm_top_owed.specs.Inputs.{refused_template, fault_of_topology, fault_of_template, first_fault}
 use Rattle.tm_top_owed.specs.Changes.{DeskChange, DeskFailed}
 use Rattle.tm_top_owed.specs.Owed.{IsRefusal, IsMadeOf, IsImageOf}
@@ -50,19 +51,19 @@ topology_missing : (b : Build) (files : Files) → files b.topo ≡ None → fau
 unfolding fault_of_topology
 topology_missing b files is = rw is refl
 
-topology_long : (b : Build) (files : Files) → IsSomeAnd (files b.topo) (λ text. topology_limit < length text)
-    → fault_of_topology b files ≡ Some (Desk (TooLong topology_limit))
+topology_long : (b : Build) (files : Files) → IsSomeAnd (files b.topo) (λ text. TOPOLOGY_BYTES < length text)
+    → fault_of_topology b files ≡ Some (Desk (TooLong TOPOLOGY_BYTES))
 unfolding fault_of_topology
-topology_long b files h = long topology_limit refused_topology (files b.topo) h
+topology_long b files h = long TOPOLOGY_BYTES refused_topology (files b.topo) h
 
-topology_read : (b : Build) (files : Files) (text : List ℕ) → files b.topo ≡ Some text → length text ≤ topology_limit
+topology_read : (b : Build) (files : Files) (text : List ℕ) → files b.topo ≡ Some text → length text ≤ TOPOLOGY_BYTES
     → fault_of_topology b files ≡ as_fault (topology_refusal text)
 unfolding fault_of_topology
-topology_read b files text held h = rw held (short topology_limit refused_topology text h)
+topology_read b files text held h = rw held (short TOPOLOGY_BYTES refused_topology text h)
 
 -- a read of the topology that stopped
 pub topology_stop : (s : Stop) (b : Build) (desk : DeskChange)
-    → ReadStop s Topology (IsTrue desk.tells) (desk.held b.topo) topology_limit desk.faults desk.faults_after
+    → ReadStop s Topology (IsTrue desk.tells) (desk.held b.topo) TOPOLOGY_BYTES desk.faults desk.faults_after
     → InputStop s (to_build b) desk
 topology_stop (stop.Refused by fault) b desk (role_is, fault_is, h) = rw (role_is, fault_is) (record {
   read = refl;
@@ -77,7 +78,7 @@ topology_stop stop.NoMemory b desk h = tt
 
 -- a topology that is refused
 pub topology_refused : (b : Build) (desk : DeskChange) (text : List ℕ) (refusal : InputFault)
-    → (IsTrue desk.tells → desk.held b.topo ≡ Some text) → length text ≤ topology_limit
+    → (IsTrue desk.tells → desk.held b.topo ≡ Some text) → length text ≤ TOPOLOGY_BYTES
     → Some refusal ≡ topology_refusal text → IsNamed refusal
     → IsRefusal (to_build b) desk Topology (Input refusal)
 topology_refused b desk text refusal held h is named = record {
@@ -102,21 +103,21 @@ template_missing : (b : Build) (files : Files) → files b.template ≡ None →
 unfolding fault_of_template
 template_missing b files is = rw is refl
 
-template_long : (b : Build) (files : Files) → IsSomeAnd (files b.template) (λ text. template_limit < length text)
-    → fault_of_template b files ≡ Some (Desk (TooLong template_limit))
+template_long : (b : Build) (files : Files) → IsSomeAnd (files b.template) (λ text. TEMPLATE_BYTES < length text)
+    → fault_of_template b files ≡ Some (Desk (TooLong TEMPLATE_BYTES))
 unfolding fault_of_template
-template_long b files h = long template_limit (refused_template (text_of (files b.topo))) (files b.template) h
+template_long b files h = long TEMPLATE_BYTES (refused_template (text_of (files b.topo))) (files b.template) h
 
 template_read : (b : Build) (files : Files) (topo text : List ℕ) → files b.topo ≡ Some topo
-    → files b.template ≡ Some text → length text ≤ template_limit
+    → files b.template ≡ Some text → length text ≤ TEMPLATE_BYTES
     → fault_of_template b files ≡ refused_template topo text
 unfolding fault_of_template
-template_read b files topo text first held h = rw (first, held) (short template_limit (refused_template topo) text h)
+template_read b files topo text first held h = rw (first, held) (short TEMPLATE_BYTES (refused_template topo) text h)
 
 -- a read of the template that stopped, behind a topology that is accepted
 pub template_stop : (s : Stop) (b : Build) (desk : DeskChange) (text : List ℕ) (there : Option (List ℕ)) (faults : ℕ)
     → IsTopology b desk.tells desk.held text → (IsTrue desk.tells → there ≡ desk.held b.template) → desk.faults ≤ faults
-    → ReadStop s Template (IsTrue desk.tells) there template_limit faults desk.faults_after
+    → ReadStop s Template (IsTrue desk.tells) there TEMPLATE_BYTES faults desk.faults_after
     → InputStop s (to_build b) desk
 template_stop (stop.Refused by fault) b desk text there faults topology same later (role_is, fault_is, h) =
     rw (role_is, fault_is) (record {
@@ -124,7 +125,7 @@ template_stop (stop.Refused by fault) b desk text there faults topology same lat
       status = refl;
       has_line = refl;
       first = λ told. at_template b desk.held _ (topology_accepted b desk text topology told)
-          (template_long b desk.held (subst (λ file. IsSomeAnd file (λ template. template_limit < length template))
+          (template_long b desk.held (subst (λ file. IsSomeAnd file (λ template. TEMPLATE_BYTES < length template))
           (same told) (h told)));
     })
 template_stop (stop.Failed by) b desk text there faults topology same later (role_is, inl rose) =
@@ -138,7 +139,7 @@ template_stop stop.NoMemory b desk text there faults topology same later h = tt
 -- a template of which no image is built, behind a topology that is accepted
 pub image_stop : (s : Stop) (b : Build) (desk : DeskChange) (text template : List ℕ)
     → IsTopology b desk.tells desk.held text
-    → (IsTrue desk.tells → desk.held b.template ≡ Some template) → length template ≤ template_limit
+    → (IsTrue desk.tells → desk.held b.template ≡ Some template) → length template ≤ TEMPLATE_BYTES
     → ImageStop s (inputs text template) → InputStop s (to_build b) desk
 image_stop (stop.Refused by fault) b desk text template topology there h (refusal, refused, role_is, fault_is, calm) =
     rw (role_is, fault_is) (record {
@@ -154,21 +155,10 @@ image_stop stop.NoMemory b desk text template topology there h stopped = tt
 
 -- ---- what is built
 
-refused_at : (r : Result Admitted InputFault) (topo template : List ℕ) (seed : ℕ) (refusal : InputFault)
-    → built_of topo template seed r ≡ Err refusal → r ≡ Err refusal
-refused_at (Ok test) topo template seed refusal h = cc
-refused_at (Err fault) topo template seed refusal h = cc
-
 built_at : (r : Result Admitted InputFault) (topo template file : List ℕ) (seed : ℕ) → built_of topo template seed r
     ≡ Ok file → refusal_of r ≡ None
 built_at (Ok test) topo template file seed h = refl
 built_at (Err fault) topo template file seed h = cc
-
--- the fault of two texts of which no image is built
-pub image_refused : (topo template : List ℕ) (seed : ℕ) (refusal : InputFault) → built topo template seed ≡ Err refusal
-    → inputs topo template ≡ Err refusal
-unfolding built
-image_refused topo template seed refusal h = refused_at (inputs topo template) topo template seed refusal h
 
 template_accepted : (topo template file : List ℕ) (seed : ℕ) → built topo template seed ≡ Ok file
     → refusal_of (inputs topo template) ≡ None
@@ -177,7 +167,7 @@ template_accepted topo template file seed h = built_at (inputs topo template) to
 
 -- where an image is built, neither input has a fault
 pub no_fault : (b : Build) (desk : DeskChange) (topo template file : List ℕ) → IsTopology b desk.tells desk.held topo
-    → (IsTrue desk.tells → desk.held b.template ≡ Some template) → length template ≤ template_limit
+    → (IsTrue desk.tells → desk.held b.template ≡ Some template) → length template ≤ TEMPLATE_BYTES
     → built topo template b.seed ≡ Ok file
     → IsTrue desk.tells → first_fault (to_build b) desk.held ≡ None
 no_fault b desk topo template file topology there h is_built told =
@@ -188,7 +178,7 @@ no_fault b desk topo template file topology there h is_built told =
 -- the image of two texts that are held and accepted
 pub image_of_held : (b : Build) (desk : DeskChange) (topo template file line : List ℕ)
     → IsTopology b desk.tells desk.held topo
-    → (IsTrue desk.tells → desk.held b.template ≡ Some template) → length template ≤ template_limit
+    → (IsTrue desk.tells → desk.held b.template ≡ Some template) → length template ≤ TEMPLATE_BYTES
     → IsMadeOf topo template b.seed file line
     → IsImageOf b desk.tells desk.held file line
 image_of_held b desk topo template file line topology there h made = record {

@@ -1,5 +1,6 @@
 -- What the steps of a build leave (this project's own).
 use Rattle.std.specs.Prelude.{◌≡◌, ◌≤◌, ℕ, Bool, false, List, length, IsTrue, None, Some, Result, Err}
+use Rattle.tm_base.specs.declared.limits.TheConstants.{TOPOLOGY_BYTES}
 use Rattle.tm_desk.specs.Causes.{Files}
 use Rattle.tm_plan_map.specs.declared.admitted.Admitted.{Admitted}
 use Rattle.tm_refusals.specs.declared.role.Role.TheVariants as roles
@@ -10,12 +11,11 @@ use Rattle.tm_top_owed.specs.declared.stop.Stop.{Stop}
 use Rattle.tm_top_owed.specs.declared.stop.Stop.TheVariants as stop
 use Rattle.tm_words.specs.Words.{Build}
 use Rattle.tm_top_line.specs.Lines.{wants_memory}
-use Rattle.tm_top_owed.specs.Inputs.{topology_limit}
 
 -- The topology is held, within its limit and accepted.
 pub record IsTopology (b : Build) (tells : Bool) (held : Files) (text : List ℕ) : Type 0 where
   pub there : IsTrue tells → held b.topo ≡ Some text
-  pub short : length text ≤ topology_limit
+  pub short : length text ≤ TOPOLOGY_BYTES
   pub accepted : topology_refusal text ≡ None
 
 -- why no image is built of two texts

@@ -2,13 +2,12 @@
 ghost use Rattle.std.specs.Prelude.{◌≡◌, ◌≤◌, IfOk, IfErr, length};
 ghost use Rattle.tm_image_inputs.specs.Inputs.{inputs};
 ghost use Rattle.tm_top_owed.specs.Texts.{built_line};
-ghost use Rattle.tm_top_owed.specs.Inputs.{topology_limit, template_limit};
 ghost use Rattle.tm_top_owed.specs.Owed.{IsMadeOf};
 ghost use Rattle.tm_top_build.specs.Steps.{ImageStop};
 
 use crate::made::Made;
 use std::alloc::Global;
-use tm_base::{Bytes, NoMemory, Text, push_decimal};
+use tm_base::{Bytes, NoMemory, TEMPLATE_BYTES, TOPOLOGY_BYTES, Text, push_decimal};
 use tm_image_build::build;
 use tm_plan_cases::Program;
 use tm_refusals::{BuildFault, Role};
@@ -33,8 +32,8 @@ fn line_of(alloc: Global, program: &Program, file: &[u8]) -> Result<Text, NoMemo
 
 /// Builds the image of two texts.
 pub fn image_of(alloc: Global, topo: &Bytes, template: &Bytes, seed: u64) -> Result<Made, Stop>
-    requires topo { length topo.now ≤ topology_limit }
-    requires template { length template.now ≤ template_limit }
+    requires topo { length topo.now ≤ TOPOLOGY_BYTES }
+    requires template { length template.now ≤ TEMPLATE_BYTES }
     ensures ok { IfOk result (λ made. IsMadeOf topo.now template.now seed made.file made.line) }
     ensures err { IfErr result (λ stop. ImageStop stop (inputs topo.now template.now)) }
 {

@@ -10,19 +10,13 @@ ghost use Rattle.tm_top_build.specs.Steps.{IsTopology};
 use crate::image::image_of;
 use crate::made::Made;
 use std::alloc::Global;
-use tm_base::Bytes;
+use tm_base::{Bytes, TEMPLATE_BYTES, TOPOLOGY_BYTES};
 use tm_desk::Desk;
 use tm_image_inputs::topology_fault;
 use tm_refusals::Role;
 use tm_top_line::AnyFault;
 use tm_top_owed::{Stop, read_input};
 use tm_words::BuildWords;
-
-// in bytes
-const TOPOLOGY_LIMIT: u64 = 65_536;
-
-// in bytes
-const TEMPLATE_LIMIT: u64 = 1_048_576;
 
 /// Reads the topology, and refuses it.
 fn read_topology<D: Desk>(alloc: Global, b: &BuildWords<'_>, desk: &mut D) -> Result<Bytes, Stop>
@@ -32,7 +26,7 @@ fn read_topology<D: Desk>(alloc: Global, b: &BuildWords<'_>, desk: &mut D) -> Re
     ensures cause { IfErr result (λ stop.
         InputStop stop (to_build (build_in b.now)) (desk_change D.tells D.held D.faults desk.old desk.new)) }
 {
-    let text = match read_input(desk, Role::Topology, b.topo, TOPOLOGY_LIMIT) {
+    let text = match read_input(desk, Role::Topology, b.topo, TOPOLOGY_BYTES) {
         Ok(text) => text,
         Err(stop) => return Err(stop),
     };
@@ -55,7 +49,7 @@ pub fn make_image<D: Desk>(alloc: Global, b: &BuildWords<'_>, desk: &mut D) -> R
         Ok(topo) => topo,
         Err(stop) => return Err(stop),
     };
-    let template = match read_input(desk, Role::Template, b.template, TEMPLATE_LIMIT) {
+    let template = match read_input(desk, Role::Template, b.template, TEMPLATE_BYTES) {
         Ok(template) => template,
         Err(stop) => return Err(stop),
     };

@@ -1,6 +1,7 @@
 -- The first fault of a command's inputs, in the order of work: each input is read and refused before the next one is
 -- read (this project's own).
 use Rattle.std.specs.Prelude.{ℕ, List, [], length, if◌then◌else◌, nat_lt, Option, None, Some, Result, Ok, Err}
+use Rattle.tm_base.specs.declared.limits.TheConstants.{TOPOLOGY_BYTES, TEMPLATE_BYTES, IMAGE_BYTES}
 use Rattle.tm_desk.specs.Causes.{Files}
 use Rattle.tm_desk.specs.declared.desk.DeskError.TheVariants.{Failed, TooLong}
 use Rattle.tm_plan_map.specs.declared.admitted.Admitted.{Admitted}
@@ -14,18 +15,6 @@ use Rattle.tm_top_line.specs.declared.fault.AnyFault.{AnyFault}
 use Rattle.tm_top_line.specs.declared.fault.AnyFault.TheVariants.{Input, Image, Desk}
 use Rattle.tm_words.specs.Words.{Build, Command}
 use Rattle.tm_words.specs.Words.Command.{to_build, to_list, to_run, to_sample}
-
--- the most bytes of a topology
-abbrev pub topology_limit : ℕ
-topology_limit = 65536
-
--- the most bytes of a template
-abbrev pub template_limit : ℕ
-template_limit = 1048576
-
--- the most bytes of an image
-abbrev pub image_limit : ℕ
-image_limit = 16777216
 
 -- ---- refusals
 
@@ -65,7 +54,7 @@ fault_of_input max refused (Some bytes) = if nat_lt max (length bytes) then Some
 
 -- the fault of the topology that is held
 unfoldable pub fault_of_topology : Build → Files → Option AnyFault
-fault_of_topology b files = fault_of_input topology_limit refused_topology (files b.topo)
+fault_of_topology b files = fault_of_input TOPOLOGY_BYTES refused_topology (files b.topo)
 
 -- the text of a file, where it is held
 abbrev pub text_of : Option (List ℕ) → List ℕ
@@ -74,11 +63,11 @@ text_of (Some text) = text
 
 -- the fault of the template that is held, behind the topology that is
 unfoldable pub fault_of_template : Build → Files → Option AnyFault
-fault_of_template b files = fault_of_input template_limit (refused_template (text_of (files b.topo))) (files b.template)
+fault_of_template b files = fault_of_input TEMPLATE_BYTES (refused_template (text_of (files b.topo))) (files b.template)
 
 -- the fault of the image that is held
 unfoldable pub fault_of_image : List ℕ → Files → Option AnyFault
-fault_of_image image files = fault_of_input image_limit refused_image (files image)
+fault_of_image image files = fault_of_input IMAGE_BYTES refused_image (files image)
 
 -- a fault with its role, or else the first one behind it
 abbrev pub or_behind : Role → Option AnyFault → Option (Role × AnyFault) → Option (Role × AnyFault)

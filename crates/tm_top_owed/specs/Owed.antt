@@ -1,11 +1,13 @@
 -- What a command owes: what its files, its sinks and its journal are after it, by the status that it ends with (this
 -- project's own).
-use Rattle.std.specs.Prelude.{◌≡◌, ◌≢◌, ◌⊎◌, ℕ, Bool, true, false, IsTrue, IsFalse, List, [], length, Option, None}
+use Rattle.std.specs.Prelude.{◌≡◌, ◌≢◌, ◌⊎◌, ℕ, ◌≤◌, Bool, true, false, IsTrue, IsFalse, List, [], Option, None}
 use Rattle.std.specs.Prelude.{Some, Ok}
+use Rattle.tm_base.specs.declared.limits.TheConstants.{DEFAULT_EVENTS}
 use Rattle.tm_desk.specs.Causes.{Files}
 use Rattle.tm_desk.specs.declared.desk.DeskError.TheVariants.{Failed, TooLong, NoMemory}
 use Rattle.tm_plan_map.specs.declared.admitted.Admitted.{Admitted}
 use Rattle.tm_plan_cases.specs.declared.program.Program.{Program}
+use Rattle.tm_plan_cases.specs.Collected.{budget_of}
 use Rattle.tm_plan_cases.specs.declared.event.Event.{Event}
 use Rattle.tm_gen.specs.Gen.{gen_of}
 use Rattle.tm_world.specs.Sound.{Sound}
@@ -20,17 +22,15 @@ use Rattle.tm_report.specs.Listing.{listing}
 use Rattle.tm_top_line.specs.declared.fault.AnyFault.{AnyFault}
 use Rattle.tm_top_line.specs.declared.fault.AnyFault.TheVariants.{Input, Image, Desk}
 use Rattle.tm_top_line.specs.Lines.{fault_text, wants_memory}
-use Rattle.tm_words.specs.Words.{Build, Run, Command, default_events}
+use Rattle.tm_words.specs.Words.{Build, Run, Command}
 use Rattle.tm_words.specs.Words.Command.{to_build, to_list, to_run, to_sample}
 use Rattle.tm_top_owed.specs.Texts.{usage, built_line}
 use Rattle.tm_top_owed.specs.Inputs.{first_fault, fault_before}
-use Rattle.tm_top_owed.specs.Runs.{guest_of, IsSimulated, IsRoundOrder, InOrder, IsTold, IsFull, verdicts_in, halted_of}
+use Rattle.tm_top_owed.specs.Runs.{guest_of, IsSimulated, IsRoundOrder, InOrder, IsTold, verdicts_in}
 use Rattle.tm_sample.specs.Texts.{sample_topology, sample_template}
 use Rattle.tm_top_owed.specs.Sample.{summary}
 use Rattle.tm_guest.specs.Guested.{Guested}
 use Rattle.tm_guest.specs.Rounds.{AllHalted}
-use Rattle.tm_report_run.specs.Report.{full_line}
-use Rattle.tm_world.specs.Place.{harts}
 use Rattle.tm_top_owed.specs.Changes.{DeskChange, SinkChange, DeskFailed, SinkFailed}
 use Rattle.tm_top_owed.specs.Changes.{FilesStay, OtherFilesStay, Silent, Took, TookFront, TookFronts, Said}
 
@@ -107,7 +107,8 @@ pub record IsListingOf (image : List ℕ) (tells : Bool) (held : Files) (text : 
 -- ---- a run
 
 -- The file is an image, and what it ends as is how a simulation of it is told: one of at most the events that the run
--- asks for, in round order where it asks for that. Under no script no case is reported.
+-- asks for, in round order where it asks for that. Under no script no case is reported; and where as many events are
+-- allowed as the program's budget, all harts come to halt.
 pub record IsRunIn (r : Run) (file : List ℕ) (e : Ending) : Type 0 where
   pub program : Program
   pub seed : ℕ
@@ -118,6 +119,7 @@ pub record IsRunIn (r : Run) (file : List ℕ) (e : Ending) : Type 0 where
   pub in_order : InOrder r.threads program r.events events
   pub told : IsTold (guest_of program r.events events) e.text e.status
   pub silent : e.status ≢ 1
+  pub ends : budget_of program.cases ≤ r.events → e.status ≢ 4
 
 -- It is the held image that was run, and that has no fault.
 pub record IsRunOf (r : Run) (tells : Bool) (held : Files) (e : Ending) : Type 0 where
@@ -128,11 +130,11 @@ pub record IsRunOf (r : Run) (tells : Bool) (held : Files) (e : Ending) : Type 0
 
 -- ---- a sample
 
--- How the sample of a number is told: with its summary where all harts are at halt, which is status 0, and else as a
--- run is.
-pub data IsSummed (number : ℕ) (g : Guested) (text : List ℕ) : ℕ → Type 0 where
-  summed : AllHalted g → text ≡ summary number g.program.cases (verdicts_in g) → IsSummed number g text 0
-  cut : IsFull g → text ≡ full_line (length g.journal) (halted_of g) (harts g.program) → IsSummed number g text 4
+-- How the sample of a number is told: all harts come to halt, and it is told with its summary, with status 0.
+pub record IsSummed (number : ℕ) (g : Guested) (text : List ℕ) (status : ℕ) : Type 0 where
+  pub halted : AllHalted g
+  pub its_text : text ≡ summary number g.program.cases (verdicts_in g)
+  pub is_status : status ≡ 0
 
 -- The image of a sample's texts, with its number as the seed, was simulated in round order.
 pub record IsSampleOf (number : ℕ) (e : Ending) : Type 0 where
@@ -141,9 +143,9 @@ pub record IsSampleOf (number : ℕ) (e : Ending) : Type 0 where
   pub its : IsBuiltOf (sample_topology number) (sample_template number) number program file
   pub events : List Event
   pub its_journal : e.journal ≡ Some events
-  pub simulated : IsSimulated program default_events events
-  pub in_order : IsRoundOrder program default_events events
-  pub told : IsSummed number (guest_of program default_events events) e.text e.status
+  pub simulated : IsSimulated program DEFAULT_EVENTS events
+  pub in_order : IsRoundOrder program DEFAULT_EVENTS events
+  pub told : IsSummed number (guest_of program DEFAULT_EVENTS events) e.text e.status
 
 -- ---- each command
 

@@ -1,8 +1,9 @@
 -- What is owed of a simulation and of its end (this project's own).
-use Rattle.std.specs.Prelude.{◌≡◌, ℕ, ◌≤◌, ◌==◌, Bool, true, false, List, [], length, All, Option, None, Some}
+use Rattle.std.specs.Prelude.{◌≡◌, ◌⊎◌, ℕ, ◌≤◌, ◌==◌, Bool, true, false, List, [], length, All, Option, None, Some}
 use Rattle.std.specs.List.{count_by}
 use Rattle.tm_base.specs.Lists.{count_from}
 use Rattle.tm_plan_cases.specs.declared.program.Program.{Program}
+use Rattle.tm_plan_cases.specs.Collected.{budget_of}
 use Rattle.tm_plan_cases.specs.declared.event.Event.{Event}
 use Rattle.tm_plan_journal.specs.Journaled.{Journaled}
 use Rattle.tm_world.specs.Place.{harts, halt_of}
@@ -39,6 +40,14 @@ IsRoundOrder p limit events = (h : ℕ) × Goes (fresh p [] limit) h (guest_of p
 abbrev pub InOrder : (threads : Bool) → Program → (limit : ℕ) → List Event → Type 0
 InOrder true p limit events = Unit {0}
 InOrder false p limit events = IsRoundOrder p limit events
+
+-- A simulation of a program has ended under no script: all harts are at halt, or the journal is full; and all are at
+-- halt where the limit is at least the program's budget.
+pub record IsOver (p : Program) (g : Guested) : Type 0 where
+  pub its_program : g.program ≡ p
+  pub no_script : g.faults ≡ []
+  pub ended : AllHalted g ⊎ (length g.journal ≡ g.limit)
+  pub ends : budget_of p.cases ≤ g.limit → AllHalted g
 
 -- how many harts are at their halt marks
 unfoldable pub halted_of : Guested → ℕ

@@ -1,16 +1,20 @@
 -- What the steps of a call leave (this project's own).
-use Rattle.std.specs.Prelude.{◌≡◌, ◌⊎◌, ◌<◌, ℕ, List, [], length, IsFalse, Option, None, IsSomeAnd}
-use Rattle.tm_desk.specs.Causes.{Rose}
+use Rattle.std.specs.Prelude.{◌≡◌, ◌⊎◌, ◌<◌, ℕ, List, [], length, Bool, IsTrue, IsFalse, Option, None, Some, IsSomeAnd}
+use Rattle.std.specs.Prelude.{Result, Err}
+use Rattle.tm_desk.specs.Causes.{Files, Rose}
 use Rattle.tm_desk.specs.declared.desk.DeskError.TheVariants.{Failed, TooLong}
 use Rattle.tm_refusals.specs.declared.role.Role.{Role}
-use Rattle.tm_refusals.specs.declared.role.Role.TheVariants.{Output}
-use Rattle.tm_top_line.specs.declared.fault.AnyFault.TheVariants.{Desk}
+use Rattle.tm_refusals.specs.declared.role.Role.TheVariants as roles
+use Rattle.tm_refusals.specs.declared.image.ImageFault.{ImageFault}
+use Rattle.tm_plan_cases.specs.declared.program.Program.{Program}
+use Rattle.tm_top_line.specs.declared.fault.AnyFault.TheVariants.{Image, Desk}
 use Rattle.tm_top_line.specs.Lines.{fault_text, wants_memory}
 use Rattle.tm_top_owed.specs.declared.stop.Stop.{Stop}
 use Rattle.tm_top_owed.specs.declared.stop.Stop.TheVariants as stop
 use Rattle.tm_words.specs.Words.{Command}
-use Rattle.tm_top_owed.specs.Changes.{DeskChange, SinkChange, Said, TookFronts}
-use Rattle.tm_top_owed.specs.Owed.{IsRefusal, InputFailure, IsFailure, IsUntouched, IsUnfinished}
+use Rattle.tm_top_owed.specs.Inputs.{fault_of_image}
+use Rattle.tm_top_owed.specs.Changes.{DeskChange, SinkChange, DeskFailed, Said, TookFronts}
+use Rattle.tm_top_owed.specs.Owed.{IsOpened, IsRefusal, InputFailure, IsFailure, IsUntouched, IsUnfinished, status_of}
 
 -- why the read of a role's file stopped: told says that the desk tells its files, and file is what it holds under the
 -- name
@@ -21,10 +25,35 @@ ReadStop (stop.Failed by) role told file max before now =
     (by ≡ role) × (Rose before now ⊎ (told × (file ≡ None)))
 ReadStop stop.NoMemory role told file max before now = Unit {0}
 
+-- why a file isn't opened as an image
+abbrev pub FileStop : Stop → Result (List ℕ) ImageFault → Type 0
+FileStop (stop.Refused by fault) opened =
+    (refusal : ImageFault) × (opened ≡ Err refusal) × (by ≡ roles.Image) × (fault ≡ Image refusal)
+    × IsFalse (wants_memory (Image refusal))
+FileStop (stop.Failed by) opened = ⊥
+FileStop stop.NoMemory opened = Unit {0}
+
+-- why the image of a name isn't opened: it is refused with its fault, the desk's count rose, or it isn't held
+abbrev pub OpenStop : Stop → List ℕ → DeskChange → Type 0
+OpenStop (stop.Refused by fault) name desk =
+    (by ≡ roles.Image) × (status_of fault ≡ 3) × IsFalse (wants_memory fault)
+    × (IsTrue desk.tells → fault_of_image name desk.held ≡ Some fault)
+OpenStop (stop.Failed by) name desk =
+    (by ≡ roles.Image)
+    × (DeskFailed desk ⊎ (IsTrue desk.tells × (fault_of_image name desk.held ≡ Some (Desk Failed))))
+OpenStop stop.NoMemory name desk = Unit {0}
+
+-- The program and the seed are those of the image that is held under a name, and that has no fault.
+pub record IsHeldImage (name : List ℕ) (tells : Bool) (held : Files) (program : Program) (seed : ℕ) : Type 0 where
+  pub file : List ℕ
+  pub image : IsOpened file program seed
+  pub read : IsTrue tells → held name ≡ Some file
+  pub accepted : IsTrue tells → fault_of_image name held ≡ None
+
 -- why a step at the output stopped: a count rose
 abbrev pub PutStop : Stop → ℕ → ℕ → Type 0
 PutStop (stop.Refused by fault) before now = ⊥
-PutStop (stop.Failed by) before now = (by ≡ Output) × Rose before now
+PutStop (stop.Failed by) before now = (by ≡ roles.Output) × Rose before now
 PutStop stop.NoMemory before now = Unit {0}
 
 -- why the inputs of a command stop it

@@ -1,12 +1,17 @@
-//! What commands owe, and the steps that they share: files are read and written, texts are printed, and stops are told.
+//! What commands owe, and the steps that they share: files are read, opened and written, programs are simulated, texts
+//! are printed, and stops are told.
 #![tactic(auto)]
 
-mod done;
+mod image;
+mod outcome;
 mod report;
+mod simulated;
 mod steps;
 mod stop;
 
-pub use done::Done;
+pub use image::open_input;
+pub use outcome::Outcome;
 pub use report::{tell_stop, tell_usage};
+pub use simulated::{Simulated, cut_text, print_simulated, run_in_order};
 pub use steps::{print_text, read_input, write_output};
 pub use stop::Stop;

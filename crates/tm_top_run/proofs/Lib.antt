@@ -1,4 +1,3 @@
 pub mod Silent
-pub mod Halting
 pub mod Telling
 pub mod Running

@@ -2,37 +2,15 @@
 ghost use Rattle.std.specs.Prelude.{◌≡◌, IfOk};
 ghost use Rattle.tm_guest.specs.Rounds.{AllHalted};
 ghost use Rattle.tm_world.specs.Sound.{Sound};
-ghost use Rattle.tm_top_owed.specs.Runs.{halted_of};
-ghost use Rattle.tm_top_run.specs.Steps.{IsOver, IsToldOf, IsStatusOf};
+ghost use Rattle.tm_top_owed.specs.Runs.{IsOver};
+ghost use Rattle.tm_top_run.specs.Steps.{IsToldOf, IsToldSilent, IsStatusOf};
 
 use std::alloc::Global;
 use tm_base::{NoMemory, Text};
 use tm_guest::Guest;
 use tm_plan_cases::Program;
-use tm_plan_journal::Journal;
-use tm_report_run::{full_text, report_text, verdicts};
-
-/// A simulation that has ended: the text that is printed of it, the status of a run of it, and its journal.
-#[derive(Drop)]
-pub struct Simulated {
-    pub text: Text,
-    pub status: u8,
-    pub journal: Journal,
-}
-
-/// How many harts are at their halt marks.
-#[tactic(auto, unfolding(tm_top_owed::specs::Runs::halted_of))]
-fn count_halted(guest: &Guest<'_>) -> u32
-    ensures { result ≡ halted_of guest.now }
-{
-    let mut halted = 0;
-    for h in 0..guest.harts() {
-        if guest.halted(h) {
-            halted += 1;
-        }
-    }
-    halted
-}
+use tm_report_run::{report_text, verdicts};
+use tm_top_owed::{Simulated, cut_text};
 
 /// The status of a run whose harts are all at halt: 0 where no case is reported, and else 1.
 fn status_of(verdicts: &[u64]) -> u8
@@ -49,8 +27,7 @@ fn reported(alloc: Global, program: &Program, guest: &Guest<'_>) -> Result<(Text
     requires sound { Sound program.now }
     requires over { IsOver program.now guest.now }
     requires halted { AllHalted guest.now }
-    ensures { IfOk result (λ both.
-        IsToldOf program.now guest.now.limit guest.now.journal both.0 both.1) }
+    ensures { IfOk result (λ both. IsToldSilent guest.now both.0 both.1) }
 {
     let journal = guest.journal();
     let found = verdicts(alloc, program, journal)?;
@@ -58,21 +35,17 @@ fn reported(alloc: Global, program: &Program, guest: &Guest<'_>) -> Result<(Text
     Ok((text, status_of(found.as_slice())))
 }
 
-// The line on a simulation whose journal is full while some hart isn't at halt, and its status.
-fn cut(alloc: Global, program: &Program, guest: &Guest<'_>) -> Result<(Text, u8), NoMemory>
+// The report on a simulation, or the line that says that its journal is full while some hart isn't at halt; and its
+// status.
+fn ending(alloc: Global, program: &Program, guest: &Guest<'_>) -> Result<(Text, u8), NoMemory>
     requires sound { Sound program.now }
     requires over { IsOver program.now guest.now }
-    requires running { ¬ AllHalted guest.now }
-    ensures { IfOk result (λ both.
-        IsToldOf program.now guest.now.limit guest.now.journal both.0 both.1) }
+    ensures { IfOk result (λ both. IsToldSilent guest.now both.0 both.1) }
 {
-    let _ = program;
-    let text = full_text(
-        alloc,
-        guest.journal().len(),
-        count_halted(guest),
-        guest.harts(),
-    )?;
+    if guest.all_halted() {
+        return reported(alloc, program, guest);
+    }
+    let text = cut_text(alloc, guest)?;
     Ok((text, 4))
 }
 
@@ -86,14 +59,6 @@ pub fn told(alloc: Global, program: &Program, guest: Guest<'_>) -> Result<Simula
         IsToldOf program.now guest.entry.limit guest.entry.journal s.text s.status) }
     ensures journal { IfOk result (λ s. s.journal.events ≡ guest.entry.journal) }
 {
-    let (text, status) = if guest.all_halted() {
-        reported(alloc, program, &guest)?
-    } else {
-        cut(alloc, program, &guest)?
-    };
-    Ok(Simulated {
-        text,
-        status,
-        journal: guest.into_journal(),
-    })
+    let (text, status) = ending(alloc, program, &guest)?;
+    Ok(Simulated::of(program, guest, text, status))
 }

@@ -9,20 +9,18 @@ ghost use Rattle.tm_top_owed.specs.Owed.{IsDone};
 ghost use Rattle.tm_top_owed.specs.Steps.{Stopped};
 ghost use Rattle.tm_top_run.specs.Steps.{IsToldOf};
 
-use crate::input::open_input;
-use crate::run::tell_run;
-use crate::tell::{Simulated, told};
+use crate::tell::told;
 use std::alloc::Global;
 use std::sync::Wait;
 use std::thread::Threads;
-use tm_base::NoMemory;
+use tm_base::{MOST_EVENTS, NoMemory};
 use tm_desk::{Desk, Gate, Sink};
 use tm_guest::Guest;
 use tm_harts::{Mill, run_threads};
 use tm_memory::laws::scripts;
 use tm_plan_cases::Program;
 use tm_plan_script::Faults;
-use tm_top_owed::{Done, Stop};
+use tm_top_owed::{Outcome, Simulated, Stop, open_input, print_simulated};
 use tm_words::RunWords;
 
 // Simulates a program whose harts are driven by threads, of at most so many events, and tells it. What the threads
@@ -37,7 +35,7 @@ fn driven<R: Threads + Wait + Sync, G: Gate>(
 ) -> Result<Simulated, NoMemory>
     requires sound { Sound program.now }
     requires some { 1 ≤ events }
-    requires few { events ≤ 100000000 }
+    requires few { events ≤ MOST_EVENTS }
     ensures { IfOk result (λ s. IsToldOf program.now events s.journal.events s.text s.status) }
 {
     // no hart of it gets stuck
@@ -63,10 +61,10 @@ pub fn threads_command<R: Threads + Wait + Sync, D: Desk, O: Sink, G: Gate>(
     desk: &mut D,
     out: &mut O,
     gate: &G,
-) -> Result<Done, Stop>
+) -> Result<Outcome, Stop>
     requires order { run.now.threads ≡ true }
     requires some { 1 ≤ run.now.events }
-    requires few { run.now.events ≤ 100000000 }
+    requires few { run.now.events ≤ MOST_EVENTS }
     ensures done { IfOk result (λ d. IsDone (to_run (run_in run.now))
         (desk_change D.tells D.held D.faults desk.old desk.new)
         (sink_change O.tells O.taken O.faults out.old out.new) d.status (events_in d.journal)) }
@@ -75,7 +73,7 @@ pub fn threads_command<R: Threads + Wait + Sync, D: Desk, O: Sink, G: Gate>(
         (sink_change O.tells O.taken O.faults out.old out.new)) }
     ensures stay { FilesStay (desk_change D.tells D.held D.faults desk.old desk.new) }
 {
-    let image = match open_input(alloc, run, desk) {
+    let image = match open_input(alloc, run.image, desk) {
         Ok(image) => image,
         Err(stop) => return Err(stop),
     };
@@ -83,8 +81,8 @@ pub fn threads_command<R: Threads + Wait + Sync, D: Desk, O: Sink, G: Gate>(
         Ok(simulated) => simulated,
         Err(_) => return Err(Stop::NoMemory),
     };
-    match tell_run(simulated, out) {
-        Ok(done) => Ok(done),
+    match print_simulated(simulated, out) {
+        Ok(outcome) => Ok(outcome),
         Err(stop) => Err(stop),
     }
 }

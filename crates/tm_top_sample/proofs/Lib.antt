@@ -1,4 +1,4 @@
 mod Sums
-mod Halting
 mod Building
+mod Small
 mod Running

@@ -10,14 +10,13 @@ use crate::made::sample_image;
 use crate::simulated::simulated;
 use std::alloc::Global;
 use tm_desk::Sink;
-use tm_top_owed::{Done, Stop, print_text};
+use tm_top_owed::{Outcome, Stop, print_simulated};
 
-/// Builds the sample of a number, simulates it and prints its line. The status is 0 where all harts come to halt, and
-/// 4 where the journal is full before.
+/// Builds the sample of a number, simulates it and prints its line. All harts come to halt, and the status is 0.
 ///
 /// It stops where the sink fails, or for want of memory: no sample is refused. It reads and writes no file, so that
 /// what it owes holds of each desk that stays as it is.
-pub fn sample_command<O: Sink>(alloc: Global, n: u64, out: &mut O) -> Result<Done, Stop>
+pub fn sample_command<O: Sink>(alloc: Global, n: u64, out: &mut O) -> Result<Outcome, Stop>
     ensures done { IfOk result (λ ended. (desk : DeskChange) → IsDone (to_sample n) desk
         (sink_change O.tells O.taken O.faults out.old out.new) ended.status (events_in ended.journal)) }
     ensures stopped { IfErr result (λ stop. (desk : DeskChange) → FilesStay desk → Stopped stop (to_sample n) desk
@@ -27,15 +26,12 @@ pub fn sample_command<O: Sink>(alloc: Global, n: u64, out: &mut O) -> Result<Don
         Ok(image) => image,
         Err(_) => return Err(Stop::NoMemory),
     };
-    let summed = match simulated(alloc, n, &image.program) {
-        Ok(summed) => summed,
+    let simulated = match simulated(alloc, n, &image.program) {
+        Ok(simulated) => simulated,
         Err(_) => return Err(Stop::NoMemory),
     };
-    match print_text(out, &summed.text) {
-        Ok(()) => Ok(Done {
-            status: summed.status,
-            journal: Some(summed.journal),
-        }),
+    match print_simulated(simulated, out) {
+        Ok(outcome) => Ok(outcome),
         Err(stop) => Err(stop),
     }
 }

@@ -1,46 +1,19 @@
 // The simulation of a sample, and how it is told.
-ghost use Rattle.std.specs.Prelude.{◌≡◌, IfOk};
+ghost use Rattle.std.specs.Prelude.{◌≡◌, ◌≤◌, IfOk};
+ghost use Rattle.tm_plan_cases.specs.Collected.{budget_of};
 ghost use Rattle.tm_plan_cases.specs.Shaped.{IsProgram};
 ghost use Rattle.tm_world.specs.Sound.{Sound};
 ghost use Rattle.tm_report_run.specs.Verdicts.{verdicts_of};
-ghost use Rattle.tm_top_owed.specs.Runs.{halted_of};
 ghost use Rattle.tm_top_owed.specs.Sample.{summary};
 ghost use Rattle.tm_top_sample.specs.Steps.{IsSummary};
 
 use crate::summary::summary_text;
 use std::alloc::Global;
-use tm_base::{NoMemory, Text};
-use tm_guest::{Guest, RoundEnd};
-use tm_memory::laws::scripts;
+use tm_base::{DEFAULT_EVENTS, NoMemory, Text};
 use tm_plan_cases::Program;
 use tm_plan_journal::Journal;
-use tm_plan_script::Faults;
-use tm_report_run::{full_text, verdicts};
-
-// The most events of a sample's simulation.
-const EVENTS: u64 = 4_000_000;
-
-/// What is printed of a simulation, the status that it ends with, and its journal.
-#[derive(Drop)]
-pub struct Summed {
-    pub text: Text,
-    pub status: u8,
-    pub journal: Journal,
-}
-
-// How many harts are at their halt marks.
-#[tactic(auto, unfolding(tm_top_owed::specs::Runs::halted_of))]
-fn count_halted(guest: &Guest<'_>) -> u32
-    ensures { result ≡ halted_of guest.now }
-{
-    let mut halted = 0;
-    for h in 0..guest.harts() {
-        if guest.halted(h) {
-            halted += 1;
-        }
-    }
-    halted
-}
+use tm_report_run::verdicts;
+use tm_top_owed::{Simulated, run_in_order};
 
 // The summary of a simulation at whose end all harts are at halt.
 fn summed_text(
@@ -57,34 +30,16 @@ fn summed_text(
     summary_text(alloc, n, &program.cases, &verdicts)
 }
 
-/// Simulates the program of sample `n` in round order, for at most 4,000,000 events. The status is 0 where all harts
-/// come to halt, and else 4.
-pub fn simulated(alloc: Global, n: u64, program: &Program) -> Result<Summed, NoMemory>
-    requires { Sound program.now }
-    ensures { IfOk result (λ summed. IsSummary n program.now summed.journal.events summed.text summed.status) }
+/// Simulates the program of sample `n` in round order. All harts come to halt, within 4,000,000 events, and the status
+/// is 0.
+///
+/// Asked: a sound program whose budget lies within these events.
+pub fn simulated(alloc: Global, n: u64, program: &Program) -> Result<Simulated, NoMemory>
+    requires sound { Sound program.now }
+    requires room { budget_of program.now.cases ≤ DEFAULT_EVENTS }
+    ensures { IfOk result (λ s. IsSummary n program.now s.journal.events s.text s.status) }
 {
-    scripts(program);
-    let mut guest = Guest::start(alloc, program, Faults::nothing(alloc), EVENTS)?;
-    match guest.run_round() {
-        RoundEnd::Done => {
-            let journal = guest.into_journal();
-            let text = summed_text(alloc, n, program, &journal)?;
-            Ok(Summed {
-                text,
-                status: 0,
-                journal,
-            })
-        }
-        RoundEnd::Full => {
-            let halted = count_halted(&guest);
-            let harts = guest.harts();
-            let journal = guest.into_journal();
-            let text = full_text(alloc, journal.len(), halted, harts)?;
-            Ok(Summed {
-                text,
-                status: 4,
-                journal,
-            })
-        }
-    }
+    let guest = run_in_order(alloc, program, DEFAULT_EVENTS)?;
+    let text = summed_text(alloc, n, program, guest.journal())?;
+    Ok(Simulated::of(program, guest, text, 0))
 }

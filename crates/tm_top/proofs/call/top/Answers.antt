@@ -22,7 +22,7 @@ returns-in-Ok g c =
     (desk_change g.D.Desk.tells g.D.Desk.held g.D.Desk.faults c.args.desk.now c.done_at.new.desk)
     (sink_change g.O.Sink.tells g.O.Sink.taken g.O.Sink.faults c.args.out.now c.done_at.new.out)
     (sink_change g.E.Sink.tells g.E.Sink.taken g.E.Sink.faults c.args.err.now c.args.err.now)
-    (events_in c.in-Ok.done.journal) c.in-Ok.done.status
+    (events_in c.in-Ok.outcome.journal) c.in-Ok.outcome.status
     (done (command_in c.in-Some.command) c.in-Some.ensures c.in-Ok.ensures.done c.in-Ok.ensures.rest (λ told. refl))
 
 pub returns-in-Err : goal.returns-in-Err

@@ -1,8 +1,7 @@
 use Rattle.std.proofs.Common.{ap, refl}
 use Rattle.tm_top_line.specs.declared.fault.AnyFault.TheVariants.{Input}
 use Rattle.tm_top_line.proofs.Named.{input_calm}
-use Rattle.tm_top_build.proofs.Refusals.{image_refused}
-use Rattle.tm_top_build.proofs.DrawnCases.{made_of}
+use Rattle.tm_top_owed.proofs.Built.{built_of_texts, image_refused}
 use Rattle.tm_top_build.proofs.image.image_of.Goals as goal
 
 pub returns-in-Err-Input-clause-err : goal.returns-in-Err-Input-clause-err
@@ -18,7 +17,7 @@ returns-in-Err-Input-clause-err c =
 pub returns-in-Ok-line_of-clause-ok : goal.returns-in-Ok-line_of-clause-ok
 returns-in-Ok-line_of-clause-ok c = record {
   program = c.in-Ok.image.program;
-  its = made_of c.args.topo.now c.args.template.now c.args.seed c.in-Ok.image.program c.in-Ok.image.file
+  its = built_of_texts c.args.topo.now c.args.template.now c.args.seed c.in-Ok.image.program c.in-Ok.image.file
       (rw (c.as_slice.ensures, c.as_slice-2.ensures) at c.in-Ok.ensures.program)
       (rw (c.as_slice.ensures, c.as_slice-2.ensures) at c.in-Ok.ensures.ok)
       (rw (c.as_slice.ensures, c.as_slice-2.ensures) at c.in-Ok.ensures.file) c.in-Ok.ensures.sound;

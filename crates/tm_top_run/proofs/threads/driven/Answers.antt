@@ -1,7 +1,8 @@
 use Rattle.std.proofs.Common.{sym, ap, subst, length, ◌∙◌}
 use Rattle.tm_harts.specs.Mills.{AreAllOf}
 use Rattle.tm_harts.proofs.Callers.{all_back}
-use Rattle.tm_top_run.proofs.Running.{never_stuck}
+use Rattle.tm_top_owed.proofs.Simulations.{never_stuck}
+use Rattle.tm_top_run.proofs.Telling.{over_driven}
 use Rattle.tm_top_run.proofs.threads.driven.Goals as goal
 
 pub start-requires-clause-unstuck : goal.start-requires-clause-unstuck
@@ -16,3 +17,10 @@ close-guest-requires g c =
     (c.run_threads.ensures.same ∙ ap length c.deref_mut.ensures.value)
     (c.run_threads.ensures.all
     (subst (AreAllOf c.in_ok-mill.mill) (sym c.deref_mut.ensures.value) c.in_ok-mill.ensures.all))
+
+pub told-requires-clause-over : goal.told-requires-clause-over
+told-requires-clause-over g c =
+    over_driven c.args.program.now c.nothing.result c.args.events c.in_ok-mill.mill c.in_ok-guest.guest
+    c.close-guest.result c.run_round.new.self c.run_round.result c.requires.sound c.in_ok-guest.ensures
+    c.nothing.ensures c.in_ok-mill.ensures.guest c.close-guest.ensures.guest c.close-guest.ensures.no_idle
+    c.run_round.ensures.same c.run_round.ensures.end c.run_round.ensures.bounded

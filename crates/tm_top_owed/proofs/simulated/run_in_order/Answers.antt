@@ -1,5 +1,5 @@
-use Rattle.tm_top_run.proofs.Running.{never_stuck}
-use Rattle.tm_top_run.proofs.run.simulate.Goals as goal
+use Rattle.tm_top_owed.proofs.Simulations.{never_stuck}
+use Rattle.tm_top_owed.proofs.simulated.run_in_order.Goals as goal
 
 pub start-requires-clause-unstuck : goal.start-requires-clause-unstuck
 start-requires-clause-unstuck c =

@@ -1,9 +1,9 @@
 use Rattle.std.proofs.Common.{◌∙◌, ℕ, ◌==◌, arith}
 use Rattle.tm_world.specs.Place.{halt_of}
 use Rattle.tm_guest.specs.Guested.{state}
-use Rattle.tm_top_run.proofs.Halting.{counts, skips, marks}
-use Rattle.tm_top_run.proofs.tell.count_halted.Goals as goal
-use Rattle.tm_top_run.proofs.tell.count_halted.Goals.{then-halted, else-halted}
+use Rattle.tm_top_owed.proofs.Halting.{counts, skips, marks}
+use Rattle.tm_top_owed.proofs.simulated.count_halted.Goals as goal
+use Rattle.tm_top_owed.proofs.simulated.count_halted.Goals.{then-halted, else-halted}
 
 pub loop-h-preserved : goal.loop-h-preserved
 loop-h-preserved c =
