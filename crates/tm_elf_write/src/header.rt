@@ -4,8 +4,8 @@ ghost use Rattle.tm_elf_write.specs.Fields.{bytes_of};
 ghost use Rattle.tm_elf_write.specs.Header.{header};
 
 use crate::fields::{Field, put_fields};
-use tm_plan_map::TEXT_ADDRESS;
 use tm_base::{Bytes, NoMemory};
+use tm_plan_map::TEXT_ADDRESS;
 
 /// Appends the header of a file whose section headers stand at this offset.
 #[tactic(auto, unfolding(crate::specs::Header::header))]

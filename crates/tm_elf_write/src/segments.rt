@@ -5,8 +5,8 @@ ghost use Rattle.tm_elf_write.specs.Segments.{segment_fields, segments, segments
 
 use crate::fields::{Field, put_fields};
 use crate::places::{PAGE, Places, TEXT_AT, WORK_ADDRESS, WORK_LEN};
-use tm_plan_map::{TABLES_ADDRESS, TEXT_ADDRESS};
 use tm_base::{Bytes, NoMemory};
+use tm_plan_map::{TABLES_ADDRESS, TEXT_ADDRESS};
 
 /// A part of memory, loaded from an offset of the file.
 #[derive(Clone, Copy, Debug, PartialEq, Eq)]
