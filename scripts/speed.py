@@ -151,6 +151,36 @@ def simulated(program, image, order, limit, figures):
     figures.note(name, memory, "MiB")
 
 
+def busy_loop(processor):
+    """A process that keeps one processor busy."""
+    loop = subprocess.Popen([sys.executable, "-c", "while True: pass"])
+    os.sched_setaffinity(loop.pid, {processor})
+    return loop
+
+
+def shared(program, image, figures):
+    """A run by threads on a machine that it shares: beside one busy loop for each processor, and on one processor."""
+    words = [program, "run", image, "--order", "threads"]
+    alone = measured(words)[0]
+    processors = sorted(os.sched_getaffinity(0))
+    loops = [busy_loop(processor) for processor in processors]
+    try:
+        beside = measured(words)[0]
+    finally:
+        for loop in loops:
+            loop.kill()
+            loop.wait()
+    os.sched_setaffinity(0, processors[:1])
+    try:
+        pinned = measured(words)[0]
+    finally:
+        os.sched_setaffinity(0, processors)
+    print(f"run threads: {alone:.3f} s alone, {beside:.3f} s beside busy loops, {pinned:.3f} s on one processor")
+    name = f"run {image.stem} threads"
+    figures.note(f"{name} beside busy loops", beside / alone, "times as long")
+    figures.note(f"{name} on one processor", pinned / alone, "times as long")
+
+
 def traced(folder, image, harts):
     """QEMU's own trace of the same image, one instruction a block."""
     program = shutil.which("qemu-system-riscv64")
@@ -187,6 +217,7 @@ def main():
     image = built(asked.program, asked.folder, "long", MIXED, long(), figures)
     for order in ("round", "threads"):
         simulated(asked.program, image, order, 4000000, figures)
+    shared(asked.program, image, figures)
     traced(asked.folder, image, 4)
     return figures.status()
 
