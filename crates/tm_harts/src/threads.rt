@@ -17,8 +17,8 @@ const PATIENCE: u32 = 10_000_000;
 
 /// Drives each seat by work of its own, which a thread does where threads are to be had, and returns when all are
 /// done. The work on a seat passes the gate and takes a turn, over and over, until the turn answers `Halted` or
-/// `Full`, or has answered `None` 10,000,000 times in a row, where a sleep of a millisecond in which no event came counts
-/// for 1,000 of them. It may wait, and takes no memory.
+/// `Full`, or has answered `None` 10,000,000 times in a row, where a sleep of a millisecond in which no event came
+/// counts for 1,000 of them. It may wait, and takes no memory.
 pub fn run_threads<'a, R: Threads + Wait + Sync, G: Gate>(
     rt: &R,
     mill: &Mill<'a>,

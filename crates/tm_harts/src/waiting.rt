@@ -6,10 +6,11 @@
 // No event is slept through. A seat says that it sleeps, and then looks at the count once more before it does. Where
 // that look comes before an event is counted, who rings after that event finds that somebody sleeps, and changes
 // `rings` before it wakes all. A seat sleeps only while `rings` is what it was before it said that it sleeps, so it is
-// woken, or doesn't fall asleep. Else the look sees the event. Not each event is rung for: seats ring at each 64th event
-// of the journal, where they hold back after an event of their own, and at their end; so a ring follows each event
-// unless the seats that are awake make neither a 64th event nor come to one of these. A sleep is short besides, since
-// a gate may wait for the next turn of a seat that sleeps.
+// woken, or doesn't fall asleep. Else the look sees the event. Not each event is rung for: seats ring at each 64th
+// event of the journal, where they hold back after an event of their own, and at their end; so a ring follows each
+// event unless the seats that are awake make neither a 64th event nor come to one of these. A sleep takes a
+// millisecond at most besides, and each of the first ones far less, since a gate may wait for so many turns of a seat
+// that sleeps.
 //
 // Where no other seat's work is under way none sleeps, since nobody would ring.
 use crate::mill::Mill;
@@ -24,10 +25,16 @@ const LOOKS: u32 = 200;
 /// After so many turns in a row that answered `None` a seat waits before each next one.
 const ASKS: u32 = 4;
 
-/// How many milliseconds a sleep takes at most.
-const SLEEP: u64 = 1;
+/// So many turns in a row that answered `None` are each followed by a short sleep at most.
+const SHORT_SLEEPS: u32 = 2000;
 
-/// For how many turns that answered `None` a sleep counts in which no event came.
+/// How many microseconds a short sleep takes at most.
+const SHORT_SLEEP: u64 = 10;
+
+/// How many microseconds each other sleep takes at most.
+const SLEEP: u64 = 1000;
+
+/// For how many turns that answered `None` a sleep counts that isn't short, and in which no event came.
 const SLEEP_COUNTS: u32 = 1000;
 
 /// Seats ring at the events whose place is a multiple of this.
@@ -82,20 +89,24 @@ impl Waiting {
         if before < ASKS || self.under_way.load(Ordering::SeqCst) <= 1 || has_grown(mill, known) {
             return now;
         }
-        self.sleep(rt, mill, known);
+        if before < SHORT_SLEEPS {
+            self.sleep(rt, mill, known, SHORT_SLEEP);
+            return now;
+        }
+        self.sleep(rt, mill, known, SLEEP);
         if mill.glance() == known {
             return now.saturating_add(SLEEP_COUNTS);
         }
         now
     }
 
-    /// Sleeps until the mill has other events than these, or for a shorter time.
-    fn sleep<'a, R: Wait>(&self, rt: &R, mill: &Mill<'a>, known: u64) {
+    /// Sleeps until the mill has other events than these, or for a shorter time, of so many microseconds at most.
+    fn sleep<'a, R: Wait>(&self, rt: &R, mill: &Mill<'a>, known: u64, most: u64) {
         let rings = self.rings.load(Ordering::SeqCst) % (1 << 32);
         self.sleepers.fetch_add(1, Ordering::SeqCst);
         if mill.glance() == known {
             self.rings
-                .park_timeout(rt, rings as u32, Duration::from_millis(SLEEP));
+                .park_timeout(rt, rings as u32, Duration::from_micros(most));
         }
         self.sleepers.fetch_sub(1, Ordering::SeqCst);
     }

@@ -7,7 +7,7 @@ use tm_desk::Gate;
 const HARTS: usize = 8;
 
 /// How many times a hold looks for the other hart until it gives up.
-const LOADS: u32 = 2_000_000_000;
+const LOADS: u32 = 100_000_000;
 
 /// After so many loads in a row a hold lets other threads go on.
 const LOADS_IN_A_ROW: u32 = 1000;
