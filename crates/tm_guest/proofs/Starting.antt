@@ -75,7 +75,8 @@ text-more text i r0 r t s h = record {
 
 -- ---- tables
 
-pub tables-place : (r : Region) (i n : ℕ) → IsGuestRegion r → i < n → n ≤ TABLES_BYTES → IsPlace r (TABLES_ADDRESS + i) 1
+pub tables-place : (r : Region) (i n : ℕ) → IsGuestRegion r → i < n → n ≤ TABLES_BYTES
+    → IsPlace r (TABLES_ADDRESS + i) 1
 unfolding guest_base guest_end
 tables-place r i n g l m = record {
   wide = inl refl;

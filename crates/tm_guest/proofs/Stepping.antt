@@ -183,8 +183,9 @@ finds-row v p lines limit h decodes states r j old is k below was off =
 
 module _ (v : Guested) (p : Program) (lines : List FaultLine) (limit h : ℕ) (decodes : List Decoded)
     (states : List HartState) (r : Region) (j : Journaled) (is : shown p lines limit j ≡ v)
-    (k : KeepsReplay p lines limit decodes states r j) (below : h < harts v.program) (off : ¬ IsHalted v h) (at : Decoded)
-    (row : IsRow v.program (state v h) at) (e : Event) (next : Hart) (a : Acts h (state v h) at r e next) where
+    (k : KeepsReplay p lines limit decodes states r j) (below : h < harts v.program) (off : ¬ IsHalted v h)
+    (at : Decoded) (row : IsRow v.program (state v h) at) (e : Event) (next : Hart)
+    (a : Acts h (state v h) at r e next) where
   in-harts : h < harts p
   in-harts = subst (λ (g : Guested). h < harts g.program) (sym is) below
 

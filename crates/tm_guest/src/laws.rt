@@ -13,8 +13,8 @@ pub fn one_next_event(program: &Program)
 /// A guest of a sound program has its budget where its limit is at least that, so that a run in round order ends with
 /// all harts at halt.
 ///
-/// Asked: a script that is accepted over the program's cases, as the one without lines is; and that no step so far is an
-/// idle read, as before the first one.
+/// Asked: a script that is accepted over the program's cases, as the one without lines is; and that no step so far is
+/// an idle read, as before the first one.
 pub fn sound_budget(program: &Program)
     ensures { SoundHasBudget program.now }
 {

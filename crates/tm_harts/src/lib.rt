@@ -6,8 +6,8 @@
 //! events that it was told.
 //!
 //! A hart that waits at the barrier for another one *holds back*: where its next step would be an idle read, a turn
-//! makes no event, so that the journal has no idle reads and a waiting hart takes no room in it. Where threads drive the
-//! harts, the seat of such a hart sleeps.
+//! makes no event, so that the journal has no idle reads and a waiting hart takes no room in it. Where threads drive
+//! the harts, the seat of such a hart sleeps.
 //!
 //! `Mill::turn` and `run_threads` may wait, and `Mill::start` alone takes memory. Not promised is that a turn ever
 //! comes, or in which order harts come by.

@@ -92,8 +92,8 @@ impl<'a> Mill<'a> {
         self.line.count(seat)
     }
 
-    /// How many events there are, by one load for which no seat is needed. No contract tells of it: it only decides when
-    /// a seat that waits goes on.
+    /// How many events there are, by one load for which no seat is needed. No contract tells of it: it only decides
+    /// when a seat that waits goes on.
     pub(crate) fn glance(&self) -> u64 {
         self.line.glance()
     }
