@@ -13,8 +13,8 @@ use Rattle.tm_memory.specs.Laws.{SoundKeeps}
 use Rattle.tm_guest.specs.declared.turn.RoundEnd.{RoundEnd}
 use Rattle.tm_guest.specs.declared.turn.RoundEnd.TheVariants as ends
 use Rattle.tm_guest.specs.Guested.{Guested, fresh, run}
-use Rattle.tm_guest.specs.Rounds.{Goes, IsSame, EndsAs, AllHalted}
-use Rattle.tm_top_owed.specs.Runs.{guest_of, IsOver, IsSimulated, IsRoundOrder, IsFull}
+use Rattle.tm_guest.specs.Rounds.{IsSame, EndsAs, AllHalted}
+use Rattle.tm_top_owed.specs.Runs.{guest_of, IsOver, IsSimulated, IsFull}
 
 -- ---- before the run
 
@@ -47,21 +47,6 @@ as_guest p g over = ap₂ (λ (q : Program) (lines : List FaultLine). record {
   limit = g.limit;
   journal = g.journal;
 }) over.its_program over.no_script
-
--- its limit
-limit_of : (p : Program) (lines : List FaultLine) (limit : ℕ) (g t : Guested) → g ≡ fresh p lines limit → IsSame g t
-    → t.limit ≡ limit
-limit_of p lines limit g t is same = same.limit ∙ ap (λ (x : Guested). x.limit) is
-
--- its events are in round order
-pub in_order : (p : Program) (lines : List FaultLine) (limit : ℕ) (g t : Guested)
-    → g ≡ fresh p lines limit → lines ≡ [] → IsSame g t → IsOver p t
-    → ((h : ℕ) × Goes g h t) → IsRoundOrder p limit t.journal
-in_order p lines limit g t is none same ended (h, goes) =
-    let start = is ∙ ap (λ (ls : List FaultLine). fresh p ls limit) none in
-    let end = as_guest p t ended
-    ∙ ap (λ (n : ℕ). guest_of p n t.journal) (limit_of p lines limit g t is same) in
-    (h, subst (λ (x : Guested). Goes (fresh p [] limit) h x) end (subst (λ (x : Guested). Goes x h t) start goes))
 
 -- where some hart isn't at halt, the journal is full
 pub full_of : (p : Program) (g : Guested) → IsOver p g → (AllHalted g → ⊥) → IsFull g
