@@ -56,9 +56,7 @@ as_place bs = refl
 as_text : (addr width value : ℕ) (rest : List ℕ) → place_text addr width value ++ rest
     ≡ hex_text 16 addr ++ (32 ∷ (decimal width ++ (32 ∷ (hex_text 16 value ++ rest))))
 unfolding place_text
-as_text addr width value rest =
-    append_assoc (hex_text 16 addr) (32 ∷ (decimal width ++ 32 ∷ hex_text 16 value)) rest
-    ∙ ap (λ (t : List ℕ). hex_text 16 addr ++ (32 ∷ t)) (append_assoc (decimal width) (32 ∷ hex_text 16 value) rest)
+as_text addr width value rest = rw append_assoc (rw append_assoc (rw append_assoc (rw append_assoc refl)))
 
 place_back : (addr width value : ℕ) (rest : List ℕ) → addr < 2 ^ 64 → width < DECIMAL_END → value < 2 ^ 64
     → place_field (place_text addr width value ++ rest)
@@ -130,15 +128,8 @@ event_as_text : (e : Event) (rest : List ℕ) → event_text e ++ rest
     ++ (32 ∷ (access_text e.access ++ (10 ∷ rest)))))))
 unfolding event_text
 event_as_text e rest =
-    let last : List ℕ = access_text e.access ++ 10 ∷ [] in
-    let third : List ℕ = hex_text 8 e.word ++ (32 ∷ last) in
-    let second : List ℕ = hex_text 16 e.pc ++ (32 ∷ third) in
-    append_assoc (decimal e.hart) (32 ∷ second) rest
-    ∙ ap (λ (t : List ℕ). decimal e.hart ++ (32 ∷ t))
-        (append_assoc (hex_text 16 e.pc) (32 ∷ third) rest
-        ∙ ap (λ (t : List ℕ). hex_text 16 e.pc ++ (32 ∷ t))
-        (append_assoc (hex_text 8 e.word) (32 ∷ last) rest
-        ∙ ap (λ (t : List ℕ). hex_text 8 e.word ++ (32 ∷ t)) (append_assoc (access_text e.access) (10 ∷ []) rest)))
+    rw append_assoc (rw append_assoc (rw append_assoc (rw append_assoc (rw append_assoc (rw append_assoc
+        (rw append_assoc refl))))))
 
 as_line : (bs : List ℕ) → line_field bs ≡ (decimal_field bs >>= behind_hart)
 unfolding line_field

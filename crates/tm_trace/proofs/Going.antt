@@ -19,16 +19,17 @@ behind_more es e (Ok p) = ap (λ (t : List Event). Ok (t, p.1)) (sym (append_ass
 behind_more es e (Err d) = refl
 
 -- one event more
-pub goes_on : (whole : Reading (List Event)) (es : List Event) (left less n line : ℕ) (bs : List ℕ) (e : Event)
-    (rest : List ℕ) → whole ≡ behind es (events_from left n line bs) → left ≡ suc less
+pub goes_on : (whole : Reading (List Event)) (es : List Event) (left less n line after : ℕ) (bs : List ℕ) (e : Event)
+    (rest : List ℕ) → whole ≡ behind es (events_from left n line bs) → left ≡ suc less → line + 1 ≡ after
     → next_event n line bs ≡ Ok (e, rest)
-    → whole ≡ behind (es ++ e ∷ []) (events_from less n (line + 1) rest)
+    → whole ≡ behind (es ++ e ∷ []) (events_from less n after rest)
 unfolding events_from
-goes_on whole es left less n line bs e rest so_far count next =
+goes_on whole es left less n line after bs e rest so_far count one next =
     so_far
     ∙ (ap (λ (k : ℕ). behind es (events_from k n line bs)) count
     ∙ (ap (λ r. behind es (then_more (events_from less n (line + 1)) r)) next
-    ∙ behind_more es e (events_from less n (line + 1) rest)))
+    ∙ (behind_more es e (events_from less n (line + 1) rest)
+    ∙ ap (λ (k : ℕ). behind (es ++ e ∷ []) (events_from less n k rest)) one)))
 
 -- an event that isn't read
 pub fails : (whole : Reading (List Event)) (es : List Event) (left less n line : ℕ) (bs : List ℕ) (d : TraceFault)

@@ -1,6 +1,6 @@
 -- What is printed is read back, field by field.
 use Rattle.std.proofs.Common.{◌≡◌, ◌≢◌, ◌∙◌, ◌≤◌, ◌<◌, ◌+◌, ◌-◌, ◌*◌, ◌/◌, ◌%◌, ◌^◌, ◌==◌, ◌&&◌, not, ℕ, zero, suc, Bool, true}
-use Rattle.std.proofs.Common.{false, refl, sym, ap, arith, List, [], ◌∷◌, ◌++◌, length, take, drop, Some, Ok, inl, inr, ◌⊎◌}
+use Rattle.std.proofs.Common.{false, refl, sym, ap, subst, arith, List, [], ◌∷◌, ◌++◌, length, take, drop, Some, Ok, inl, inr, ◌⊎◌}
 use Rattle.std.proofs.Common.{append_assoc, length-append, true≢false, nat_lt, nat_le, codes}
 use Rattle.std.specs.Fmt.{decimal}
 use Rattle.std.specs.Char.{digit_char, digit_value}
@@ -97,7 +97,9 @@ rest_printed zero n acc some low = absurd (omega arith)
 rest_printed (suc k) n acc some low = elim (zero_or_more (n / 10)) [
   | inl none ↦ ((48 + n % 10) ∷ [], printed_last n none, rest_digits-last k n acc none)
   | inr more ↦
-      let less = digit_less n (suc k) (omega arith) low in
+      let one : suc k - 1 ≡ k = omega arith in
+      let less : n / 10 < 10 ^ k =
+          subst (λ (m : ℕ). n / 10 < 10 ^ m) one (digit_less n (suc k) (omega arith) low) in
       let next : 1 ≤ k = some_left k (n / 10) more less in
       let p = rest_printed k (n / 10) ((48 + n % 10) ∷ acc) next less in (
         p.0 ++ (48 + n % 10) ∷ [],
