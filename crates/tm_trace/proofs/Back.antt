@@ -1,11 +1,10 @@
 -- What is written is read back.
-use Rattle.std.proofs.Common.{◌≡◌, ◌∙◌, ◌≤◌, ◌<◌, ◌+◌, ◌%◌, ◌^◌, ◌==◌, ◌&&◌, ◌||◌, ℕ, zero, suc, Bool, true, refl, sym, ap, arith}
-use Rattle.std.proofs.Common.{List, [], ◌∷◌, ◌++◌, length, Some, None, Ok, Err, inl, inr, ◌⊎◌, append_assoc, nat_lt, nat_le, codes}
-use Rattle.std.proofs.Common.{All, Result, append-nil}
+use Rattle.std.proofs.Common.{◌≡◌, ◌∙◌, ◌<◌, ◌^◌, ℕ, refl}
+use Rattle.std.proofs.Common.{ap}
+use Rattle.std.proofs.Common.{List, ◌∷◌, ◌++◌, Some, inl, inr, ◌⊎◌, append_assoc}
+use Rattle.std.proofs.Common.{codes}
 use Rattle.std.specs.Fmt.{decimal}
-use Rattle.std.proofs.lemmas.Bool.Decides.{nat_tests}
 use Rattle.tm_base.specs.Numbers.{hex_text}
-use Rattle.tm_base.specs.declared.limits.TheConstants.{HART_ROOM, MOST_EVENTS}
 use Rattle.tm_table.specs.declared.state.Access.{Access}
 use Rattle.tm_table.specs.declared.state.Access.TheVariants as access
 use Rattle.tm_plan_cases.specs.declared.event.Event.{Event}
@@ -13,12 +12,11 @@ use Rattle.tm_trace.specs.declared.line.Place.{Place}
 use Rattle.tm_trace.specs.declared.line.Touch.{Touch}
 use Rattle.tm_trace.specs.declared.line.Touch.TheVariants.{Nothing, Reads, Writes}
 use Rattle.tm_trace.specs.declared.line.Line.{Line}
-use Rattle.tm_trace.specs.declared.trace.TraceFault.{TraceFault}
 use Rattle.tm_trace.specs.declared.fields.TheConstants.{DECIMAL_END}
-use Rattle.tm_trace.specs.Text.{place_text, access_text, event_text, events_text, head_text, trace_text}
-use Rattle.tm_trace.specs.Traced.{IsPlaced, HasPlace, IsTraced, IsTrace}
-use Rattle.tm_trace.specs.Fields.{Field, ◌>>=◌, word_field, decimal_field, hex_field, hex_behind, decimal_behind, place_field}
-use Rattle.tm_trace.specs.Fields.{touching, touch_field, line_end, behind_hart, line_field, head_field}
+use Rattle.tm_trace.specs.Text.{place_text, access_text, event_text}
+use Rattle.tm_trace.specs.Fields.{Field, ◌>>=◌, word_field, decimal_field, hex_field, hex_behind, decimal_behind}
+use Rattle.tm_trace.specs.Fields.{place_field}
+use Rattle.tm_trace.specs.Fields.{touching, touch_field, line_end, behind_hart, line_field}
 use Rattle.tm_trace.proofs.Printed.{decimal_back, hex_back}
 
 -- ---- one field behind another
@@ -65,9 +63,9 @@ place_back addr width value rest a w v =
     ap place_field (as_text addr width value rest)
     ∙ (as_place (hex_text 16 addr ++ (32 ∷ (decimal width ++ (32 ∷ (hex_text 16 value ++ rest)))))
     ∙ (ap (λ f. f >>= width_next)
-        (hex_back 16 addr (32 ∷ (decimal width ++ (32 ∷ (hex_text 16 value ++ rest)))) a)
+    (hex_back 16 addr (32 ∷ (decimal width ++ (32 ∷ (hex_text 16 value ++ rest)))) a)
     ∙ (ap (λ f. f >>= value_next addr)
-        (decimal_behind_back width 32 (hex_text 16 value ++ rest) w (inl refl))
+    (decimal_behind_back width 32 (hex_text 16 value ++ rest) w (inl refl))
     ∙ ap (λ f. f >>= placed addr width) (hex_behind_back 16 value rest v))))
 
 -- ---- an access
@@ -107,9 +105,9 @@ unfolding word_field
 behind_hart_back hart pc word a rest p w s =
     ap (λ f. f >>= (λ pc rest. hex_behind (codes " ") 8 rest >>= (λ word rest.
     word_field (codes " ") rest >>= (λ _ rest. line_end hart pc word rest))))
-        (hex_behind_back 16 pc (32 ∷ (hex_text 8 word ++ (32 ∷ (access_text a ++ 10 ∷ rest)))) p)
+    (hex_behind_back 16 pc (32 ∷ (hex_text 8 word ++ (32 ∷ (access_text a ++ 10 ∷ rest)))) p)
     ∙ (ap (λ f. f >>= (λ word rest. word_field (codes " ") rest >>= (λ _ rest. line_end hart pc word rest)))
-        (hex_behind_back 8 word (32 ∷ (access_text a ++ 10 ∷ rest)) w)
+    (hex_behind_back 8 word (32 ∷ (access_text a ++ 10 ∷ rest)) w)
     ∙ line_end_back hart pc word a rest s)
 
 -- what the types of an event's parts give
@@ -129,7 +127,7 @@ event_as_text : (e : Event) (rest : List ℕ) → event_text e ++ rest
 unfolding event_text
 event_as_text e rest =
     rw append_assoc (rw append_assoc (rw append_assoc (rw append_assoc (rw append_assoc (rw append_assoc
-        (rw append_assoc refl))))))
+    (rw append_assoc refl))))))
 
 as_line : (bs : List ℕ) → line_field bs ≡ (decimal_field bs >>= behind_hart)
 unfolding line_field
@@ -137,7 +135,8 @@ as_line bs = refl
 
 pub line_back : (e : Event) (rest : List ℕ) → IsRanged e → line_field (event_text e ++ rest) ≡ Some (line_of e, rest)
 line_back e rest r =
-    let tail : List ℕ = hex_text 16 e.pc ++ (32 ∷ (hex_text 8 e.word ++ (32 ∷ (access_text e.access ++ (10 ∷ rest))))) in
+    let tail : List ℕ = hex_text 16 e.pc ++
+    (32 ∷ (hex_text 8 e.word ++ (32 ∷ (access_text e.access ++ (10 ∷ rest))))) in
     ap line_field (event_as_text e rest)
     ∙ (as_line (decimal e.hart ++ (32 ∷ tail))
     ∙ (ap (λ f. f >>= behind_hart) (decimal_back e.hart 32 tail r.hart refl)

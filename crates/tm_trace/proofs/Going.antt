@@ -1,6 +1,7 @@
 -- How the reader goes on from event to event.
-use Rattle.std.proofs.Common.{◌≡◌, ◌∙◌, ◌+◌, ◌-◌, ◌<◌, ℕ, zero, suc, refl, sym, ap, subst, arith, List, [], ◌∷◌, ◌++◌, Ok, Err}
-use Rattle.std.proofs.Common.{Result, append_assoc, append-nil}
+use Rattle.std.proofs.Common.{◌≡◌, ◌∙◌, ◌+◌, ℕ, suc, refl, sym, ap, List, [], ◌∷◌, ◌++◌}
+use Rattle.std.proofs.Common.{Ok, Err}
+use Rattle.std.proofs.Common.{append_assoc, append-nil}
 use Rattle.tm_plan_cases.specs.declared.event.Event.{Event}
 use Rattle.tm_trace.specs.declared.trace.TraceFault.{TraceFault}
 use Rattle.tm_trace.specs.Reading.{Reading, events_from, next_event, more, then_more}

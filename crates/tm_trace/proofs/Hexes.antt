@@ -1,5 +1,6 @@
 -- Hexadecimal digits, read one after another.
-use Rattle.std.proofs.Common.{◌≡◌, ◌∙◌, ◌≤◌, ◌<◌, ◌+◌, ◌-◌, ◌*◌, ◌^◌, ◌&&◌, ℕ, zero, suc, Bool, true, false, refl, sym, ap}
+use Rattle.std.proofs.Common.{◌≡◌, ◌∙◌, ◌≤◌, ◌<◌, ◌+◌, ◌-◌, ◌*◌, ◌^◌, ◌&&◌, ℕ, suc, Bool, true, false, refl}
+use Rattle.std.proofs.Common.{sym, ap}
 use Rattle.std.proofs.Common.{subst, arith, List, [], ◌∷◌, length, take, drop, true≢false}
 use Rattle.std.specs.Prelude.{slice_index}
 use Rattle.std.specs.Char.{digit_value}
@@ -35,8 +36,8 @@ goes_on whole count value d (b ∷ bs) l some digit low =
     let within : suc (length bs) ≤ count = l.2 in
     let count_on : count - length bs ≡ suc (count - suc (length bs)) = omega (arith, within) in
     let below : value * 16 + d < 16 ^ (count - length bs) =
-        rw (count_on, pow-suc 16 (count - suc (length bs)))
-            (digit_more value d (16 ^ (count - suc (length bs))) l.3 low) in
+    rw (count_on, pow-suc 16 (count - suc (length bs)))
+    (digit_more value d (16 ^ (count - suc (length bs))) l.3 low) in
     subst (Left whole count (value * 16 + d)) (sym same) (
       ap (λ (n : ℕ). hex_from (value * 16 + n) bs) digit ∙ l.0,
       and_rest (is_hex b) (list_all is_hex bs) l.1,
@@ -50,5 +51,5 @@ pub room : (whole count value : ℕ) (left : List ℕ) → Left whole count valu
 room whole count value left l some few =
     let within = l.2 in
     let most : 16 ^ (count - length left) ≤ 16 ^ 15 =
-        pow-le-pow_right {n = 16} (omega arith) {i = count - length left} {j = 15} (omega (arith, some, few, within)) in
+    pow-le-pow_right {n = 16} (omega arith) {i = count - length left} {j = 15} (omega (arith, some, few, within)) in
     let low = l.3 in omega (arith, most, low)

@@ -1,7 +1,9 @@
 -- What is printed is read back, field by field.
-use Rattle.std.proofs.Common.{◌≡◌, ◌≢◌, ◌∙◌, ◌≤◌, ◌<◌, ◌+◌, ◌-◌, ◌*◌, ◌/◌, ◌%◌, ◌^◌, ◌==◌, ◌&&◌, not, ℕ, zero, suc, Bool, true}
-use Rattle.std.proofs.Common.{false, refl, sym, ap, subst, arith, List, [], ◌∷◌, ◌++◌, length, take, drop, Some, Ok, inl, inr, ◌⊎◌}
-use Rattle.std.proofs.Common.{append_assoc, length-append, true≢false, nat_lt, nat_le, codes}
+use Rattle.std.proofs.Common.{◌≡◌, ◌≢◌, ◌∙◌, ◌≤◌, ◌<◌, ◌+◌, ◌-◌, ◌*◌, ◌/◌, ◌%◌, ◌^◌, ◌==◌, ◌&&◌, not, ℕ, zero, suc}
+use Rattle.std.proofs.Common.{Bool, true}
+use Rattle.std.proofs.Common.{false, refl, sym, ap, subst, arith, List, [], ◌∷◌, ◌++◌, length, take, drop, Some}
+use Rattle.std.proofs.Common.{inl, inr, ◌⊎◌}
+use Rattle.std.proofs.Common.{append_assoc, length-append, true≢false, nat_lt, nat_le}
 use Rattle.std.specs.Fmt.{decimal}
 use Rattle.std.specs.Char.{digit_char, digit_value}
 use Rattle.std.specs.List.{list_all, prefix_len}
@@ -99,7 +101,7 @@ rest_printed (suc k) n acc some low = elim (zero_or_more (n / 10)) [
   | inr more ↦
       let one : suc k - 1 ≡ k = omega arith in
       let less : n / 10 < 10 ^ k =
-          subst (λ (m : ℕ). n / 10 < 10 ^ m) one (digit_less n (suc k) (omega arith) low) in
+      subst (λ (m : ℕ). n / 10 < 10 ^ m) one (digit_less n (suc k) (omega arith) low) in
       let next : 1 ≤ k = some_left k (n / 10) more less in
       let p = rest_printed k (n / 10) ((48 + n % 10) ∷ acc) next less in (
         p.0 ++ (48 + n % 10) ∷ [],
@@ -213,5 +215,5 @@ hex_back k v rest low =
     let sum = length-append (hex_text k v) rest in
     let room : nat_le k (length (hex_text k v ++ rest)) ≡ true = grind (arith, nat_tests, sum, long) in
     let value : hex_from 0 (hex_text k v) ≡ v =
-        hex_from-text k 0 v ∙ (none_before (16 ^ k) (v % 16 ^ k) ∙ mod-eq_of_lt low) in
+    hex_from-text k 0 v ∙ (none_before (16 ^ k) (v % 16 ^ k) ∙ mod-eq_of_lt low) in
     rw (room, front, behind, hex_all k v, value) refl

@@ -1,7 +1,9 @@
 -- The whole text of a trace is read back.
-use Rattle.std.proofs.Common.{◌≡◌, ◌∙◌, ◌≤◌, ◌<◌, ◌+◌, ◌%◌, ◌^◌, ◌==◌, ◌&&◌, ◌||◌, ℕ, zero, suc, Bool, true, false, cond, refl, sym, ap}
-use Rattle.std.proofs.Common.{arith, List, [], ◌∷◌, ◌++◌, length, Some, None, Ok, Err, inl, inr, ◌⊎◌, append_assoc, nat_lt, nat_le}
-use Rattle.std.proofs.Common.{All, Result, append-nil, codes}
+use Rattle.std.proofs.Common.{◌≡◌, ◌∙◌, ◌≤◌, ◌<◌, ◌+◌, ◌%◌, ◌^◌, ◌==◌, ℕ, suc, true}
+use Rattle.std.proofs.Common.{cond, refl, ap}
+use Rattle.std.proofs.Common.{arith, List, [], ◌∷◌, ◌++◌, length, Some, Ok, Err, inl, inr, append_assoc}
+use Rattle.std.proofs.Common.{nat_lt}
+use Rattle.std.proofs.Common.{All, Result, codes}
 use Rattle.std.specs.Fmt.{decimal}
 use Rattle.std.proofs.lemmas.Bool.Decides.{nat_tests}
 use Rattle.tm_base.specs.declared.limits.TheConstants.{HART_ROOM, MOST_EVENTS}
@@ -15,8 +17,10 @@ use Rattle.tm_trace.specs.declared.fields.TheConstants.{DECIMAL_END}
 use Rattle.tm_trace.specs.Text.{event_text, events_text, head_text, trace_text}
 use Rattle.tm_trace.specs.Traced.{IsPlaced, HasPlace, IsTraced, IsTrace}
 use Rattle.tm_trace.specs.Fields.{Field, ◌>>=◌, word_field, decimal_behind, head_field}
-use Rattle.tm_trace.specs.Reading.{Reading, is_width, is_placed, has_place, is_in_range, access_of, event_of, event_reading}
-use Rattle.tm_trace.specs.Reading.{next_event, more, then_more, events_from, ending, ended, whole, is_head, behind_head, trace_of}
+use Rattle.tm_trace.specs.Reading.{Reading, is_width, is_placed, has_place, is_in_range, access_of, event_of}
+use Rattle.tm_trace.specs.Reading.{event_reading}
+use Rattle.tm_trace.specs.Reading.{next_event, more, then_more, events_from, ending, whole, is_head}
+use Rattle.tm_trace.specs.Reading.{behind_head, trace_of}
 use Rattle.tm_trace.specs.Laws.{HasAddress, IsTyped, ReadsBack}
 use Rattle.tm_trace.proofs.Printed.{decimal_back}
 use Rattle.tm_trace.proofs.Back.{IsSmall, IsRanged, touch_of, line_of, line_back}
@@ -81,11 +85,11 @@ event_back n line e rest few t y =
       access = small e.access t.access y.access;
     } in
     let within : is_in_range n (line_of e) ≡ true =
-        rw (lt_is e.hart n t.hart, touch_in_range e.access t.access) refl in
+    rw (lt_is e.hart n t.hart, touch_in_range e.access t.access) refl in
     ap (event_reading n line (event_text e ++ rest)) (line_back e rest ranged)
     ∙ (ap (λ b. cond {A = Reading Event} b (Ok (event_of (line_of e), rest)) (Err (OutOfRange line))) within
     ∙ ap (λ (a : Access). Ok (record { hart = e.hart; pc = e.pc; word = e.word; access = a }, rest))
-        (same_access e.access))
+    (same_access e.access))
 
 events_back : (es : List Event) (n line : ℕ) (rest : List ℕ) → n ≤ HART_ROOM → All (IsTraced n) es → All IsTyped es
     → events_from (length es) n line (events_text es ++ rest) ≡ Ok (es, rest)
@@ -93,11 +97,11 @@ unfolding events_from
 events_back [] n line rest few t y = refl
 events_back (e ∷ es) n line rest few t y =
     ap (λ bs. then_more (events_from (length es) n (line + 1)) (next_event n line bs))
-        (append_assoc (event_text e) (events_text es) rest)
+    (append_assoc (event_text e) (events_text es) rest)
     ∙ (ap (then_more (events_from (length es) n (line + 1)))
-        (event_back n line e (events_text es ++ rest) few (t 0 e (omega arith)) (y 0 e (omega arith)))
+    (event_back n line e (events_text es ++ rest) few (t 0 e (omega arith)) (y 0 e (omega arith)))
     ∙ ap (more e) (events_back es n (line + 1) rest few (λ k d low. t (suc k) d (omega (arith, low)))
-        (λ k d low. y (suc k) d (omega (arith, low)))))
+    (λ k d low. y (suc k) d (omega (arith, low)))))
 
 -- ---- the whole
 
@@ -118,7 +122,7 @@ unfolding head_field word_field
 head_back n events rest low few =
     ap head_field (head_as_text n events rest)
     ∙ (ap (λ (f : Field ℕ). f >>= events_next)
-        (decimal_back n 32 (codes "events " ++ (decimal events ++ (codes "\n" ++ rest))) low refl)
+    (decimal_back n 32 (codes "events " ++ (decimal events ++ (codes "\n" ++ rest))) low refl)
     ∙ ap (λ (f : Field ℕ). f >>= line_next n) (decimal_back events 10 rest few refl))
 
 head_ok : (n events : ℕ) → 1 ≤ n → n ≤ HART_ROOM → events ≤ MOST_EVENTS → is_head n events ≡ true
@@ -132,10 +136,10 @@ text_back n es t y =
     let harts = t.harts in
     let tail : List ℕ = events_text es ++ codes "end\n" in
     ap (behind_head (head_text n (length es) ++ tail))
-        (head_back n (length es) tail (omega (arith, harts.1)) (omega (arith, few)))
+    (head_back n (length es) tail (omega (arith, harts.1)) (omega (arith, few)))
     ∙ (ap (λ b. cond {A = Result (ℕ × List Event) TraceFault} b
-        (whole n (length es + 2) (events_from (length es) n 2 tail)) (Err (OutOfRange 1)))
-        (head_ok n (length es) harts.0 harts.1 few)
+    (whole n (length es + 2) (events_from (length es) n 2 tail)) (Err (OutOfRange 1)))
+    (head_ok n (length es) harts.0 harts.1 few)
     ∙ ap (whole n (length es + 2)) (events_back es n 2 (codes "end\n") harts.1 t.each y))
 
 pub reads_back : ReadsBack

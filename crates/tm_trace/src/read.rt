@@ -1,5 +1,5 @@
 // The text of a trace, read.
-ghost use Rattle.std.specs.Prelude.{◌≡◌, ◌≢◌, ◌==◌, ◌+◌, ◌≤◌, ◌<◌, ◌^◌, ◌++◌, [], Ok, Err, IfOk, IfErr, OnOk, length, true};
+ghost use Rattle.std.specs.Prelude.{◌≡◌, ◌≢◌, ◌==◌, ◌+◌, ◌≤◌, ◌<◌, ◌^◌, [], Ok, Err, IfOk, IfErr, true};
 ghost use Rattle.std.specs.List.{list_any};
 ghost use Rattle.tm_trace.specs.Reading as reading;
 

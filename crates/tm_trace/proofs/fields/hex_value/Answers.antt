@@ -18,4 +18,4 @@ overflow_add-value c =
 pub loop-left-preserved : goal.loop-left-preserved
 loop-left-preserved c =
     goes_on (hex_from 0 c.args.digits.now) (length c.args.digits.now) c.loop-left.value c.nibble.result
-        c.loop-left.left.now c.loop-left.invariant c.in-len1-up.len_at_least c.nibble.ensures.value c.nibble.ensures.low
+    c.loop-left.left.now c.loop-left.invariant c.in-len1-up.len_at_least c.nibble.ensures.value c.nibble.ensures.low

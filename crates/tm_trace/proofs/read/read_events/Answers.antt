@@ -1,6 +1,5 @@
-use Rattle.std.proofs.Common.{◌≡◌, ◌∙◌, ◌+◌, ◌-◌, ◌++◌, ◌∷◌, [], suc, ap, sym, refl, length, length-append, arith}
+use Rattle.std.proofs.Common.{◌≡◌, ◌+◌, ◌-◌, ◌∷◌, [], suc, refl, length-append, arith}
 use Rattle.std.proofs.lemmas.Result.{err_from_is_err_and}
-use Rattle.tm_plan_cases.specs.declared.event.Event.{Event}
 use Rattle.tm_trace.specs.Reading.{events_from}
 use Rattle.tm_trace.proofs.Going.{goes_on, fails, ends, behind_none}
 use Rattle.tm_trace.proofs.read.read_events.Goals as goal
@@ -15,10 +14,10 @@ pub returns-in_err-event-clause-err : goal.returns-in_err-event-clause-err
 returns-in_err-event-clause-err c =
     let p = err_from_is_err_and c.from_residual.result c.from_residual.ensures.1 in
     let left : c.args.count - c.loop-place.place ≡ suc (c.args.count - (c.loop-place.place + 1)) =
-        omega (arith, c.loop-place-test.true) in
+    omega (arith, c.loop-place-test.true) in
     rw (p.1, p.2) (fails _ c.loop-place.journal.events (c.args.count - c.loop-place.place)
-        (c.args.count - (c.loop-place.place + 1)) c.args.harts (c.loop-place.place + 2) c.loop-place.rest.now _
-        c.loop-place.invariant.0 left c.in_err-event.ensures)
+    (c.args.count - (c.loop-place.place + 1)) c.args.harts (c.loop-place.place + 2) c.loop-place.rest.now _
+    c.loop-place.invariant.0 left c.in_err-event.ensures)
 
 pub put-requires : goal.put-requires
 put-requires c =
@@ -29,7 +28,7 @@ put-requires c =
 pub loop-place-preserved : goal.loop-place-preserved
 loop-place-preserved c =
     let left : c.args.count - c.loop-place.place ≡ suc (c.args.count - (c.loop-place.place + 1)) =
-        omega (arith, c.loop-place-test.true) in
+    omega (arith, c.loop-place-test.true) in
     let count = c.loop-place.invariant.1 in
     let sum = length-append c.loop-place.journal.events (c.in_ok-event.event ∷ []) in
     rw c.put.ensures (
@@ -44,4 +43,4 @@ loop-place-preserved c =
 pub returns-clause-ok : goal.returns-clause-ok
 returns-clause-ok c =
     ends _ c.loop-place.journal.events (c.args.count - c.loop-place.place) c.args.harts (c.loop-place.place + 2)
-        c.loop-place.rest.now c.loop-place.invariant.0 (omega (arith, c.loop-place-test.false))
+    c.loop-place.rest.now c.loop-place.invariant.0 (omega (arith, c.loop-place-test.false))
