@@ -15,4 +15,5 @@ pub events-more : (xs : List Event) (i : ℕ) (e : Event) → i < length xs → 
     → events_text (take (i + 1) xs) ≡ events_text (take i xs) ++ event_text e
 events-more xs i e l at =
     ap events_text (take_more xs i e l ∙ ap (λ (x : Event). take i xs ++ x ∷ []) (sym at))
-    ∙ (events-append (take i xs) (e ∷ []) ∙ ap (λ (t : List ℕ). events_text (take i xs) ++ t) (append-nil (event_text e)))
+    ∙ (events-append (take i xs) (e ∷ [])
+    ∙ ap (λ (t : List ℕ). events_text (take i xs) ++ t) (append-nil (event_text e)))
