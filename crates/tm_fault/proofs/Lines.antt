@@ -3,6 +3,7 @@ use Rattle.std.proofs.Common.{◌≡◌, ◌∙◌, ◌<◌, ◌^◌, ◌*◌, �
 use Rattle.std.proofs.Common.{zero, suc, refl, sym, ap, ap₂, subst, arith, List, [], ◌∷◌, ◌++◌, length, Option, Some}
 use Rattle.std.proofs.Common.{None, Ok, nat_le, codes}
 use Rattle.std.proofs.Common.{append_assoc}
+use Rattle.std.proofs.lemmas.Bool.{and_parts}
 use Rattle.tm_table.specs.declared.instr.Instr.{Instr}
 use Rattle.tm_plan_cases.specs.declared.cases.Cases.{Cases}
 use Rattle.tm_plan_cases.specs.declared.cases.Stream.{Stream}
@@ -23,7 +24,7 @@ use Rattle.tm_fault.specs.Script.{xor, with_number, number_reading, action_readi
 use Rattle.tm_fault.specs.Script.{slot_reading, line_reading}
 use Rattle.tm_fault.specs.Spelled.{Piece, AreFit, pass_piece, action_pieces, line_pieces}
 use Rattle.tm_fault.specs.Spelled.Piece.{fixed, a_number, the_end}
-use Rattle.tm_fault.proofs.Reading.{both, ok-same, none≢some, bound}
+use Rattle.tm_fault.proofs.Reading.{ok-same, none≢some, bound}
 use Rattle.tm_fault.proofs.Reading.{one_read, Got, got_both, fit_parts}
 use Rattle.tm_fault.proofs.Tokens.{end_fits, fits_end, lt_is, is_lt, le_is, is_le, named_got, named_reads, pass_got}
 use Rattle.tm_fault.proofs.Tokens.{pass_reads, KindAt, kind_read, xor_read, xor_reads, numbered_is, kind_reads}
@@ -49,7 +50,7 @@ unfolding number_reading
 action_behind slot xs mid kind.Result i a rest at e =
     let num = numbered_is act.Result (xor (2 ^ 64) mid) a rest e in
     let x = xor_read (2 ^ 64) mid num.0 rest num.2 in
-    let fine = both (nat_le 1 i.rd) (nat_le i.rd 27) at.suits_it in
+    let fine = and_parts (nat_le 1 i.rd) (nat_le i.rd 27) at.suits_it in
     as_action slot xs (act.Result num.0) a rest num.1 (record {
       got = record {
         front = at.x ∷ x.x ∷ [];

@@ -1,26 +1,15 @@
 -- What is read of tokens, one behind the other.
-use Rattle.std.proofs.Common.{◌≡◌, ◌∙◌, ◌<◌, ◌≤◌, ◌^◌, ◌*◌, ◌&&◌, ℕ, Bool, true, false}
-use Rattle.std.proofs.Common.{refl, sym, ap, arith, List, [], ◌∷◌, ◌++◌, length, Option, Some}
-use Rattle.std.proofs.Common.{None, Result, Ok, Err, true≢false, inl, inr, ◌⊎◌, append_assoc}
+use Rattle.std.proofs.Common.{◌≡◌, ◌∙◌, ℕ, Bool, true, false}
+use Rattle.std.proofs.Common.{refl, sym, ap, arith, List, [], ◌∷◌, ◌++◌, Option, Some}
+use Rattle.std.proofs.Common.{None, Result, Ok, Err, true≢false, append_assoc}
 use Rattle.std.specs.Borrow.{Bor}
 use Rattle.tm_lex.specs.declared.token.Token.{Token}
 use Rattle.tm_fault.specs.declared.fault.FaultScriptFault.{FaultScriptFault}
 use Rattle.tm_fault.specs.declared.fault.FaultScriptFault.TheVariants.{Expected}
 use Rattle.tm_fault.specs.declared.fault.Want2.{Want2}
-use Rattle.tm_plan_script.specs.declared.faults.Action.{Action}
-use Rattle.tm_lex.specs.Lines.{Lexeme, lexemes, ◌>>=◌, fitting}
-use Rattle.tm_fault.specs.Script.{Reading, one, Reads, ReadsIn, Passes, xor, numbered, with_number}
+use Rattle.tm_lex.specs.Lines.{Lexeme, ◌>>=◌, fitting}
+use Rattle.tm_fault.specs.Script.{Reading, one, Reads, ReadsIn}
 use Rattle.tm_fault.specs.Spelled.{Piece, AreFit}
-
--- ---- truth values
-
-pub both : (a b : Bool) → (a && b) ≡ true → (a ≡ true) × (b ≡ true)
-both true b e = (refl, e)
-both false b e = absurd (true≢false (sym e))
-
-pub false_or_true : (b : Bool) → (b ≡ true) ⊎ (b ≡ false)
-false_or_true true = inl refl
-false_or_true false = inr refl
 
 -- ---- results
 
@@ -136,46 +125,6 @@ fit_parts (q ∷ qs) ps (x ∷ xs) f =
     }
 
 -- ---- the code's steps
-
-pub reads_on : {A : Type 0} (text : List ℕ) (f : List Lexeme → Reading A) (g : List Lexeme → Reading A)
-    (tokens rest : List Token)
-    (r : Result (A × Bor (List Token)) FaultScriptFault) → f (lexemes text tokens) ≡ g (lexemes text rest)
-    → length rest ≤ length tokens → Reads text g rest r → Reads text f tokens r
-reads_on text f g tokens rest (Ok r) same less h = (same ∙ h.0, (h.1.0, omega (arith, less, h.1.1)))
-reads_on text f g tokens rest (Err e) same less h = same ∙ h
-
-pub reads_in_on : {A : Type 0} (text : List ℕ) (f : List Lexeme → Reading A) (g : List Lexeme → Reading A)
-    (tokens rest : List Token)
-    (r : Result (A × Bor (List Token)) FaultScriptFault) → f (lexemes text tokens) ≡ g (lexemes text rest)
-    → length rest < length tokens → ReadsIn text g rest r → Reads text f tokens r
-reads_in_on text f g tokens rest (Ok r) same less h = (same ∙ h.0, (h.1.0, omega (arith, less, h.1.1)))
-reads_in_on text f g tokens rest (Err e) same less h = same ∙ h
-
--- a word that was passed, and what was read behind it
-pub passes_on : {A : Type 0} (text : List ℕ) (f : List Lexeme → Reading (Unit {0})) (g : List Lexeme → Reading A)
-    (tokens : List Token) (rest : Bor (List Token))
-    (r : Result (A × Bor (List Token)) FaultScriptFault) → Passes text f tokens (Ok rest) → Reads text g rest.now r
-    → Reads text (λ xs. f xs >>= (λ _ mid. g mid)) tokens r
-passes_on text f g tokens rest (Ok r) p h = (
-  ap (λ x. x >>= (λ _ mid. g mid)) p.0
-      ∙ h.0,
-  (h.1.0, omega (arith, p.1.1, h.1.1)),
-)
-passes_on text f g tokens rest (Err e) p h = ap (λ x. x >>= (λ _ mid. g mid)) p.0 ∙ h
-
--- what was read, and what was read behind it
-pub reads_then : {A B : Type 0} (text : List ℕ) (f : List Lexeme → Reading A) (g : A → List Lexeme → Reading B)
-    (tokens : List Token) (p : A × Bor (List Token))
-    (r : Result (B × Bor (List Token)) FaultScriptFault) → Reads text f tokens (Ok p) → Reads text (g p.0) p.1.now r
-    → Reads text (λ xs. f xs >>= g) tokens r
-reads_then text f g tokens p (Ok r) h k = (ap (λ x. x >>= g) h.0 ∙ k.0, (k.1.0, omega (arith, h.1.1, k.1.1)))
-reads_then text f g tokens p (Err e) h k = ap (λ x. x >>= g) h.0 ∙ k
-
--- a number that was read
-pub reads_numbered : (text : List ℕ) (f : ℕ → Action) (width : ℕ) (tokens : List Token) (p : ℕ × Bor (List Token))
-    → Reads text (xor (2 ^ (8 * width))) tokens (Ok p)
-    → Reads text (numbered f width) tokens (Ok (f p.0, p.1))
-reads_numbered text f width tokens p h = (ap (with_number f) h.0, h.1)
 
 pub reads_in : {A : Type 0} (text : List ℕ) (f : List Lexeme → Reading A) (tokens : List Token)
     (r : Result (A × Bor (List Token)) FaultScriptFault) → Reads text f tokens r → ReadsIn text f tokens r

@@ -1,5 +1,5 @@
 -- Shaped cases have few cases, and their streams few slots.
-use Rattle.std.proofs.Common.{◌≡◌, ◌≤◌, ◌^◌, refl, arith, length, Option, Some, None}
+use Rattle.std.proofs.Common.{◌≡◌, ◌≤◌, ◌^◌, refl, arith, Option, Some, None}
 use Rattle.std.specs.Prelude.{slice_get}
 use Rattle.tm_base.proofs.ListLemmas.{all-at}
 use Rattle.tm_plan_cases.specs.declared.cases.Cases.{Cases}
@@ -21,9 +21,6 @@ few_slots cases shaped c h = go (slice_get cases.cases c) refl
     go : (o : Option Case) → slice_get cases.cases c ≡ o → slot_count (stream_in cases c h) ≤ 2 ^ 32
     go None e = rw e (omega arith)
     go (Some case) e = rw e (in_case case e (slice_get case.streams h) refl)
-
-pub few_cases : (cases : Cases) → AreShaped cases → length cases.cases ≤ 2 ^ 32
-few_cases cases shaped = let few = shaped.count.1 in omega (arith, few)
 
 pub few_harts : (cases : Cases) → AreShaped cases → cases.harts ≤ 2 ^ 32
 few_harts cases shaped = let few = shaped.harts.1 in omega (arith, few)

@@ -5,6 +5,7 @@ use Rattle.std.proofs.Common.{None, Result, Ok, Err, true≢false, nat_lt, nat_l
 use Rattle.std.specs.Str.{bytes_eq}
 use Rattle.std.proofs.lemmas.Slice.Eq.{bytes_eq-Decides}
 use Rattle.std.proofs.lemmas.Bool.Decides.{nat_tests}
+use Rattle.std.proofs.lemmas.Bool.{and_parts}
 use Rattle.tm_base.specs.Numbers.{number_of, digits_reading, reading_at}
 use Rattle.tm_base.specs.declared.numbers.NumberFault.TheVariants.{BadDigit}
 use Rattle.tm_base.specs.declared.numbers.NumberFault.{NumberFault}
@@ -23,7 +24,7 @@ use Rattle.tm_fault.specs.Script.{is_in_range, from_one, xor, with_number}
 use Rattle.tm_fault.specs.Spelled.{Fits, AreFit, pass_piece}
 use Rattle.tm_fault.specs.Causes.{kind_text}
 use Rattle.tm_fault.specs.Spelled.Piece.{fixed, a_number, the_end}
-use Rattle.tm_fault.proofs.Reading.{both, err≢ok, ok-same, some-same, none≢some, bound}
+use Rattle.tm_fault.proofs.Reading.{err≢ok, ok-same, some-same, none≢some, bound}
 use Rattle.tm_fault.proofs.Reading.{one_read, Got}
 
 -- ---- single tokens
@@ -46,7 +47,7 @@ chosen false o a e = absurd (none≢some a e)
 pub word_fits : (w : List ℕ) (x : Lexeme) (u : Unit {0}) → keyword w x ≡ Some u → Fits (fixed w) x
 word_fits w x u e =
     let hit = chosen (is_word x.0.kind && bytes_eq x.1 w) (Some tt) u e in
-    let parts = both (is_word x.0.kind) (bytes_eq x.1 w) hit.0 in
+    let parts = and_parts (is_word x.0.kind) (bytes_eq x.1 w) hit.0 in
     (word_kind x.0.kind parts.0, (bytes_eq-Decides x.1 w).0 parts.1)
 
 pub fits_word : (w : List ℕ) (x : Lexeme) → Fits (fixed w) x → keyword w x ≡ Some tt
@@ -138,7 +139,7 @@ named_reads w limit n (x ∷ y ∷ z ∷ xs) rest f low = absurd f.1.1
 
 pub star_fits : (x : Lexeme) → is_star x ≡ true → Fits (fixed (codes "*")) x
 star_fits x e =
-    let parts = both (is_word x.0.kind) (bytes_eq x.1 (codes "*")) e in
+    let parts = and_parts (is_word x.0.kind) (bytes_eq x.1 (codes "*")) e in
     (word_kind x.0.kind parts.0, (bytes_eq-Decides x.1 (codes "*")).0 parts.1)
 
 pub record PassIndex (passes : ℕ) (xs : List Lexeme) (p : Option ℕ) (rest : List Lexeme) : Type 0 where
@@ -291,7 +292,7 @@ pub in_range_is : (limit n : ℕ) → 1 ≤ n → n < limit → is_in_range limi
 in_range_is limit n some low = rw (is_le 1 n some, is_lt n limit low) refl
 
 pub range_is : (limit n : ℕ) → is_in_range limit n ≡ true → (1 ≤ n) × (n < limit)
-range_is limit n e = let parts = both (nat_le 1 n) (nat_lt n limit) e in (le_is 1 n parts.0, lt_is n limit parts.1)
+range_is limit n e = let parts = and_parts (nat_le 1 n) (nat_lt n limit) e in (le_is 1 n parts.0, lt_is n limit parts.1)
 
 -- a kind that was read is of a slot with an instruction
 pub slot_read : (slot : Option Instr) (xs : List Lexeme) (k : Kind) (i : Instr) (rest : List Lexeme)
@@ -315,7 +316,7 @@ xor_read limit (x ∷ xs) n rest e = go (number x) refl e
         → Xor limit (x ∷ xs) n rest
     inside m is true range e =
         let same = ok-same (m, xs) (n, rest) e in
-        let parts = both (nat_le 1 n) (nat_lt n limit) (ap (λ p. is_in_range limit p.0) (sym same) ∙ range) in
+        let parts = and_parts (nat_le 1 n) (nat_lt n limit) (ap (λ p. is_in_range limit p.0) (sym same) ∙ range) in
         record {
           x = x;
           whole = ap (λ p. x ∷ p.1) same;
