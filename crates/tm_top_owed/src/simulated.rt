@@ -48,7 +48,6 @@ impl Simulated {
 
 /// Runs a program from its start in round order, under no script, until all harts are at their halt marks or there are
 /// so many events.
-#[tactic(auto, using(crate::proofs::Simulations::over))]
 pub fn run_in_order<'a>(
     alloc: Global,
     program: &'a Program,
