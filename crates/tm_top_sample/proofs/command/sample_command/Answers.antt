@@ -11,6 +11,6 @@ returns-clause-stopped g c = λ desk stay.
     print_stopped c.in-Err-print_simulated.stop (to_sample c.args.n) desk
     (sink_change g.O.Sink.tells g.O.Sink.taken g.O.Sink.faults c.args.out.now c.print_simulated.new.out)
     (record { text = s.text; status = s.status; journal = Some s.journal.events })
-    (sample_of c.args.n c.in-Ok.image.program c.in-Ok.image.file s.journal.events s.text s.status c.in-Ok.ensures
+    (sample_of c.args.n c.in-Ok.image.program c.in-Ok.image.file s.journal.events s.text s.status c.in-Ok.ensures.ok
     c.in-Ok-simulated.ensures)
     c.in-Err-print_simulated.ensures.front c.in-Err-print_simulated.ensures.cause
