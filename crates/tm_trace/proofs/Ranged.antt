@@ -17,12 +17,9 @@ use Rattle.tm_trace.specs.Traced.{IsPlaced, HasPlace, IsTraced, IsTrace}
 use Rattle.tm_trace.specs.Fields.{Field, line_field}
 use Rattle.tm_trace.specs.Reading.{Reading, is_width, is_placed, has_place, is_in_range, access_of, event_of}
 use Rattle.tm_trace.specs.Reading.{event_reading, next_event, more, then_more, events_from, is_head}
+use Rattle.tm_trace.proofs.Printed.{both_true}
 
 -- ---- the ranges of an event
-
-both : (a b : Bool) → (a && b) ≡ true → (a ≡ true) × (b ≡ true)
-both true b h = (refl, h)
-both false b h = absurd (cc)
 
 width_of : (n : ℕ) → is_width n ≡ true → IsWidth n
 width_of n h = grind (arith, nat_tests)
@@ -35,8 +32,8 @@ lt_of a b h = grind (arith, nat_tests)
 
 placed : (p : Place) → is_placed p ≡ true → IsPlaced p.addr p.width p.value
 placed p h =
-    let wide = both (is_width p.width) (p.addr % p.width == 0 && nat_lt p.value (256 ^ p.width)) h in
-    let rest = both (p.addr % p.width == 0) (nat_lt p.value (256 ^ p.width)) wide.1 in
+    let wide = both_true (is_width p.width) (p.addr % p.width == 0 && nat_lt p.value (256 ^ p.width)) h in
+    let rest = both_true (p.addr % p.width == 0) (nat_lt p.value (256 ^ p.width)) wide.1 in
     record {
       wide = width_of p.width wide.0;
       aligned = zero_of (p.addr % p.width) rest.0;
@@ -50,7 +47,7 @@ touched (Writes p) h = placed p h
 
 traced : (n : ℕ) (l : Line) → is_in_range n l ≡ true → IsTraced n (event_of l)
 traced n l h =
-    let parts = both (nat_lt l.hart n) (has_place l.touch) h in
+    let parts = both_true (nat_lt l.hart n) (has_place l.touch) h in
     record { hart = lt_of l.hart n parts.0; access = touched l.touch parts.1 }
 
 -- ---- events
