@@ -10,7 +10,7 @@ use tm_tmpl_read::parse_template;
 use tm_topo::parse_topology;
 
 /// No text of a case is longer.
-const LONGEST: usize = 0x10_0000;
+pub const LONGEST: usize = 0x10_0000;
 
 /// The cases of a topology and a template by name and a seed, where these are a test: `TOPOLOGY TEMPLATE SEED`.
 pub fn drawn(state: &State, rest: &str) -> Option<Cases>

@@ -1,14 +1,11 @@
 // Scripts of faults over the cases of a test.
-use crate::drawn::drawn;
+use crate::drawn::{LONGEST, drawn};
 use crate::refused::put_script;
 use std::alloc::Global;
 use tm_base::{Bytes, NoMemory, push_decimal};
 use tm_cases_book::{State, put};
 use tm_fault::parse_faults;
 use tm_plan_script::{Action, FaultLine};
-
-/// No text of a case is longer.
-pub const LONGEST: usize = 0x10_0000;
 
 /// The lines of a script over the cases of a test, or its fault: `TOPOLOGY TEMPLATE SEED TEXT`.
 pub fn script(state: &State, rest: &str, out: &mut Bytes) -> Result<(), NoMemory> {
