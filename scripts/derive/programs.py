@@ -16,12 +16,14 @@ from .numbers import digits, number, read_number, small
 from .placement import Shape, choice, draw, may_touch, part_size
 from .races import masks
 from .rules import admit
+from .scripts import read_script
 from .streams import streams
 from .support import HartCode
 from .table import Instr, decode, encode, step
 from .template import LONGEST, Window, parse_template, printed
 from .template import places as statement_places
 from .topology import parse_topology
+from .traces import read_trace, trace_text
 
 
 def by_fault(answer):
@@ -290,6 +292,54 @@ def bounds(cases):
 
 RACES = {"race": of_test(race), "work": of_test(bounds)}
 
+# ---- scripts and traces
+
+
+def script_line(line):
+    hart, case, at_pass, slot, (action, xor) = line
+    number = "" if xor is None else f" {xor:#x}"
+    at_pass = "*" if at_pass is None else at_pass
+    return f"hart {hart} case {case} pass {at_pass} slot {slot} {action}{number}, "
+
+
+def script(book, rest):
+    topo, tmpl, seed, text = (rest.split(" ", 3) + [""])[:4]
+    data = book.read(text)
+
+    def answer(cases):
+        if len(data) > LONGEST:
+            return "too long"
+        try:
+            return "".join(script_line(line) for line in read_script(data, cases)) + "end"
+        except Fault as fault:
+            return fault.told()
+
+    return of_test(answer)(book, f"{topo} {tmpl} {seed}")
+
+
+def event(e):
+    out = f" hart {e.hart} pc {e.pc:#x} word {e.word:#x}"
+    if e.access:
+        kind, width, addr, value = e.access
+        out += f" {kind} {width} at {addr:#x}: {value:#x}"
+    return out
+
+
+def trace(book, rest):
+    text = book.read(rest)
+    try:
+        harts, events = read_trace(text)
+    except Fault as fault:
+        return fault.told()
+    out = f"harts {harts} events {len(events)}"
+    if events:
+        out += f", first{event(events[0])}, last{event(events[-1])}"
+    written = trace_text(harts, events)
+    return out + (", the same" if written == text else ", written " + shown(written))
+
+
+SCRIPTS = {"script": script, "trace": trace}
+
 # ---- files of images
 
 
@@ -433,6 +483,7 @@ PROGRAMS = {
     "tm_cases_lines": (["lines", "words", "steps", "labels"], LINES),
     "tm_cases_grammar": (["texts", "grammar", "rules"], GRAMMAR),
     "tm_cases_races": (["races"], RACES),
+    "tm_cases_scripts": (["scripts", "traces"], SCRIPTS),
     "tm_cases_elf": (["elf"], ELF),
     "tm_cases_desks": (["desks"], DESKS),
     "tm_cases_commands": (["texts", "commands", "runs", "tests"], COMMANDS),

@@ -26,7 +26,7 @@ front_dropped : (xs ys : List ℕ) → drop (length xs) (xs ++ ys) ≡ ys
 front_dropped [] ys = refl
 front_dropped (x ∷ xs) ys = front_dropped xs ys
 
-both_true : (a b : Bool) → (a && b) ≡ true → (a ≡ true) × (b ≡ true)
+pub both_true : (a b : Bool) → (a && b) ≡ true → (a ≡ true) × (b ≡ true)
 both_true true b e = (refl, e)
 both_true false b e = absurd (true≢false (sym e))
 

@@ -2,6 +2,7 @@
 ghost use Rattle.std.specs.Prelude.{◌≡◌, ◌≢◌, ◌==◌, ◌+◌, ◌≤◌, ◌<◌, ◌^◌, [], Ok, Err, IfOk, IfErr, true};
 ghost use Rattle.std.specs.List.{list_any};
 ghost use Rattle.tm_trace.specs.Reading as reading;
+ghost use Rattle.tm_trace.specs.Traced.{IsTrace};
 
 use crate::fields::word_at;
 use crate::line::{Line, Place, Touch, head_at, line_at};
@@ -153,10 +154,12 @@ fn journal_of(alloc: Global, events: u32) -> Result<Journal, TraceFault>
 }
 
 // The trace of so many harts and events behind the first line.
+#[tactic(auto, using(crate::proofs::Ranged::is_trace))]
 fn read_behind(alloc: Global, bytes: &[u8], harts: u32, events: u32) -> Result<Trace, TraceFault>
     requires { reading.is_head harts events ≡ true }
     ensures ok { IfOk result (λ t. reading.whole harts (events + 2) (reading.events_from events harts 2 bytes.now)
         ≡ Ok (t.harts, t.events.events)) }
+    ensures is { IfOk result (λ t. IsTrace t.harts t.events.events) }
     ensures err { IfErr result (λ e. e ≢ TraceFault.NoMemory
         → reading.whole harts (events + 2) (reading.events_from events harts 2 bytes.now) ≡ Err e) }
 {
@@ -175,6 +178,7 @@ fn read_behind(alloc: Global, bytes: &[u8], harts: u32, events: u32) -> Result<T
 #[tactic(auto, unfolding(crate::specs::Reading::trace_of))]
 pub fn read_trace(alloc: Global, bytes: &[u8]) -> Result<Trace, TraceFault>
     ensures ok { IfOk result (λ t. reading.trace_of bytes.now ≡ Ok (t.harts, t.events.events)) }
+    ensures is { IfOk result (λ t. IsTrace t.harts t.events.events) }
     ensures err { IfErr result (λ e. e ≢ TraceFault.NoMemory → reading.trace_of bytes.now ≡ Err e) }
 {
     let Some(((harts, events), rest)) = head_at(bytes) else {
