@@ -82,8 +82,8 @@ impl<T: Kept> LineSeat<T> {
 }
 
 impl<T: Kept> Line<T> {
-    /// A line before a value whose history is empty, and its seats in the order of their numbers, from 0 on. The list of
-    /// seats has room for as many as were asked for, and no more.
+    /// A line before a value whose history is empty, and its seats in the order of their numbers, from 0 on. The list
+    /// of seats has room for as many as were asked for, and no more.
     pub fn start(
         alloc: Global,
         value: T,
