@@ -1,194 +1,129 @@
--- The form of the command line's words (this project's own). Names and options stand in the shown order; the two
--- options of a run stand in any order.
-use Rattle.std.specs.Prelude.{ℕ, Bool, true, false, not, ◌&&◌, ◌==◌, nat_le, if◌then◌else◌}
+-- What the command line may ask for, and how its names and values say it (this project's own).
+use Rattle.std.specs.Prelude.{◌≡◌, ◌≤◌, ℕ, Bool, true, false, not, ◌&&◌, ◌==◌, nat_le, if◌then◌else◌}
 use Rattle.std.specs.Prelude.{List, [], ◌∷◌, map, codes, Option, None, Some, option_map, Result, Ok, Err}
 use Rattle.std.specs.Str.{bytes_eq}
+use Rattle.std.specs.Borrow.{Bor}
 use Rattle.std.specs.String.{string_bytes}
 use Rattle.std.specs.declared.string.String.{String}
 use Rattle.std.specs.declared.alloc.Global.{Global}
 use Rattle.tm_base.specs.Numbers.{number_of}
 use Rattle.tm_base.specs.declared.numbers.NumberFault.{NumberFault}
 use Rattle.tm_base.specs.declared.limits.TheConstants.{DEFAULT_EVENTS, MOST_EVENTS}
-use Rattle.tm_words.specs.declared.command.BuildWords.{BuildWords}
-use Rattle.tm_words.specs.declared.command.RunWords.{RunWords}
-use Rattle.tm_words.specs.declared.command.CommandWords.{CommandWords}
-use Rattle.tm_words.specs.declared.command.CommandWords.TheVariants as words
-use Rattle.tm_words.specs.declared.words.RunOption as code
-use Rattle.tm_words.specs.declared.words.RunOption.TheVariants as options
+use Rattle.tm_words.specs.declared.command.Build.{Build}
+use Rattle.tm_words.specs.declared.command.Run.{Run}
+use Rattle.tm_words.specs.declared.command.Command.{Command}
+use Rattle.tm_words.specs.declared.command.Command.TheVariants as commands
+use Rattle.tm_words.specs.declared.command.WordsFault.{WordsFault}
+use Rattle.tm_words.specs.declared.command.WordsFault.TheVariants.{Refused, NoMemory}
 
--- what a build command asks for: three file names and a seed
-pub record Build : Type 0 where
-  pub topo : List ℕ
-  pub template : List ℕ
-  pub out : List ℕ
-  pub seed : ℕ
+-- the bytes of a word, a name or a value
+abbrev pub Text : Type 0
+Text = List ℕ
 
--- what a run asks for: an image's name, the most events, and whether each hart is driven by a thread of its own
-pub record Run : Type 0 where
-  pub image : List ℕ
-  pub events : ℕ
-  pub threads : Bool
+-- ---- names and values
 
--- a command: an image is built, the image of a name is listed or run, or the sample of a number is built and run
-pub data Command : Type 0 where
-  to_build : Build → Command
-  to_list : (image : List ℕ) → Command
-  to_run : Run → Command
-  to_sample : (number : ℕ) → Command
-
--- ---- names
-
--- a name is not empty and doesn't begin with a dash
-abbrev pub is_name : List ℕ → Bool
+-- a name is not empty and doesn't begin with a dash; nor does a value
+abbrev pub is_name : Text → Bool
 is_name [] = false
 is_name (first ∷ rest) = not (first == 45)
 
 -- ---- a build
 
 -- the command of three names and what a word reads as
-abbrev pub build_of : (topo template out : List ℕ) → Result ℕ NumberFault → Option Command
+abbrev pub build_of : (topo template out : Text) → Result ℕ NumberFault → Option Command
 build_of topo template out (Ok seed) =
-    Some (to_build (record { topo = topo; template = template; out = out; seed = seed }))
+    Some (commands.Build (record { topo = topo; template = template; out = out; seed = seed }))
 build_of topo template out (Err fault) = None
 
--- the build that the words behind `build` ask for
-abbrev pub build_behind : List ℕ → List (List ℕ) → Option Command
-build_behind topo (template ∷ out ∷ option ∷ seed ∷ []) =
-    if bytes_eq option (codes "--seed") && is_name topo && is_name template && is_name out
-    then build_of topo template out (number_of seed)
-    else None
-build_behind topo _ = None
+-- the build that names and the value of `--seed` ask for: there are three names and a seed
+abbrev pub build_asked : List Text → (seed : Option Text) → Option Command
+build_asked (topo ∷ template ∷ out ∷ []) (Some seed) = build_of topo template out (number_of seed)
+build_asked _ _ = None
 
 -- ---- a listing
 
--- the listing that the words behind `list` ask for
-abbrev pub list_behind : List ℕ → List (List ℕ) → Option Command
-list_behind image [] = if is_name image then Some (to_list image) else None
-list_behind image _ = None
+-- the listing that names ask for: there is one
+abbrev pub list_asked : List Text → Option Command
+list_asked (image ∷ []) = Some (commands.List image)
+list_asked _ = None
 
 -- ---- a run
 
--- the most events of a run that doesn't say how many
-abbrev pub default_events : ℕ
-default_events = DEFAULT_EVENTS
-
--- the most events that a run may say
-abbrev pub most_events : ℕ
-most_events = MOST_EVENTS
-
--- what one option of a run says
-pub data RunOption : Type 0 where
-  Events : (most : ℕ) → RunOption
-  Order : (threads : Bool) → RunOption
-
 -- so many events, where they are 1 to the most that there may be
-abbrev pub events_of : Result ℕ NumberFault → Option RunOption
-events_of (Ok n) = if nat_le 1 n && nat_le n most_events then Some (Events n) else None
+abbrev pub events_of : Result ℕ NumberFault → Option ℕ
+events_of (Ok n) = if nat_le 1 n && nat_le n MOST_EVENTS then Some n else None
 events_of (Err fault) = None
 
+-- how many events the value of `--events` asks for
+abbrev pub events_asked : Option Text → Option ℕ
+events_asked None = Some DEFAULT_EVENTS
+events_asked (Some value) = events_of (number_of value)
+
 -- the order of a run, by its name
-abbrev pub order_of : List ℕ → Option RunOption
+abbrev pub order_of : Text → Option Bool
 order_of name =
-    if bytes_eq name (codes "threads") then Some (Order true)
-    else if bytes_eq name (codes "round") then Some (Order false) else None
+    if bytes_eq name (codes "threads") then Some true
+    else if bytes_eq name (codes "round") then Some false else None
 
--- the option of a name and a value
-abbrev pub option_of : (name value : List ℕ) → Option RunOption
-option_of name value =
-    if bytes_eq name (codes "--events") then events_of (number_of value)
-    else if bytes_eq name (codes "--order") then order_of value else None
+-- whether the value of `--order` asks for threads
+abbrev pub order_asked : Option Text → Option Bool
+order_asked None = Some true
+order_asked (Some value) = order_of value
 
--- a run of an image with no option
-abbrev pub run_plain : List ℕ → Run
-run_plain image = record { image = image; events = default_events; threads = true }
+-- the run of an image with these events, this order and these further files
+abbrev pub run_of : (image : Text) → (events : Option ℕ) → (threads : Option Bool) → (faults trace : Option Text)
+    → Option Command
+run_of image (Some events) (Some threads) faults trace = Some (commands.Run (record {
+  image = image;
+  events = events;
+  threads = threads;
+  faults = faults;
+  trace = trace;
+}))
+run_of image _ _ faults trace = None
 
--- a run of an image with one option
-abbrev pub run_with_one : List ℕ → Option RunOption → Option Run
-run_with_one image (Some (Events most)) = Some (record { image = image; events = most; threads = true })
-run_with_one image (Some (Order threads)) =
-    Some (record { image = image; events = default_events; threads = threads })
-run_with_one image None = None
-
--- a run of an image with two options, one of each kind
-abbrev pub run_with_two : List ℕ → Option RunOption → Option RunOption → Option Run
-run_with_two image (Some (Events most)) (Some (Order threads)) =
-    Some (record { image = image; events = most; threads = threads })
-run_with_two image (Some (Order threads)) (Some (Events most)) =
-    Some (record { image = image; events = most; threads = threads })
-run_with_two image _ _ = None
-
--- the run of an image with the options that these words are
-abbrev pub run_of : List ℕ → List (List ℕ) → Option Run
-run_of image [] = Some (run_plain image)
-run_of image (name ∷ value ∷ []) = run_with_one image (option_of name value)
-run_of image (name ∷ value ∷ other ∷ its_value ∷ []) =
-    run_with_two image (option_of name value) (option_of other its_value)
-run_of image _ = None
-
--- the run that the words behind `run` ask for
-abbrev pub run_behind : List ℕ → List (List ℕ) → Option Command
-run_behind image options = if is_name image then option_map to_run (run_of image options) else None
+-- the run that names and the values of its options ask for: there is one name
+abbrev pub run_asked : List Text → (events order faults trace : Option Text) → Option Command
+run_asked (image ∷ []) events order faults trace =
+    run_of image (events_asked events) (order_asked order) faults trace
+run_asked _ events order faults trace = None
 
 -- ---- a sample
 
 -- the sample of the number that a word reads as
 abbrev pub sample_of : Result ℕ NumberFault → Option Command
-sample_of (Ok number) = Some (to_sample number)
+sample_of (Ok number) = Some (commands.Sample number)
 sample_of (Err fault) = None
 
--- the sample that the words behind `sample` ask for
-abbrev pub sample_behind : List ℕ → List (List ℕ) → Option Command
-sample_behind number [] = sample_of (number_of number)
-sample_behind number _ = None
-
--- ---- all commands
-
--- the command of its name, the word behind it and all further ones
-abbrev pub command_behind : (name first : List ℕ) → List (List ℕ) → Option Command
-command_behind name first rest =
-    if bytes_eq name (codes "build") then build_behind first rest
-    else if bytes_eq name (codes "list") then list_behind first rest
-    else if bytes_eq name (codes "run") then run_behind first rest
-    else if bytes_eq name (codes "sample") then sample_behind first rest else None
-
--- the command that the words are, if they are of a form
-unfoldable pub command_of : List (List ℕ) → Option Command
-command_of (name ∷ first ∷ rest) = command_behind name first rest
-command_of _ = None
-
--- a command that waits for nobody: no run whose harts are driven by threads
-abbrev pub still_only : Option Command → Option Command
-still_only (Some (to_run r)) = if r.threads then None else Some (to_run r)
-still_only c = c
-
--- the command that the words are, where only those that wait for nobody may be asked for, or all
-abbrev pub command_if : (still_alone : Bool) → List (List ℕ) → Option Command
-command_if true words = still_only (command_of words)
-command_if false words = command_of words
+-- the sample that names ask for: there is one, and it is a number
+abbrev pub sample_asked : List Text → Option Command
+sample_asked (number ∷ []) = sample_of (number_of number)
+sample_asked _ = None
 
 -- ---- what the code holds
 
 -- the bytes of the words
-abbrev pub bytes_of_words : List (String Global) → List (List ℕ)
+abbrev pub bytes_of_words : List (String Global) → List Text
 bytes_of_words words = map string_bytes words
 
--- the option that the code holds, if it holds one
-abbrev pub option_in : Option code.RunOption → Option RunOption
-option_in (Some (options.Events most)) = Some (Events most)
-option_in (Some (options.Order threads)) = Some (Order threads)
-option_in None = None
+-- the text behind a reference, if there is one
+abbrev pub text_in : Option (Bor Text) → Option Text
+text_in = option_map (λ s. s.now)
 
--- the build that the code holds
-abbrev pub build_in : BuildWords → Build
-build_in b = record { topo = b.topo.now; template = b.template.now; out = b.out.now; seed = b.seed }
+-- The answer tells what is asked for: this command, or none. Or there was no memory.
+abbrev pub Tells : Option Command → Result Command WordsFault → Type 0
+Tells asked (Ok command) = asked ≡ Some command
+Tells asked (Err Refused) = asked ≡ None
+Tells asked (Err NoMemory) = Unit {0}
 
--- the run that the code holds
-abbrev pub run_in : RunWords → Run
-run_in r = record { image = r.image.now; events = r.events; threads = r.threads }
+-- ---- which commands there are
 
--- the command that the code holds
-abbrev pub command_in : CommandWords → Command
-command_in (words.Build b) = to_build (build_in b)
-command_in (words.List image) = to_list image.now
-command_in (words.Run r) = to_run (run_in r)
-command_in (words.Sample number) = to_sample number
+-- a run within the limit of events; and every other command
+abbrev pub IsInRange : Command → Type 0
+IsInRange (commands.Run r) = (1 ≤ r.events) × (r.events ≤ MOST_EVENTS)
+IsInRange _ = Unit {0}
+
+-- a command that waits for nobody: a run in round order; and every other command
+abbrev pub IsStill : Command → Type 0
+IsStill (commands.Run r) = r.threads ≡ false
+IsStill _ = Unit {0}

@@ -1,8 +1,13 @@
 //! The words of the command line, read as a command.
 #![tactic(auto)]
 
+mod asked;
 mod command;
+mod fit;
+pub mod laws;
+mod parser;
+mod search;
 mod words;
 
-pub use command::{BuildWords, CommandWords, RunWords};
+pub use command::{Build, Command, Run, WordsFault};
 pub use words::read_words;

@@ -1,0 +1,14 @@
+use Rattle.std.proofs.Common.{◌≡◌, ◌∙◌, ap, ap₂, codes}
+use Rattle.clap.specs.Words.{rows_of, found_of, first_of}
+use Rattle.tm_words.specs.Words.{build_asked, list_asked, run_asked, sample_asked}
+use Rattle.tm_words.proofs.Verbs.{names_some, names_none, asked_as, run_same}
+use Rattle.tm_words.proofs.search.sample_said.Goals as goal
+
+pub returns-in-Some : goal.returns-in-Some
+returns-in-Some c =
+    asked_as c.sample_asked.result _ _ (ap sample_asked (names_some (found_of c.args.found.now) _ (rw c.in-Some.is at
+    c.get_raw.ensures))) c.sample_asked.ensures
+
+pub returns-in-None : goal.returns-in-None
+returns-in-None c =
+    ap (λ ns. sample_asked ns) (names_none (found_of c.args.found.now) (rw c.in-None.is at c.get_raw.ensures))
