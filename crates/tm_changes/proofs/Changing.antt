@@ -86,22 +86,31 @@ all-behind p lines h q pc before none =
 
 -- ---- lines that don't speak of a step
 
--- the slot of a line that speaks of a step stands there
-pub names-stands : (p : Program) (line : FaultLine) (h q pc : ℕ) → names p line h q pc ≡ true
-    → slot_of_line p line ≡ pc
+-- A line that speaks of a hart's step at pc: it is the hart's, and its slot, which lies in its stream, stands at pc.
+pub record Speaks (p : Program) (line : FaultLine) (h pc : ℕ) : Type 0 where
+  pub its_hart : line.hart ≡ h
+  pub within : inside p line.hart line.case pc ≡ true
+  pub stands : slot_of_line p line ≡ pc
+
+pub speaks : (p : Program) (line : FaultLine) (h q pc : ℕ) → names p line h q pc ≡ true → Speaks p line h pc
 unfolding names
-names-stands p line h q pc e = by (case_of_phase p q) e
+speaks p line h q pc e = by (case_of_phase p q) e
   where
-    by : (o : Option ℕ) → names_in p line h (pass_of_phase p q) pc o ≡ true → slot_of_line p line ≡ pc
+    by : (o : Option ℕ) → names_in p line h (pass_of_phase p q) pc o ≡ true → Speaks p line h pc
     by None f = absurd (true≢false (sym f))
     by (Some c) f =
         let (its_hart, rest) = and_parts (line.hart == h) _ f in
         let (its_case, more) = and_parts (line.case == c) _ rest in
         let (its_pass, slot) = and_parts (is_of_pass line.pass (pass_of_phase p q)) _ more in
-        let (inside, stands) = and_parts (inside p h c pc) _ slot in
-        ap₂ (λ (g d : ℕ). start_of p g d + 4 * line.slot) (eqb-true line.hart h its_hart)
-        (eqb-true line.case c its_case)
-        ∙ eqb-true (start_of p h c + 4 * line.slot) pc stands
+        let (inside_it, stands) = and_parts (inside p h c pc) _ slot in
+        let hart = eqb-true line.hart h its_hart in
+        let case = eqb-true line.case c its_case in
+        record {
+          its_hart = hart;
+          within = ap₂ (λ (g d : ℕ). inside p g d pc) hart case ∙ inside_it;
+          stands = ap₂ (λ (g d : ℕ). start_of p g d + 4 * line.slot) hart case
+              ∙ eqb-true (start_of p h c + 4 * line.slot) pc stands;
+        }
 
 pub none-here : (p : Program) (lines : List FaultLine) (h q pc : ℕ)
     → ((k : ℕ) (line : FaultLine) → slice_get lines k ≡ Some line → names p line h q pc ≡ false)
@@ -129,7 +138,7 @@ unmarked p lines named h q pc mark kept fits from few is unset =
     by : (k : ℕ) (line : FaultLine) → slice_get lines k ≡ Some line → (b : Bool) → names p line h q pc ≡ b → b ≡ false
     by k line found false e = refl
     by k line found true e =
-        let stands = names-stands p line h q pc e in
+        let stands = (speaks p line h q pc e).stands in
         let set = kept.marked k line (slice_get_within lines k line found) found pc fits stands from room in
         absurd (true≢false (sym set ∙ here))
 

@@ -57,8 +57,8 @@ impl<'a> Changes<'a> {
         })
     }
 
-    /// What the script changes in the step of hart `h` at `pc` in a phase; none is no change. Asked: `pc` is the address
-    /// of a word of the text, or lies in one.
+    /// What the script changes in the step of hart `h` at `pc` in a phase; none is no change. Asked: `pc` lies in a word
+    /// of the text.
     pub fn at(&self, h: u32, phase: u64, pc: u64) -> Option<Change>
         requires from { text_base ≤ pc }
         requires within { place_of pc < length self.now.program.text }

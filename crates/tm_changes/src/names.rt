@@ -1,5 +1,5 @@
 // Of which steps a line speaks.
-ghost use Rattle.std.specs.Prelude.{◌≡◌, ◌&&◌, ◌==◌, ◌*◌, ◌+◌, nat_le, nat_lt, slice_index, length, true, false};
+ghost use Rattle.std.specs.Prelude.{◌≡◌, ◌*◌, ◌+◌, slice_index, length};
 ghost use Rattle.tm_plan_cases.specs.Shaped.{IsProgram};
 ghost use Rattle.tm_world.specs.Place.{start_of, end_of, passes};
 ghost use Rattle.tm_world.specs.Writers.{case_of_phase};
