@@ -1,27 +1,26 @@
 -- What the parse of words comes to, by the parts that they spell.
-use Rattle.std.proofs.Common.{◌≡◌, ◌≢◌, ◌∙◌, ◌<◌, ◌+◌, ◌==◌, ◌&&◌, ◌||◌, not, ℕ, Bool, cond, true, false, zero, suc}
-use Rattle.std.proofs.Common.{refl, sym, ap, ap₂, subst, arith, List, [], ◌∷◌, ◌++◌, map, length, take, drop, Option}
-use Rattle.std.proofs.Common.{Some, None, find, is_some, codes, true≢false, inl, inr, ◌⊎◌, append_assoc, append-nil}
-use Rattle.std.proofs.Common.{nat_lt, nat_eq, get_or, position}
+use Rattle.std.proofs.Common.{◌≡◌, ◌∙◌, ◌<◌, ◌+◌, ◌==◌, ◌&&◌, ◌||◌, not, ℕ, Bool, cond, true, false, suc}
+use Rattle.std.proofs.Common.{refl, sym, ap, ap₂, arith, List, [], ◌∷◌, ◌++◌, map, length, drop, Option}
+use Rattle.std.proofs.Common.{Some, None, true≢false, inl, inr}
+use Rattle.std.proofs.Common.{nat_lt, nat_eq, get_or}
 use Rattle.std.specs.Option.{option_map_or}
 use Rattle.std.specs.Str.{bytes_eq}
 use Rattle.std.specs.List.{list_any, list_all, fold, before_first, after_first, position_or_len, starts_with}
 use Rattle.std.proofs.lemmas.Bool.Decides.{nat_tests}
-use Rattle.std.proofs.lemmas.Grind.{common_steps}
 use Rattle.std.proofs.lemmas.List.Sums.{split_at_first, passes_at_first}
 use Rattle.clap.specs.Lexer.{name_and_value}
-use Rattle.clap.specs.Walk.{Text, Rule, Row, Held, Walk, walked, settled_rows}
+use Rattle.clap.specs.Walk.{Text, Row, Walk, walked, settled_rows}
 use Rattle.clap.specs.Kinds.{Kinds, or_else}
 use Rattle.clap.specs.Faults.{turn_fault, settle_fault, walk_fault}
 use Rattle.clap.proofs.LexerLemmas.{name_and_value-at, name_and_value-without}
 use Rattle.clap.proofs.CutLemmas.{list_any-at, after_first-at}
 use Rattle.tm_words.specs.Words.{is_name}
-use Rattle.tm_words.specs.Form.{Part, Given, is_among, dashed, spelled, all_spelled, ending, behind, names_in}
+use Rattle.tm_words.specs.Form.{Part, is_among, dashed, all_spelled, ending, behind, names_in}
 use Rattle.tm_words.specs.Form.{options_in, is_part_of}
 use Rattle.tm_words.specs.Form.Part.{a_name, apart, joined}
 use Rattle.tm_words.specs.Parser.{has_fit_value, is_clean, are_fit}
 use Rattle.tm_words.proofs.Plain.{both, both_nil, not_false, is_nil, false_or_true, lacks, or_else-assoc, or_else-nil}
-use Rattle.tm_words.proofs.Rules.{rules_of, built_shape, are_good, good_among, is_good, no_equals}
+use Rattle.tm_words.proofs.Rules.{rules_of, built_shape, are_good, good_among, no_equals}
 use Rattle.tm_words.proofs.Uses.{Use, settle, clash, settle_all, clash_all, names_used, options_used, are_options}
 use Rattle.tm_words.proofs.Uses.Use.{nothing, named, valued}
 use Rattle.tm_words.proofs.Walking as walking
