@@ -16,7 +16,7 @@ use Rattle.tm_words.proofs.Uses.{values_are}
 use Rattle.tm_words.proofs.Uses.Use.{nothing}
 use Rattle.tm_words.proofs.Walking.{between}
 use Rattle.tm_words.proofs.Spelling as spelling
-use Rattle.tm_words.proofs.Spelling.{Cut, all_uses, names_of_uses, options_of_uses, fit_options}
+use Rattle.tm_words.proofs.Parts.{parts_fit, all_uses, names_of_uses, options_of_uses, fit_options}
 
 module _ (os : List Text) (good : are_good os ≡ true) (name : Text) where
   abbrev at_start : Walk
@@ -74,7 +74,7 @@ module _ (os : List Text) (good : are_good os ≡ true) (name : Text) where
         let fit = ap (are_options os) options ∙ fit_options os sp.parts sp.fit in
         let once =
         once_is os uses [] [] good (λ o e. refl) fit ∙ ap (come_once []) (options ∙ sym sp.are_given) ∙ sp.once in (
-          ap (are_fit false) sp.spells ∙ spelling.parts_fit os good sp.parts sp.rest sp.fit sp.fit_behind,
+          ap (are_fit false) sp.spells ∙ parts_fit os good sp.parts sp.rest sp.fit sp.fit_behind,
           faults_are words ∙ ap (spelling.total os good name at_start) sp.spells ∙ spelling.parts_faults os good name
               sp.parts sp.rest [] nothing false refl sp.fit ∙ nil_is (clash_all [] uses) once,
         )

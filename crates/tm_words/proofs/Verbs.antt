@@ -300,8 +300,9 @@ told_behind v ws = elim (false_or_true (are_fit false ws)) [
     by fit fine (Some c) is =
         inl (
           c,
-          spelled_behind v ws (matches_of (parser v) ws) c (is_read (options_of v) (good v) (verb_word v) (parser
-              v) (built_of v) (bare v) ws (matches_of (parser v) ws) refl fit (nil_is (fault_of (parser v) ws) fine)) is,
+          spelled_behind v ws (matches_of (parser v) ws) c
+              (is_read (options_of v) (good v) (verb_word v) (parser v) (built_of v) (bare v) ws
+              (matches_of (parser v) ws) refl fit (nil_is (fault_of (parser v) ws) fine)) is,
         )
     by fit fine None is =
         inr (none_spelled v ws (matches_of (parser v) ws) (is_read (options_of v) (good v) (verb_word v) (parser v)
