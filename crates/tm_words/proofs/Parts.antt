@@ -237,8 +237,8 @@ cut_name os n ws e c = record {
   fit_behind = c.fit_behind;
 }
 
-pub cut_joined_word : (os : List Text) (w o v : Text) (ws : List Text) → w ≡ 45 ∷ 45 ∷ (o ++ 61 ∷ v) → is_among os o ≡ true
-    → is_name v ≡ true → Cut os ws → Cut os (w ∷ ws)
+pub cut_joined_word : (os : List Text) (w o v : Text) (ws : List Text) → w ≡ 45 ∷ 45 ∷ (o ++ 61 ∷ v)
+    → is_among os o ≡ true → is_name v ≡ true → Cut os ws → Cut os (w ∷ ws)
 cut_joined_word os w o v ws is among e c = record {
   parts = joined o v ∷ c.parts;
   rest = c.rest;
