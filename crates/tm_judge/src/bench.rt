@@ -10,12 +10,9 @@ ghost use Rattle.tm_judge.specs.Bench.{IsOpened, AreOpened, IsNoted, AreNoted};
 use std::alloc::Global;
 use tm_base::NoMemory;
 use tm_plan_cases::Event;
-use tm_plan_map::flag_addr;
+use tm_plan_map::{TEXT_ADDRESS, flag_addr};
 use tm_ram::Ram;
 use tm_table::{Access, Cpu};
-
-// Where the text begins.
-const TEXT: u64 = 0x8000_0000;
 
 /// A hart. `phase` counts its steps at its exit mark, and `signals` its writes of its flag.
 #[derive(Clone, Copy)]
@@ -89,7 +86,7 @@ fn first_cpu(h: u32) -> Cpu
 {
     let mut x = [0; 32];
     x[10] = u64::from(h);
-    Cpu::new(TEXT, x)
+    Cpu::new(TEXT_ADDRESS, x)
 }
 
 /// Writes what an access writes.
