@@ -8,6 +8,7 @@ use Rattle.std.proofs.lemmas.Bool.{cases_eq, cases_lt}
 use Rattle.tm_table.specs.declared.state.Access.{Access}
 use Rattle.tm_table.specs.declared.state.Access.TheVariants.{Quiet, Read, Write}
 use Rattle.tm_plan_cases.specs.declared.program.Program.{Program}
+use Rattle.tm_plan_map.specs.declared.addresses.TheConstants.{WINDOWS_BYTES}
 use Rattle.tm_plan_map.specs.Map.{windows_base}
 use Rattle.tm_runs.proofs.Bytes.{byte-shift}
 use Rattle.tm_world.proofs.Accesses.{written-inside, written-outside}
@@ -107,7 +108,7 @@ module _ (p : Program) (h q addr i value v : ℕ) (a b c : List (BTreeMap ℕ La
           ∙ (first.mine d k
           ∙ sym (ap (λ (w : Option ℕ). newer w q (get nat_cmp (get_or a h d) k)) (written-before addr i value k z))))
 
-  here-more : (k : ℕ) (d : BTreeMap ℕ ℕ) → k < 6144 → (x : ℕ)
+  here-more : (k : ℕ) (d : BTreeMap ℕ ℕ) → k < WINDOWS_BYTES → (x : ℕ)
       → written (Write addr (i + 1) value) (windows_base + k) ≡ Some x → IsTrue (alone p q h (windows_base + k))
       → get nat_cmp (get_or o k d) q ≡ Some x
   here-more k d l x e t = by (cases_eq (windows_base + k) (addr + i))
@@ -124,7 +125,7 @@ module _ (p : Program) (h q addr i value v : ℕ) (a b c : List (BTreeMap ℕ La
           then.there k d q l (λ u w. none)
           ∙ first.here k d l x (sym (written-before addr i value (windows_base + k) z) ∙ e) t
 
-  there-more : (k : ℕ) (d : BTreeMap ℕ ℕ) (r : ℕ) → k < 6144
+  there-more : (k : ℕ) (d : BTreeMap ℕ ℕ) (r : ℕ) → k < WINDOWS_BYTES
       → (r ≡ q → IsTrue (alone p q h (windows_base + k))
       → written (Write addr (i + 1) value) (windows_base + k) ≡ None)
       → get nat_cmp (get_or o k d) r ≡ get nat_cmp (get_or m k d) r

@@ -7,6 +7,7 @@ use Rattle.std.specs.Ordering.{nat_cmp}
 use Rattle.std.proofs.lemmas.Bool.{cases_eq, cases_Bool, and_parts, and_from}
 use Rattle.tm_table.specs.declared.state.Access.{Access}
 use Rattle.tm_plan_cases.specs.declared.program.Program.{Program}
+use Rattle.tm_plan_map.specs.declared.addresses.TheConstants.{WINDOWS_BYTES}
 use Rattle.tm_plan_map.specs.Map.{windows_base, windows_size}
 use Rattle.tm_race.specs.Masks.{EachIs}
 use Rattle.tm_plan_map.proofs.Within.{within-true}
@@ -43,7 +44,7 @@ writers-alone p q h b w e =
     (and_from (not (another h (writers p q b))) (may_write p q h b)
     (ap (λ (ws : List ℕ). not (another h ws)) e ∙ ap not (another-self h)) (writer-may p q b h [] e))
 
-window-byte : (k : ℕ) → k < 6144 → is_window (windows_base + k) ≡ true
+window-byte : (k : ℕ) → k < WINDOWS_BYTES → is_window (windows_base + k) ≡ true
 unfolding windows_size
 window-byte k l = within-true windows_base windows_size (windows_base + k) (omega arith) (omega arith)
 
@@ -111,7 +112,7 @@ module _ (p : Program) (s : Step) (past : List Step) (last news : List (BTreeMap
       by b (inr z) =
           n.others g d b z ∙ ((o.last.each g d m).each b ∙ sym (latest-there p s past b g (λ e. z (sym e))))
 
-  mark-more : (k : ℕ) (d : BTreeMap ℕ ℕ) → k < 6144 → IsMarked p (s ∷ past) k (get_or settles k d)
+  mark-more : (k : ℕ) (d : BTreeMap ℕ ℕ) → k < WINDOWS_BYTES → IsMarked p (s ∷ past) k (get_or settles k d)
   mark-more k d m = record {
     each = λ r. by r (written (access_of s) (windows_base + k)) refl
         (cases_Bool (alone p (phase_of p past (hart_of s)) (hart_of s) (windows_base + k)))

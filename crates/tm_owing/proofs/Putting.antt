@@ -10,6 +10,7 @@ use Rattle.std.proofs.lemmas.Bool.{cases_eq, true≢false, and_parts}
 use Rattle.std.proofs.lemmas.List.{get_or_default}
 use Rattle.tm_table.specs.declared.state.Access.TheVariants.{Write}
 use Rattle.tm_plan_cases.specs.declared.program.Program.{Program}
+use Rattle.tm_plan_map.specs.declared.addresses.TheConstants.{WINDOWS_ADDRESS, WINDOWS_BYTES}
 use Rattle.tm_plan_map.specs.Map.{windows_base, windows_size}
 use Rattle.tm_plan_map.proofs.Within.{within-parts}
 use Rattle.tm_world.specs.Place.{is_window}
@@ -22,14 +23,14 @@ use Rattle.tm_owing.specs.Owed.{Notes, newer}
 use Rattle.tm_owing.proofs.Noting.{written-one, written-else}
 
 -- where a byte of the windows stands
-pub window-place : (b : ℕ) → is_window b ≡ true → (2162688000 ≤ b) × (b < 2162694144)
+pub window-place : (b : ℕ) → is_window b ≡ true → (WINDOWS_ADDRESS ≤ b) × (b < WINDOWS_ADDRESS + WINDOWS_BYTES)
 unfolding windows_base windows_size
 window-place b e = let q = within-parts windows_base windows_size b e in (omega (arith, q), omega (arith, q))
 
-pub alone-place : (p : Program) (q h b : ℕ) → alone p q h b ≡ true → (2162688000 ≤ b) × (b < 2162694144)
+pub alone-place : (p : Program) (q h b : ℕ) → alone p q h b ≡ true → (WINDOWS_ADDRESS ≤ b) × (b < WINDOWS_ADDRESS + WINDOWS_BYTES)
 alone-place p q h b t = window-place b (and_parts (is_window b) _ t).0
 
-pub base-is : windows_base ≡ 2162688000
+pub base-is : windows_base ≡ WINDOWS_ADDRESS
 unfolding windows_base
 base-is = refl
 
@@ -89,49 +90,49 @@ module _ (p : Program) (h q b v : ℕ) (last : List (BTreeMap ℕ Latest)) (mark
   }
 
   -- where it settles
-  module _ (long : length marks ≡ 6144) (t : alone p q h b ≡ true) (m n : BTreeMap ℕ ℕ)
-      (stood : m ≡ get_or marks (b - 2162688000) m) (mark : IsPut q v m n) where
-    place : windows_base + (b - 2162688000) ≡ b
+  module _ (long : length marks ≡ WINDOWS_BYTES) (t : alone p q h b ≡ true) (m n : BTreeMap ℕ ℕ)
+      (stood : m ≡ get_or marks (b - WINDOWS_ADDRESS) m) (mark : IsPut q v m n) where
+    place : windows_base + (b - WINDOWS_ADDRESS) ≡ b
     place = let l = alone-place p q h b t in omega (arith, base-is, l)
 
-    room : b - 2162688000 < length marks
+    room : b - WINDOWS_ADDRESS < length marks
     room = let l = alone-place p q h b t in omega (arith, l, long)
 
-    at-place : (k : ℕ) → windows_base + k ≡ b → k ≡ b - 2162688000
+    at-place : (k : ℕ) → windows_base + k ≡ b → k ≡ b - WINDOWS_ADDRESS
     at-place k e = omega (arith, base-is, e)
 
-    set-at : (k : ℕ) (d : BTreeMap ℕ ℕ) → windows_base + k ≡ b → get_or (set marks (b - 2162688000) n) k d ≡ n
+    set-at : (k : ℕ) (d : BTreeMap ℕ ℕ) → windows_base + k ≡ b → get_or (set marks (b - WINDOWS_ADDRESS) n) k d ≡ n
     set-at k d e =
-        ap (λ (j : ℕ). get_or (set marks (b - 2162688000) n) j d) (at-place k e)
-        ∙ get_or-set_same marks (b - 2162688000) n d room
+        ap (λ (j : ℕ). get_or (set marks (b - WINDOWS_ADDRESS) n) j d) (at-place k e)
+        ∙ get_or-set_same marks (b - WINDOWS_ADDRESS) n d room
 
     was-at : (k : ℕ) (d : BTreeMap ℕ ℕ) → windows_base + k ≡ b → m ≡ get_or marks k d
     was-at k d e =
-        stood ∙ (get_or_default marks (b - 2162688000) m d room
+        stood ∙ (get_or_default marks (b - WINDOWS_ADDRESS) m d room
         ∙ ap (λ (j : ℕ). get_or marks j d) (sym (at-place k e)))
 
-    here-put : (k : ℕ) (d : BTreeMap ℕ ℕ) → k < 6144 → (x : ℕ) → written (Write b 1 v) (windows_base + k) ≡ Some x
+    here-put : (k : ℕ) (d : BTreeMap ℕ ℕ) → k < WINDOWS_BYTES → (x : ℕ) → written (Write b 1 v) (windows_base + k) ≡ Some x
         → IsTrue (alone p q h (windows_base + k))
-        → get nat_cmp (get_or (set marks (b - 2162688000) n) k d) q ≡ Some x
+        → get nat_cmp (get_or (set marks (b - WINDOWS_ADDRESS) n) k d) q ≡ Some x
     here-put k d l x e u =
         let s = some-byte (windows_base + k) x e in
         ap (λ (z : BTreeMap ℕ ℕ). get nat_cmp z q) (set-at k d s)
         ∙ (put-here q q v m n mark refl
         ∙ (sym (written-one b v small) ∙ (ap (written (Write b 1 v)) (sym s) ∙ e)))
 
-    there-put : (k : ℕ) (d : BTreeMap ℕ ℕ) (r : ℕ) → k < 6144
+    there-put : (k : ℕ) (d : BTreeMap ℕ ℕ) (r : ℕ) → k < WINDOWS_BYTES
         → (r ≡ q → IsTrue (alone p q h (windows_base + k)) → written (Write b 1 v) (windows_base + k) ≡ None)
-        → get nat_cmp (get_or (set marks (b - 2162688000) n) k d) r ≡ get nat_cmp (get_or marks k d) r
+        → get nat_cmp (get_or (set marks (b - WINDOWS_ADDRESS) n) k d) r ≡ get nat_cmp (get_or marks k d) r
     there-put k d r l none = by (cases_eq (windows_base + k) b) (cases_eq r q)
       where
         none-some : (o : Option ℕ) → o ≡ None → o ≡ Some v → ⊥
         none-some o x y = cc
 
         by : (windows_base + k ≡ b) ⊎ (windows_base + k ≡ b → ⊥) → (r ≡ q) ⊎ (r ≡ q → ⊥)
-            → get nat_cmp (get_or (set marks (b - 2162688000) n) k d) r ≡ get nat_cmp (get_or marks k d) r
+            → get nat_cmp (get_or (set marks (b - WINDOWS_ADDRESS) n) k d) r ≡ get nat_cmp (get_or marks k d) r
         by (inr z) w =
             ap (λ (y : BTreeMap ℕ ℕ). get nat_cmp y r)
-            (get_or-set_other marks (b - 2162688000) k n d (λ e. z (ap (λ (j : ℕ). windows_base + j) e ∙ place)))
+            (get_or-set_other marks (b - WINDOWS_ADDRESS) k n d (λ e. z (ap (λ (j : ℕ). windows_base + j) e ∙ place)))
         by (inl s) (inr w) =
             ap (λ (y : BTreeMap ℕ ℕ). get nat_cmp y r) (set-at k d s)
             ∙ (put-there q r v m n mark w ∙ ap (λ (y : BTreeMap ℕ ℕ). get nat_cmp y r) (was-at k d s))
@@ -139,12 +140,12 @@ module _ (p : Program) (h q b v : ℕ) (last : List (BTreeMap ℕ Latest)) (mark
             absurd (none-some (written (Write b 1 v) (windows_base + k)) (none w (ap (alone p q h) s ∙ t))
             (ap (written (Write b 1 v)) s ∙ written-one b v small))
 
-    pub notes-put : Notes p h q (Write b 1 v) last (set last h new) marks (set marks (b - 2162688000) n)
+    pub notes-put : Notes p h q (Write b 1 v) last (set last h new) marks (set marks (b - WINDOWS_ADDRESS) n)
     notes-put = record {
       lasts = length-set last h new;
       mine = mine-put;
       others = λ g d k z. ap (λ (y : BTreeMap ℕ Latest). get nat_cmp y k) (get_or-set_other last h g new d z);
-      counts = length-set marks (b - 2162688000) n;
+      counts = length-set marks (b - WINDOWS_ADDRESS) n;
       here = here-put;
       there = there-put;
     }

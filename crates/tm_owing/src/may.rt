@@ -11,10 +11,11 @@ ghost use Rattle.tm_world.specs.Writers.{may_write as may, writers};
 ghost use Rattle.tm_world.specs.Kinds.{another};
 ghost use Rattle.tm_owing.specs.May.{ArePlanes, alone, is_many};
 
-use crate::areas::{WINDOWS, is_flag, is_private, is_verdict, is_window};
+use crate::areas::{is_flag, is_private, is_verdict, is_window};
 use std::alloc::Global;
 use tm_base::{List, NoMemory};
 use tm_plan_cases::{Case, Program};
+use tm_plan_map::WINDOWS_ADDRESS;
 use tm_plane::{Plane, has, is_declared};
 use tm_race_walk::store_plane;
 
@@ -55,7 +56,7 @@ fn collector(program: &Program, b: u64) -> u64
     requires window { IsTrue (is_window_of b) }
     ensures { result ≡ collector_of program.now.cases b }
 {
-    (b - WINDOWS) / u64::from(program.cases.line) % u64::from(program.cases.harts)
+    (b - WINDOWS_ADDRESS) / u64::from(program.cases.line) % u64::from(program.cases.harts)
 }
 
 /// The case that is run in a phase.

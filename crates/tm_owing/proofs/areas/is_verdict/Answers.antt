@@ -5,20 +5,20 @@ use Rattle.tm_base.proofs.ListLemmas.{any-no-number}
 use Rattle.tm_plan_map.proofs.Within.{within-false}
 use Rattle.tm_owing.proofs.areas.is_verdict.Goals as goal
 
-pub returns-then-b-lt-VERDICTS : goal.returns-then-b-lt-VERDICTS
+pub returns-then-b-lt-VERDICTS_ADDRESS : goal.returns-then-b-lt-VERDICTS_ADDRESS
 unfolding verdict_at
-returns-then-b-lt-VERDICTS c =
+returns-then-b-lt-VERDICTS_ADDRESS c =
     let test : ℕ → Bool = λ k. within (verdict_at k c.args.h) 8 c.args.b in
     sym (any-no-number test c.args.cases 0
-    (λ k l m. within-false (verdict_at k c.args.h) 8 c.args.b (inl (omega (arith, c.if-b-lt-VERDICTS.true)))))
+    (λ k l m. within-false (verdict_at k c.args.h) 8 c.args.b (inl (omega (arith, c.if-b-lt-VERDICTS_ADDRESS.true)))))
 
-pub returns-then-b-ge-VERDICTS_END : goal.returns-then-b-ge-VERDICTS_END
+pub returns-then-b-ge-PRIVATE_ADDRESS : goal.returns-then-b-ge-PRIVATE_ADDRESS
 unfolding verdict_at
-returns-then-b-ge-VERDICTS_END c =
+returns-then-b-ge-PRIVATE_ADDRESS c =
     let test : ℕ → Bool = λ k. within (verdict_at k c.args.h) 8 c.args.b in
     sym (any-no-number test c.args.cases 0
     (λ k l m. within-false (verdict_at k c.args.h) 8 c.args.b
-    (inr (omega (arith, m, c.requires.hart, c.requires.few, c.if-b-ge-VERDICTS_END.true)))))
+    (inr (omega (arith, m, c.requires.hart, c.requires.few, c.if-b-ge-PRIVATE_ADDRESS.true)))))
 
 pub returns-then-is_cell : goal.returns-then-is_cell
 returns-then-is_cell c =
