@@ -1,5 +1,6 @@
 // The harts of a recorded run.
 ghost use Rattle.std.specs.Prelude.{◌≡◌, ◌+◌, ◌<◌, ◌^◌, ℕ, length, slice_index_or, IfOk};
+ghost use Rattle.tm_base.specs.declared.limits.TheConstants.{HART_ROOM};
 ghost use Rattle.tm_table.specs.State.{hart_of};
 ghost use Rattle.tm_world.specs.Run.{first_state};
 ghost use Rattle.tm_world.specs.Kinds.{writes_flag as writes_flag_of};
@@ -25,7 +26,7 @@ pub struct Seat {
 impl Seat {
     /// Keeps what an event of this hart, whose exit mark is `exit`, says of it.
     fn note(&mut self, next: Cpu, event: Event, exit: u64)
-        requires few { event.hart < 16 }
+        requires few { event.hart < HART_ROOM }
         requires phase { self.old.phase + 1 < 2 ^ 64 }
         requires signals { self.old.signals + 1 < 2 ^ 64 }
         ensures { IsNoted exit event (hart_of next) self.old self.new }
@@ -43,7 +44,7 @@ impl Seat {
 /// Keeps what an event says of its hart.
 pub fn note(seats: &mut Vec<Seat>, next: Cpu, event: Event, exit: u64)
     requires hart { event.hart < length seats.old.items }
-    requires few { event.hart < 16 }
+    requires few { event.hart < HART_ROOM }
     requires room { (d : Seat) → ((slice_index_or seats.old.items event.hart d).phase + 1 < 2 ^ 64)
         × ((slice_index_or seats.old.items event.hart d).signals + 1 < 2 ^ 64) }
     ensures { AreNoted exit event (hart_of next) seats.old.items seats.new.items }
@@ -103,7 +104,7 @@ pub fn write_for(ram: &mut Ram, access: Access)
 /// Whether an access writes a byte of hart `h`'s flag.
 #[tactic(auto, unfolding(tm_plan_map::specs::Map::flag_at))]
 fn writes_flag(h: u32, access: Access) -> bool
-    requires { h < 16 }
+    requires { h < HART_ROOM }
     ensures { result ≡ writes_flag_of h access }
 {
     match access {
