@@ -17,6 +17,8 @@ use Rattle.tm_tmpl_types.specs.declared.template.TmplFault.TheVariants as tmpl
 use Rattle.tm_tmpl_types.specs.declared.template.Want.TheVariants as want
 use Rattle.tm_table.specs.declared.instr.Op.TheVariants as op
 use Rattle.tm_refusals.specs.declared.rule.RuleFault.TheVariants as rule
+use Rattle.tm_fault.specs.declared.fault.Want2.TheVariants as wanted
+use Rattle.tm_fault.specs.declared.fault.FaultScriptFault.TheVariants as script
 use Rattle.tm_top_line.specs.Inputs.{with_value, shown_key, signed_text, input_text, addr_text}
 use Rattle.tm_top_line.specs.declared.fault.AnyFault.TheVariants as any
 use Rattle.tm_top_line.specs.Lines.{fault_text}
@@ -88,3 +90,23 @@ backward : input_text (Rule (record { pos = record { line = 6; col = 1 }; fault 
     ≡ codes "Rule 6:1 Target 3 -8"
 unfolding digits with_value pos_text shown_key signed_text
 backward = refl
+
+no_hart : fault_text role.Faults (any.Script (script.OutOfRange (record { line = 1; col = 6 }) 2))
+    ≡ codes "threadmill: faults: OutOfRange 1:6 2\n"
+unfolding fault_text digits pos_text
+no_hart = refl
+
+no_branch : fault_text role.Faults (any.Script (script.NoEffect (record { line = 1; col = 29 })))
+    ≡ codes "threadmill: faults: NoEffect 1:29\n"
+unfolding fault_text digits pos_text
+no_branch = refl
+
+one_step_twice : fault_text role.Faults (any.Script (script.Twice (record { line = 2; col = 1 })))
+    ≡ codes "threadmill: faults: Twice 2:1\n"
+unfolding fault_text digits pos_text
+one_step_twice = refl
+
+no_action : fault_text role.Faults (any.Script (script.Expected (record { line = 1; col = 29 }) wanted.Action))
+    ≡ codes "threadmill: faults: Expected 1:29 Action\n"
+unfolding fault_text digits pos_text
+no_action = refl

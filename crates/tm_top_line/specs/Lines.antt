@@ -11,6 +11,7 @@ use Rattle.tm_refusals.specs.declared.image.ImageFault.TheVariants as image
 use Rattle.tm_top_line.specs.declared.fault.AnyFault.{AnyFault}
 use Rattle.tm_top_line.specs.declared.fault.AnyFault.TheVariants as any
 use Rattle.tm_top_line.specs.Inputs.{with_value, input_text, input_wants}
+use Rattle.tm_top_line.specs.Scripts.{script_text, script_wants}
 
 -- how a line names the file that it speaks of (this project)
 abbrev pub role_name : Role → List ℕ
@@ -51,6 +52,7 @@ desk_text desk.NoMemory = []
 abbrev pub any_text : AnyFault → List ℕ
 any_text (any.Input fault) = input_text fault
 any_text (any.Image fault) = image_text fault
+any_text (any.Script fault) = script_text fault
 any_text (any.Desk fault) = desk_text fault
 
 -- the line of a refusal or of a failure (this project)
@@ -65,6 +67,7 @@ wants_memory (any.Image (image.Elf fault)) = false
 wants_memory (any.Image (image.Inputs fault)) = input_wants fault
 wants_memory (any.Image (image.Differs offset)) = false
 wants_memory (any.Image image.NoMemory) = true
+wants_memory (any.Script fault) = script_wants fault
 wants_memory (any.Desk desk.Failed) = false
 wants_memory (any.Desk (desk.TooLong max)) = false
 wants_memory (any.Desk desk.NoMemory) = true

@@ -23,7 +23,8 @@ fn name_of_want(what: Want) -> &'static [u8]
     }
 }
 
-fn put_tokens(out: &mut Bytes, fault: &LexFault) -> Result<(), NoMemory>
+/// The fault of a text's tokens.
+pub fn put_tokens(out: &mut Bytes, fault: &LexFault) -> Result<(), NoMemory>
     ensures { OnOk result (out.new ≡ out.old ++ lex_text fault.now) }
 {
     match fault {

@@ -5,6 +5,7 @@ mod fault;
 mod grammar;
 mod line;
 mod rule;
+mod script;
 mod topology;
 mod values;
 

@@ -7,6 +7,7 @@ ghost use Rattle.tm_top_line.specs.Lines.{wants_memory};
 use crate::fault::AnyFault;
 use crate::grammar::put_grammar;
 use crate::rule::put_rule;
+use crate::script::put_script;
 use crate::topology::put_topology;
 use crate::values::put_value;
 use std::alloc::Global;
@@ -96,6 +97,7 @@ fn put_fault(out: &mut Bytes, fault: &AnyFault) -> Result<(), NoMemory>
     match fault {
         AnyFault::Input(fault) => put_input(out, fault),
         AnyFault::Image(fault) => put_image(out, fault),
+        AnyFault::Script(fault) => put_script(out, *fault),
         AnyFault::Desk(fault) => put_desk(out, *fault),
     }
 }

@@ -9,11 +9,13 @@ use Rattle.tm_refusals.specs.declared.role.Role.TheVariants as roles
 use Rattle.tm_image_build.specs.Opened.{opened}
 use Rattle.tm_top_line.specs.declared.fault.AnyFault.{AnyFault}
 use Rattle.tm_top_line.specs.declared.fault.AnyFault.TheVariants.{Desk}
-use Rattle.tm_words.specs.Words.{Run, Command}
-use Rattle.tm_words.specs.Words.Command.{to_list, to_run}
+use Rattle.tm_words.specs.declared.command.Run.{Run}
+use Rattle.tm_words.specs.declared.command.Command.{Command}
+use Rattle.tm_words.specs.declared.command.Command.TheVariants as commands
 use Rattle.tm_top_owed.specs.declared.stop.Stop.{Stop}
 use Rattle.tm_top_owed.specs.declared.stop.Stop.TheVariants as stop
-use Rattle.tm_top_owed.specs.Inputs.{not_opened, refused_image, fault_of_image, fault_before, first_fault}
+use Rattle.tm_top_owed.specs.Inputs.{not_opened, refused_image, fault_of_image, fault_of_script, fault_before}
+use Rattle.tm_top_owed.specs.Inputs.{first_fault}
 use Rattle.tm_top_owed.specs.Changes.{DeskChange}
 use Rattle.tm_top_owed.specs.Owed.{IsOpened, reads}
 use Rattle.tm_top_owed.specs.Owed.InputFailure.{unread, missing}
@@ -97,22 +99,23 @@ command_stop (stop.Failed by) c name desk input none first (role_is, inr (told, 
 command_stop stop.NoMemory c name desk input none first h = tt
 
 -- a listing stops
-pub list_stop : (s : Stop) (name : List ℕ) (desk : DeskChange) → OpenStop s name desk → InputStop s (to_list name) desk
+pub list_stop : (s : Stop) (name : List ℕ) (desk : DeskChange) → OpenStop s name desk → InputStop s (commands.List name) desk
 unfolding first_fault
-list_stop s name desk h = command_stop s (to_list name) name desk refl refl (λ fault is. rw is refl) h
+list_stop s name desk h = command_stop s (commands.List name) name desk refl refl (λ fault is. rw is refl) h
 
 -- a run stops
-pub run_stop : (s : Stop) (r : Run) (desk : DeskChange) → OpenStop s r.image desk → InputStop s (to_run r) desk
+pub run_stop : (s : Stop) (r : Run) (desk : DeskChange) → OpenStop s r.image desk → InputStop s (commands.Run r) desk
 unfolding first_fault
-run_stop s r desk h = command_stop s (to_run r) r.image desk refl refl (λ fault is. rw is refl) h
+run_stop s r desk h = command_stop s (commands.Run r) r.image desk refl refl (λ fault is. rw is refl) h
 
 -- an image without a fault is a listing's whole input
 pub list_accepted : (name : List ℕ) (held : Files) → fault_of_image name held ≡ None
-    → first_fault (to_list name) held ≡ None
+    → first_fault (commands.List name) held ≡ None
 unfolding first_fault
 list_accepted name held is = rw is refl
 
--- and a run's
-pub run_accepted : (r : Run) (held : Files) → fault_of_image r.image held ≡ None → first_fault (to_run r) held ≡ None
+-- and, with the script, a run's
+pub run_accepted : (r : Run) (held : Files) → fault_of_image r.image held ≡ None → fault_of_script r held ≡ None
+    → first_fault (commands.Run r) held ≡ None
 unfolding first_fault
-run_accepted r held is = rw is refl
+run_accepted r held is script = rw (is, script) refl

@@ -1,6 +1,5 @@
--- Simulations under no script, and how they have ended.
+-- Simulations under a script, and how they have ended.
 use Rattle.std.proofs.Common.{◌≡◌, ℕ, ◌≤◌, List, [], length, ◌⊎◌, inl, inr, sym, ap, ap₂, subst, ◌∙◌, arith}
-use Rattle.std.proofs.lemmas.List.Elements.{All-nil}
 use Rattle.tm_plan_cases.specs.declared.program.Program.{Program}
 use Rattle.tm_plan_cases.specs.declared.event.Event.{Event}
 use Rattle.tm_plan_script.specs.declared.faults.FaultLine.{FaultLine}
@@ -10,7 +9,6 @@ use Rattle.tm_world.specs.Sound.{Sound}
 use Rattle.tm_world.specs.Script.{FaultedRun}
 use Rattle.tm_world.specs.Replay.{run_of}
 use Rattle.tm_world.specs.Work.{NeverStuck}
-use Rattle.tm_memory.specs.Laws.{SoundKeeps}
 use Rattle.tm_pace.specs.Laws.{NoIdleRead}
 use Rattle.tm_guest.specs.declared.turn.RoundEnd.{RoundEnd}
 use Rattle.tm_guest.specs.declared.turn.RoundEnd.TheVariants as ends
@@ -18,29 +16,25 @@ use Rattle.tm_guest.specs.Guested.{Guested, fresh, run, steps}
 use Rattle.tm_guest.specs.Rounds.{IsSame, EndsAs, AllHalted}
 use Rattle.tm_guest.specs.Budget.{HasBudget}
 use Rattle.tm_guest.proofs.Budgeted.{sound-budget}
-use Rattle.tm_top_owed.specs.Runs.{guest_of, IsOver, IsSimulated, IsFull}
+use Rattle.tm_top_owed.specs.Runs.{guest_of, IsOver, IsRunUnder, IsFull}
 
 -- ---- before the run
 
--- no hart of a sound program gets stuck under no script
-pub never_stuck : (p : Program) (lines : List FaultLine) → SoundKeeps p → Sound p → lines ≡ []
-    → NeverStuck p lines
-never_stuck p lines keeps sound none =
-    subst (NeverStuck p) (sym none) (keeps sound [] (All-nil _)).unstuck
+-- no hart of a sound program gets stuck under an accepted script
+pub never_stuck : (p : Program) (lines : List FaultLine) → Sound p → AreAccepted p.cases lines → NeverStuck p lines
+never_stuck p lines sound accepted = λ r is h l. (sound.bound h l).faulted_next lines accepted r is
 
 -- ---- the end of the run
 
 -- turns that have ended, from a guest without an idle read on
-pub over_from : (p : Program) (g t : Guested) (end : RoundEnd) → Sound p → g.program ≡ p → g.faults ≡ []
-    → NoIdleRead g.program (steps g) → IsSame g t → EndsAs end t → (HasBudget g → end ≡ ends.Done) → IsOver p t
-over_from p g t end sound its none quiet same ended bounded = record {
+pub over_from : (p : Program) (g t : Guested) (end : RoundEnd) → Sound p → AreAccepted p.cases g.faults
+    → g.program ≡ p → NoIdleRead g.program (steps g) → IsSame g t → EndsAs end t
+    → (HasBudget g → end ≡ ends.Done) → IsOver p t
+over_from p g t end sound accepted its quiet same ended bounded = record {
   its_program = same.program ∙ its;
-  no_script = same.faults ∙ none;
   ended = by end ended;
   ends = λ room.
-      let kept = sound-budget p in
-      let script = subst (AreAccepted p.cases) (sym none) kept.none in
-      let budget = kept.guest sound g its script quiet (omega (arith, room, same.limit)) in
+      let budget = (sound-budget p).guest sound g its accepted quiet (omega (arith, room, same.limit)) in
       subst (λ (e : RoundEnd). EndsAs e t) (bounded budget) ended;
 }
   where
@@ -50,20 +44,16 @@ over_from p g t end sound its none quiet same ended bounded = record {
 
 -- and from a fresh one on
 pub over : (p : Program) (lines : List FaultLine) (limit : ℕ) (g t : Guested) (end : RoundEnd) → Sound p
-    → g ≡ fresh p lines limit → lines ≡ [] → IsSame g t → EndsAs end t → (HasBudget g → end ≡ ends.Done)
-    → IsOver p t
-over p lines limit g t end sound is none same ended bounded =
-    over_from p g t end sound (ap (λ (x : Guested). x.program) is) (ap (λ (x : Guested). x.faults) is ∙ none)
+    → AreAccepted p.cases lines → g ≡ fresh p lines limit → IsSame g t → EndsAs end t
+    → (HasBudget g → end ≡ ends.Done) → IsOver p t
+over p lines limit g t end sound accepted is same ended bounded =
+    over_from p g t end sound (subst (λ (x : Guested). AreAccepted p.cases x.faults) (sym is) accepted)
+    (ap (λ (x : Guested). x.program) is)
     ((sound-budget p).fresh g (ap (λ (x : Guested). x.journal) is)) same ended bounded
 
--- a guest under no script is that of its program, its limit and its journal
-pub as_guest : (p : Program) (g : Guested) → IsOver p g → g ≡ guest_of p g.limit g.journal
-as_guest p g over = ap₂ (λ (q : Program) (lines : List FaultLine). record {
-  program = q;
-  faults = lines;
-  limit = g.limit;
-  journal = g.journal;
-}) over.its_program over.no_script
+-- a guest under a script is that of its program, its lines, its limit and its journal
+pub as_guest : (p : Program) (g : Guested) → IsOver p g → g ≡ guest_of p g.faults g.limit g.journal
+as_guest p g over = ap (λ (q : Program). guest_of q g.faults g.limit g.journal) over.its_program
 
 -- where some hart isn't at halt, the journal is full
 pub full_of : (p : Program) (g : Guested) → IsOver p g → (AllHalted g → ⊥) → IsFull g
@@ -75,18 +65,21 @@ full_of p g over running = (by over.ended, running)
 
 -- ---- what is kept of it
 
--- Its events are those of a simulation, by what the guest tells of its journal: that it holds a run under the script,
--- which is plain where that has no lines, within the limit.
-pub simulated : (p : Program) (g : Guested) (events : List Event) → Sound p → IsOver p g → events ≡ g.journal
-    → FaultedRun g.program g.faults (run g) → (g.faults ≡ [] → Plain g.program (run g))
-    → length g.journal ≤ g.limit → IsSimulated p g.limit events
-simulated p g events sound over is faulted plain few =
+-- Its events are those of a simulation, by what the guest tells of its journal: that it holds a run that the script
+-- has changed, which is plain where that has no lines, within the limit.
+pub simulated : (p : Program) (g : Guested) (events : List Event) → Sound p → AreAccepted p.cases g.faults
+    → IsOver p g → events ≡ g.journal → FaultedRun g.program g.faults (run g)
+    → (g.faults ≡ [] → Plain g.program (run g)) → length g.journal ≤ g.limit → IsRunUnder p g.faults g.limit events
+simulated p g events sound accepted over is faulted plain few =
     let whole = as_guest p g over in
     let its_run = subst (λ (x : Guested). FaultedRun x.program x.faults (run x)) whole faulted in
-    let plain_run = subst (λ (x : Guested). Plain x.program (run x)) whole (plain over.no_script) in
-    subst (IsSimulated p g.limit) (sym is) (record {
+    subst (IsRunUnder p g.faults g.limit) (sym is) (record {
       few = few;
       faulted = its_run;
-      plain = plain_run;
-      legal = sound.plain (run_of p [] g.journal) plain_run;
+      half = sound.faulted g.faults accepted (run_of p g.faults g.journal) its_run;
+      plain = λ none. plain_run none;
+      legal = λ none. sound.plain (run_of p g.faults g.journal) (plain_run none);
     })
+  where
+    plain_run : g.faults ≡ [] → Plain p (run_of p g.faults g.journal)
+    plain_run none = subst (λ (x : Guested). Plain x.program (run x)) (as_guest p g over) (plain none)

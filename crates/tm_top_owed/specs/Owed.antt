@@ -1,6 +1,6 @@
 -- What a command owes: what its files, its sinks and its journal are after it, by the status that it ends with (this
 -- project's own).
-use Rattle.std.specs.Prelude.{◌≡◌, ◌≢◌, ◌⊎◌, ℕ, ◌≤◌, Bool, true, false, IsTrue, IsFalse, List, [], Option, None}
+use Rattle.std.specs.Prelude.{◌≡◌, ◌≢◌, ◌⊎◌, ℕ, ◌≤◌, Bool, true, false, IsTrue, IsFalse, List, [], length, Option, None}
 use Rattle.std.specs.Prelude.{Some, Ok}
 use Rattle.tm_base.specs.declared.limits.TheConstants.{DEFAULT_EVENTS}
 use Rattle.tm_desk.specs.Causes.{Files}
@@ -20,13 +20,22 @@ use Rattle.tm_image_build.specs.Built.{built, image_file, program_from}
 use Rattle.tm_image_build.specs.Opened.{opened, rebuilt}
 use Rattle.tm_report.specs.Listing.{listing}
 use Rattle.tm_top_line.specs.declared.fault.AnyFault.{AnyFault}
-use Rattle.tm_top_line.specs.declared.fault.AnyFault.TheVariants.{Input, Image, Desk}
+use Rattle.tm_top_line.specs.declared.fault.AnyFault.TheVariants.{Input, Image, Script, Desk}
 use Rattle.tm_top_line.specs.Lines.{fault_text, wants_memory}
-use Rattle.tm_words.specs.Words.{Build, Run, Command}
-use Rattle.tm_words.specs.Words.Command.{to_build, to_list, to_run, to_sample}
+use Rattle.tm_words.specs.declared.command.Build.{Build}
+use Rattle.tm_words.specs.declared.command.Run.{Run}
+use Rattle.tm_words.specs.declared.command.Command.{Command}
+use Rattle.tm_words.specs.declared.command.Command.TheVariants as commands
+use Rattle.tm_words.specs.Form.{Ask}
+use Rattle.tm_fault.specs.Spelled.{IsScript}
+use Rattle.tm_trace.specs.Text.{trace_text}
+use Rattle.tm_plan_cases.specs.declared.cases.Cases.{Cases}
+use Rattle.tm_plan_script.specs.declared.faults.FaultLine.{FaultLine}
+use Rattle.tm_world.specs.Place.{harts}
+use Rattle.tm_top_owed.specs.declared.sizes.TheConstants.{FAULTS_BYTES}
 use Rattle.tm_top_owed.specs.Texts.{usage, built_line}
 use Rattle.tm_top_owed.specs.Inputs.{first_fault, fault_before}
-use Rattle.tm_top_owed.specs.Runs.{guest_of, IsSimulated, IsRoundOrder, InOrder, IsTold, verdicts_in}
+use Rattle.tm_top_owed.specs.Runs.{guest_of, IsRunUnder, IsRoundOrder, InOrder, IsTold, verdicts_in}
 use Rattle.tm_sample.specs.Texts.{sample_topology, sample_template}
 use Rattle.tm_top_owed.specs.Sample.{summary}
 use Rattle.tm_guest.specs.Guested.{Guested}
@@ -70,7 +79,7 @@ pub record IsImageOf (b : Build) (tells : Bool) (held : Files) (file line : List
   pub template : List ℕ
   pub made : IsMadeOf topo template b.seed file line
   pub read : IsTrue tells → (held b.topo ≡ Some topo) × (held b.template ≡ Some template)
-  pub accepted : IsTrue tells → first_fault (to_build b) held ≡ None
+  pub accepted : IsTrue tells → first_fault (commands.Build b) held ≡ None
 
 -- Such a file was written, and this is its line.
 pub record IsWritten (b : Build) (desk : DeskChange) (line : List ℕ) : Type 0 where
@@ -102,31 +111,59 @@ pub record IsListingOf (image : List ℕ) (tells : Bool) (held : Files) (text : 
   pub file : List ℕ
   pub of_file : IsListingIn file text
   pub read : IsTrue tells → held image ≡ Some file
-  pub accepted : IsTrue tells → first_fault (to_list image) held ≡ None
+  pub accepted : IsTrue tells → first_fault (commands.List image) held ≡ None
 
 -- ---- a run
 
--- The file is an image, and what it ends as is how a simulation of it is told: one of at most the events that the run
--- asks for, in round order where it asks for that. Under no script no case is reported; and where as many events are
--- allowed as the program's budget, all harts come to halt.
-pub record IsRunIn (r : Run) (file : List ℕ) (e : Ending) : Type 0 where
-  pub program : Program
+-- The text that is held under a name is within the limit, and is a script over a program's cases, of these lines.
+pub record IsScriptIn (name : List ℕ) (cases : Cases) (tells : Bool) (held : Files) (lines : List FaultLine) :
+    Type 0 where
+  pub text : List ℕ
+  pub script : IsScript cases text lines
+  pub short : length text ≤ FAULTS_BYTES
+  pub read : IsTrue tells → held name ≡ Some text
+
+-- The lines are those of the script that a run asks for, over the cases of its image; there are none where it asks for
+-- no script.
+abbrev pub IsHeldScript : Option (List ℕ) → Cases → Bool → Files → List FaultLine → Type 0
+IsHeldScript None cases tells held lines = lines ≡ []
+IsHeldScript (Some name) cases tells held lines = IsScriptIn name cases tells held lines
+
+-- The program is that of the held image, the lines are those of the held script, and neither has a fault.
+pub record IsRunOn (r : Run) (tells : Bool) (held : Files) (program : Program) (lines : List FaultLine) :
+    Type 0 where
+  pub file : List ℕ
   pub seed : ℕ
   pub image : IsOpened file program seed
-  pub events : List Event
+  pub read : IsTrue tells → held r.image ≡ Some file
+  pub script : IsHeldScript r.faults program.cases tells held lines
+  pub accepted : IsTrue tells → first_fault (commands.Run r) held ≡ None
+
+-- What it ends as is how a simulation of the program under the lines is told: one of at most the events that the run
+-- asks for, in round order where it asks for that. Without lines no case is reported; and where as many events are
+-- allowed as the program's budget, all harts come to halt, whatever the lines.
+pub record IsRunAs (r : Run) (program : Program) (lines : List FaultLine) (events : List Event) (e : Ending) :
+    Type 0 where
   pub its_journal : e.journal ≡ Some events
-  pub simulated : IsSimulated program r.events events
-  pub in_order : InOrder r.threads program r.events events
-  pub told : IsTold (guest_of program r.events events) e.text e.status
-  pub silent : e.status ≢ 1
+  pub simulated : IsRunUnder program lines r.events events
+  pub in_order : InOrder r.threads program lines r.events events
+  pub told : IsTold (guest_of program lines r.events events) e.text e.status
+  pub silent : lines ≡ [] → e.status ≢ 1
   pub ends : budget_of program.cases ≤ r.events → e.status ≢ 4
 
--- It is the held image that was run, and that has no fault.
-pub record IsRunOf (r : Run) (tells : Bool) (held : Files) (e : Ending) : Type 0 where
-  pub file : List ℕ
-  pub of_file : IsRunIn r file e
-  pub read : IsTrue tells → held r.image ≡ Some file
-  pub accepted : IsTrue tells → first_fault (to_run r) held ≡ None
+-- the file of the trace that is asked for, if one is, holds the text of these events of so many harts
+abbrev pub HoldsTrace : Option (List ℕ) → (count : ℕ) → List Event → (tells : Bool) → (holds : Files) → Type 0
+HoldsTrace None count events tells holds = Unit {0}
+HoldsTrace (Some name) count events tells holds = IsTrue tells → holds name ≡ Some (trace_text count events)
+
+-- The held image was run under the held script, and the trace was written that is asked for.
+pub record IsRunOf (r : Run) (desk : DeskChange) (e : Ending) : Type 0 where
+  pub program : Program
+  pub lines : List FaultLine
+  pub events : List Event
+  pub its : IsRunOn r desk.tells desk.held program lines
+  pub run : IsRunAs r program lines events e
+  pub traced : HoldsTrace r.trace (harts program) events desk.tells desk.holds
 
 -- ---- a sample
 
@@ -143,18 +180,18 @@ pub record IsSampleOf (number : ℕ) (e : Ending) : Type 0 where
   pub its : IsBuiltOf (sample_topology number) (sample_template number) number program file
   pub events : List Event
   pub its_journal : e.journal ≡ Some events
-  pub simulated : IsSimulated program DEFAULT_EVENTS events
-  pub in_order : IsRoundOrder program DEFAULT_EVENTS events
-  pub told : IsSummed number (guest_of program DEFAULT_EVENTS events) e.text e.status
+  pub simulated : IsRunUnder program [] DEFAULT_EVENTS events
+  pub in_order : IsRoundOrder program [] DEFAULT_EVENTS events
+  pub told : IsSummed number (guest_of program [] DEFAULT_EVENTS events) e.text e.status
 
 -- ---- each command
 
 -- this is how the command ends, and all that comes before its text is done
 abbrev pub IsReady : Command → DeskChange → Ending → Type 0
-IsReady (to_build b) desk e = IsWritten b desk e.text × IsPlainEnd e
-IsReady (to_list image) desk e = IsListingOf image desk.tells desk.held e.text × IsPlainEnd e
-IsReady (to_run r) desk e = IsRunOf r desk.tells desk.held e
-IsReady (to_sample number) desk e = IsSampleOf number e
+IsReady (commands.Build b) desk e = IsWritten b desk e.text × IsPlainEnd e
+IsReady (commands.List image) desk e = IsListingOf image desk.tells desk.held e.text × IsPlainEnd e
+IsReady (commands.Run r) desk e = IsRunOf r desk e
+IsReady (commands.Sample number) desk e = IsSampleOf number e
 
 -- The job was done: all that comes before the text, and the text was printed.
 pub record IsDone (c : Command) (desk : DeskChange) (out : SinkChange) (status : ℕ) (journal : Option (List Event)) :
@@ -163,22 +200,40 @@ pub record IsDone (c : Command) (desk : DeskChange) (out : SinkChange) (status :
   pub ready : IsReady c desk (record { text = text; status = status; journal = journal })
   pub printed : Took out text
 
+-- all files but that of the trace, if one is asked for, are as at entry
+abbrev pub AllButTraceStay : Option (List ℕ) → DeskChange → Type 0
+AllButTraceStay None desk = FilesStay desk
+AllButTraceStay (Some name) desk = OtherFilesStay desk name
+
 -- all files that the command doesn't write are as at entry
 abbrev pub RestStays : Command → DeskChange → Type 0
-RestStays (to_build b) desk = OtherFilesStay desk b.out
+RestStays (commands.Build b) desk = OtherFilesStay desk b.out
+RestStays (commands.Run r) desk = AllButTraceStay r.trace desk
 RestStays _ desk = FilesStay desk
 
--- the command writes a file
-abbrev pub writes : Command → Bool
-writes (to_build b) = true
-writes _ = false
+-- this role, where a name is given
+abbrev pub role_of : Role → Option (List ℕ) → Option Role
+role_of role None = None
+role_of role (Some name) = Some role
+
+-- the role of the file that the command writes, if it writes one
+abbrev pub writes : Command → Option Role
+writes (commands.Build b) = Some roles.Output
+writes (commands.Run r) = role_of roles.Trace r.trace
+writes _ = None
+
+-- a name is given
+abbrev pub is_given : Option (List ℕ) → Bool
+is_given None = false
+is_given (Some name) = true
 
 -- the command reads the file of a role
 abbrev pub reads : Command → Role → Bool
-reads (to_build b) roles.Topology = true
-reads (to_build b) roles.Template = true
-reads (to_list image) roles.Image = true
-reads (to_run r) roles.Image = true
+reads (commands.Build b) roles.Topology = true
+reads (commands.Build b) roles.Template = true
+reads (commands.List image) roles.Image = true
+reads (commands.Run r) roles.Image = true
+reads (commands.Run r) roles.Faults = is_given r.faults
 reads _ _ = false
 
 -- ---- faults
@@ -187,6 +242,7 @@ reads _ _ = false
 abbrev pub status_of : AnyFault → ℕ
 status_of (Input fault) = 3
 status_of (Image fault) = 3
+status_of (Script fault) = 3
 status_of (Desk (TooLong max)) = 3
 status_of (Desk Failed) = 5
 status_of (Desk NoMemory) = 6
@@ -212,10 +268,10 @@ pub record IsUntouched (desk : DeskChange) (out : SinkChange) : Type 0 where
   pub files : FilesStay desk
   pub output : Silent out
 
--- Its write was begun, and not ended: no input is at fault, and nothing was printed. Of the file that the
--- command writes nothing is known.
-pub record IsUnwritten (c : Command) (desk : DeskChange) (out : SinkChange) : Type 0 where
-  pub writes : IsTrue (writes c)
+-- Its write of the file of a role was begun, and not ended: no input is at fault, and nothing was printed. Of that file
+-- nothing is known.
+pub record IsUnwritten (c : Command) (role : Role) (desk : DeskChange) (out : SinkChange) : Type 0 where
+  pub writes : writes c ≡ Some role
   pub accepted : IsTrue desk.tells → first_fault c desk.held ≡ None
   pub output : Silent out
 
@@ -229,14 +285,14 @@ pub record IsUnprinted (c : Command) (desk : DeskChange) (out : SinkChange) : Ty
 -- one of the three
 pub data IsUnfinished (c : Command) (desk : DeskChange) (out : SinkChange) : Type 0 where
   untouched : IsUntouched desk out → IsUnfinished c desk out
-  unwritten : IsUnwritten c desk out → IsUnfinished c desk out
+  unwritten : (role : Role) → IsUnwritten c role desk out → IsUnfinished c desk out
   unprinted : IsUnprinted c desk out → IsUnfinished c desk out
 
--- the file of this role failed: an input, before anything was written or printed; or the output, where the desk's
--- count rose and the write didn't end, or the sink's did and the printing didn't
+-- the file of this role failed: an input, before anything was written or printed; the file that is written, where the
+-- desk's count rose and the write didn't end; or the output, where the sink's count did and the printing didn't
 pub data IsFailure (c : Command) (desk : DeskChange) (out : SinkChange) (role : Role) : Type 0 where
   at_input : InputFailure c desk role → IsUntouched desk out → IsFailure c desk out role
-  at_write : role ≡ roles.Output → DeskFailed desk → IsUnwritten c desk out → IsFailure c desk out role
+  at_write : DeskFailed desk → IsUnwritten c role desk out → IsFailure c desk out role
   at_print : role ≡ roles.Output → SinkFailed out → IsUnprinted c desk out → IsFailure c desk out role
 
 -- a line that a command may begin on the error sink before memory is wanting, with how far it came: none, or that
@@ -265,7 +321,7 @@ pub data Ended (asked : Option Command) (desk : DeskChange) (out err : SinkChang
       → IsRefusal c desk role fault → IsUntouched desk out → Said err (fault_text role fault)
       → Ended asked desk out err journal status
   -- the outside failed: at an input all is as it was, at the write nothing was printed, and at the printing the file
-  -- is written and a front of its line may have been printed
+  -- is written and a front of its text may have been printed
   failed : (c : Command) (role : Role) → status ≡ 5 → journal ≡ None → asked ≡ Some c → IsFailure c desk out role
       → RestStays c desk → Said err (fault_text role (Desk Failed)) → Ended asked desk out err journal status
   -- no memory for the usage text
@@ -294,3 +350,11 @@ pub record Owes (asked : Option Command) (desk : DeskChange) (out err : SinkChan
   pub always_usage : asked ≡ None → (status ≡ 2) ⊎ (status ≡ 6)
   pub always_at_fault : (c : Command) → asked ≡ Some c → AlwaysAtFault c desk status
   pub always_done : (c : Command) → asked ≡ Some c → AlwaysDone c desk out journal status
+
+-- All that a call owes for its words, of which only those of commands that wait for nobody count where round_alone is
+-- true: what it owes for the command that they ask for, or for none. (They ask for one command or for none, and that is
+-- told of all words: tm_words, the law `words_ask`.)
+abbrev pub OwesWords : (round_alone : Bool) → List (List ℕ) → DeskChange → SinkChange → SinkChange
+    → Option (List Event) → ℕ → Type 0
+OwesWords round_alone words desk out err journal status =
+    (o : Option Command) → Ask round_alone words o → Owes o desk out err journal status

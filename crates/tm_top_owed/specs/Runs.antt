@@ -5,9 +5,10 @@ use Rattle.tm_base.specs.Lists.{count_from}
 use Rattle.tm_plan_cases.specs.declared.program.Program.{Program}
 use Rattle.tm_plan_cases.specs.Collected.{budget_of}
 use Rattle.tm_plan_cases.specs.declared.event.Event.{Event}
+use Rattle.tm_plan_script.specs.declared.faults.FaultLine.{FaultLine}
 use Rattle.tm_plan_journal.specs.Journaled.{Journaled}
 use Rattle.tm_world.specs.Place.{harts, halt_of}
-use Rattle.tm_world.specs.Kinds.{Plain, Legal}
+use Rattle.tm_world.specs.Kinds.{Plain, Legal, Half}
 use Rattle.tm_world.specs.Script.{FaultedRun}
 use Rattle.tm_world.specs.Replay.{run_of}
 use Rattle.tm_guest.specs.Guested.{Guested, state, fresh}
@@ -20,32 +21,32 @@ abbrev pub events_in : Option Journaled → Option (List Event)
 events_in None = None
 events_in (Some journal) = Some journal.events
 
--- the simulated machine that has made these events of at most so many, under no script
-abbrev pub guest_of : Program → (limit : ℕ) → List Event → Guested
-guest_of p limit events = record { program = p; faults = []; limit = limit; journal = events }
+-- the simulated machine that has made these events of at most so many, under a script of these lines
+abbrev pub guest_of : Program → List FaultLine → (limit : ℕ) → List Event → Guested
+guest_of p lines limit events = record { program = p; faults = lines; limit = limit; journal = events }
 
--- The events are the journal of a simulation of the program under no script: at most so many, and a run of it, which is
--- plain and so legal.
-pub record IsSimulated (p : Program) (limit : ℕ) (events : List Event) : Type 0 where
+-- The events are the journal of a simulation of the program under a script of these lines: at most so many, and a run
+-- that the lines have changed, which is a half run. Where there are no lines it is plain, and so legal.
+pub record IsRunUnder (p : Program) (lines : List FaultLine) (limit : ℕ) (events : List Event) : Type 0 where
   pub few : length events ≤ limit
-  pub faulted : FaultedRun p [] (run_of p [] events)
-  pub plain : Plain p (run_of p [] events)
-  pub legal : Legal p (run_of p [] events)
+  pub faulted : FaultedRun p lines (run_of p lines events)
+  pub half : Half p (run_of p lines events)
+  pub plain : lines ≡ [] → Plain p (run_of p lines events)
+  pub legal : lines ≡ [] → Legal p (run_of p lines events)
 
 -- They are those of turns in round order.
-abbrev pub IsRoundOrder : Program → (limit : ℕ) → List Event → Type 0
-IsRoundOrder p limit events = (h : ℕ) × Goes (fresh p [] limit) h (guest_of p limit events)
+abbrev pub IsRoundOrder : Program → List FaultLine → (limit : ℕ) → List Event → Type 0
+IsRoundOrder p lines limit events = (h : ℕ) × Goes (fresh p lines limit) h (guest_of p lines limit events)
 
 -- in round order, where harts aren't driven by threads
-abbrev pub InOrder : (threads : Bool) → Program → (limit : ℕ) → List Event → Type 0
-InOrder true p limit events = Unit {0}
-InOrder false p limit events = IsRoundOrder p limit events
+abbrev pub InOrder : (threads : Bool) → Program → List FaultLine → (limit : ℕ) → List Event → Type 0
+InOrder true p lines limit events = Unit {0}
+InOrder false p lines limit events = IsRoundOrder p lines limit events
 
--- A simulation of a program has ended under no script: all harts are at halt, or the journal is full; and all are at
--- halt where the limit is at least the program's budget.
+-- A simulation of a program has ended, whatever its script: all harts are at halt, or the journal is full; and all are
+-- at halt where the limit is at least the program's budget.
 pub record IsOver (p : Program) (g : Guested) : Type 0 where
   pub its_program : g.program ≡ p
-  pub no_script : g.faults ≡ []
   pub ended : AllHalted g ⊎ (length g.journal ≡ g.limit)
   pub ends : budget_of p.cases ≤ g.limit → AllHalted g
 

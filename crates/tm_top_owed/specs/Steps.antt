@@ -11,7 +11,7 @@ use Rattle.tm_top_line.specs.declared.fault.AnyFault.TheVariants.{Image, Desk}
 use Rattle.tm_top_line.specs.Lines.{fault_text, wants_memory}
 use Rattle.tm_top_owed.specs.declared.stop.Stop.{Stop}
 use Rattle.tm_top_owed.specs.declared.stop.Stop.TheVariants as stop
-use Rattle.tm_words.specs.Words.{Command}
+use Rattle.tm_words.specs.declared.command.Command.{Command}
 use Rattle.tm_top_owed.specs.Inputs.{fault_of_image}
 use Rattle.tm_top_owed.specs.Changes.{DeskChange, SinkChange, DeskFailed, Said, TookFronts}
 use Rattle.tm_top_owed.specs.Owed.{IsOpened, IsRefusal, InputFailure, IsFailure, IsUntouched, IsUnfinished, status_of}
@@ -50,11 +50,11 @@ pub record IsHeldImage (name : List ℕ) (tells : Bool) (held : Files) (program 
   pub read : IsTrue tells → held name ≡ Some file
   pub accepted : IsTrue tells → fault_of_image name held ≡ None
 
--- why a step at the output stopped: a count rose
-abbrev pub PutStop : Stop → ℕ → ℕ → Type 0
-PutStop (stop.Refused by fault) before now = ⊥
-PutStop (stop.Failed by) before now = (by ≡ roles.Output) × Rose before now
-PutStop stop.NoMemory before now = Unit {0}
+-- why a step at the file of a role, or at the output, stopped: a count rose
+abbrev pub PutStop : Stop → Role → ℕ → ℕ → Type 0
+PutStop (stop.Refused by fault) role before now = ⊥
+PutStop (stop.Failed by) role before now = (by ≡ role) × Rose before now
+PutStop stop.NoMemory role before now = Unit {0}
 
 -- why the inputs of a command stop it
 abbrev pub InputStop : Stop → Command → DeskChange → Type 0

@@ -3,7 +3,9 @@ ghost use Rattle.std.specs.Prelude.{◌≡◌, ◌≤◌, ◌++◌, ℕ, length,
 ghost use Rattle.tm_world.specs.Place.{harts};
 ghost use Rattle.tm_world.specs.Sound.{Sound};
 ghost use Rattle.tm_report_run.specs.Report.{full_line};
-ghost use Rattle.tm_top_owed.specs.Runs.{events_in, halted_of, IsOver, IsRoundOrder, IsSimulated};
+ghost use Rattle.tm_plan_script.specs.Accepted.{AreAccepted};
+ghost use Rattle.tm_refusals.specs.declared.role.Role.TheVariants as roles;
+ghost use Rattle.tm_top_owed.specs.Runs.{events_in, halted_of, IsOver, IsRoundOrder, IsRunUnder};
 ghost use Rattle.tm_top_owed.specs.Steps.{PutStop};
 
 use crate::outcome::Outcome;
@@ -13,7 +15,6 @@ use std::alloc::Global;
 use tm_base::{MOST_EVENTS, NoMemory, Text};
 use tm_desk::Sink;
 use tm_guest::Guest;
-use tm_memory::laws::scripts;
 use tm_plan_cases::Program;
 use tm_plan_journal::Journal;
 use tm_plan_script::Faults;
@@ -28,11 +29,12 @@ pub struct Simulated {
 }
 
 impl Simulated {
-    /// What is kept of a simulation under no script that has ended, with how it is told.
+    /// What is kept of a simulation that has ended under a script of some lines, with how it is told.
     pub fn of(program: &Program, guest: Guest<'_>, text: Text, status: u8) -> Simulated
         requires sound { Sound program.now }
+        requires accepted { AreAccepted program.now.cases guest.faults }
         requires over { IsOver program.now guest }
-        ensures simulated { IsSimulated program.now guest.entry.limit result.journal.events }
+        ensures simulated { IsRunUnder program.now guest.entry.faults guest.entry.limit result.journal.events }
         ensures journal { result.journal.events ≡ guest.entry.journal }
         ensures text { result.text ≡ text }
         ensures status { result.status ≡ status }
@@ -46,23 +48,26 @@ impl Simulated {
     }
 }
 
-/// Runs a program from its start in round order, under no script, until all harts are at their halt marks or there are
+/// Runs a program from its start in round order, under a script, until all harts are at their halt marks or there are
 /// so many events.
+///
+/// Asked: a sound program, a script that is accepted over its cases, and 1 to 100,000,000 events.
 pub fn run_in_order<'a>(
     alloc: Global,
     program: &'a Program,
+    faults: Faults,
     events: u64,
 ) -> Result<Guest<'a>, NoMemory>
     requires sound { Sound program.now }
+    requires accepted { AreAccepted program.now.cases faults }
     requires some { 1 ≤ events }
     requires few { events ≤ MOST_EVENTS }
     ensures over { IfOk result (λ guest. IsOver program.now guest) }
+    ensures script { IfOk result (λ guest. guest.faults ≡ faults) }
     ensures limit { IfOk result (λ guest. guest.limit ≡ events) }
-    ensures order { IfOk result (λ guest. IsRoundOrder program.now events guest.journal) }
+    ensures order { IfOk result (λ guest. IsRoundOrder program.now faults events guest.journal) }
 {
-    // no hart of it gets stuck
-    scripts(program);
-    let mut guest = Guest::start(alloc, program, Faults::nothing(alloc), events)?;
+    let mut guest = Guest::start(alloc, program, faults, events)?;
     let _ = guest.run_round();
     Ok(guest)
 }
@@ -101,7 +106,7 @@ pub fn print_simulated<O: Sink>(simulated: Simulated, out: &mut O) -> Result<Out
     ensures all { IsTrue O.tells → IfOk result (λ _. O.taken out.new ≡ O.taken out.old ++ simulated.text) }
     ensures front { IsTrue O.tells
         → OnErr result ((n : ℕ) × (O.taken out.new ≡ O.taken out.old ++ take n simulated.text)) }
-    ensures cause { IfErr result (λ stop. PutStop stop (O.faults out.old) (O.faults out.new)) }
+    ensures cause { IfErr result (λ stop. PutStop stop roles.Output (O.faults out.old) (O.faults out.new)) }
 {
     match print_text(out, &simulated.text) {
         Ok(()) => Ok(Outcome {

@@ -1,6 +1,7 @@
 // The steps of a command at the desk and at the sink: each ends, or stops the command with its cause.
 ghost use Rattle.std.specs.Prelude.{◌≡◌, ◌++◌, ◌≤◌, ℕ, IsTrue, IfOk, OnOk, IfErr, OnErr, length, take, Some};
 ghost use Rattle.tm_desk.specs.Causes.{OthersStay};
+ghost use Rattle.tm_refusals.specs.declared.role.Role.TheVariants as roles;
 ghost use Rattle.tm_top_owed.specs.Steps.{ReadStop, PutStop};
 
 use crate::stop::Stop;
@@ -29,17 +30,17 @@ pub fn read_input<D: Desk>(desk: &mut D, role: Role, name: &str, max: u64) -> Re
     }
 }
 
-/// Writes the file that was built.
-pub fn write_output<D: Desk>(desk: &mut D, name: &str, file: &Bytes) -> Result<(), Stop>
+/// Writes the file of a role.
+pub fn write_output<D: Desk>(desk: &mut D, role: Role, name: &str, file: &Bytes) -> Result<(), Stop>
     ensures written { IsTrue D.tells → OnOk result (D.held desk.new name.now ≡ Some file.now) }
     ensures others { IsTrue D.tells → OthersStay (D.held desk.old) (D.held desk.new) name.now }
     ensures later { D.faults desk.old ≤ D.faults desk.new }
-    ensures cause { IfErr result (λ stop. PutStop stop (D.faults desk.old) (D.faults desk.new)) }
+    ensures cause { IfErr result (λ stop. PutStop stop role (D.faults desk.old) (D.faults desk.new)) }
 {
     match desk.write(name, file.as_slice()) {
         Ok(()) => Ok(()),
         Err(DeskError::NoMemory) => Err(Stop::NoMemory),
-        Err(DeskError::Failed | DeskError::TooLong { max: _ }) => Err(Stop::Failed(Role::Output)),
+        Err(DeskError::Failed | DeskError::TooLong { max: _ }) => Err(Stop::Failed(role)),
     }
 }
 
@@ -47,7 +48,7 @@ pub fn write_output<D: Desk>(desk: &mut D, name: &str, file: &Bytes) -> Result<(
 pub fn print_text<O: Sink>(out: &mut O, text: &Text) -> Result<(), Stop>
     ensures all { IsTrue O.tells → OnOk result (O.taken out.new ≡ O.taken out.old ++ text.now) }
     ensures front { IsTrue O.tells → OnErr result ((n : ℕ) × (O.taken out.new ≡ O.taken out.old ++ take n text.now)) }
-    ensures cause { IfErr result (λ stop. PutStop stop (O.faults out.old) (O.faults out.new)) }
+    ensures cause { IfErr result (λ stop. PutStop stop roles.Output (O.faults out.old) (O.faults out.new)) }
 {
     match put_all(out, text.as_slice()) {
         Ok(()) => Ok(()),
