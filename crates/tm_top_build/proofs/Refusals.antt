@@ -16,8 +16,8 @@ use Rattle.tm_top_line.specs.declared.fault.AnyFault.{AnyFault}
 use Rattle.tm_top_line.specs.declared.fault.AnyFault.TheVariants.{Input, Desk}
 use Rattle.tm_top_owed.specs.declared.stop.Stop.{Stop}
 use Rattle.tm_top_owed.specs.declared.stop.Stop.TheVariants as stop
-use Rattle.tm_words.specs.Words.{Build}
-use Rattle.tm_words.specs.Words.Command.{to_build}
+use Rattle.tm_words.specs.declared.command.Build.{Build}
+use Rattle.tm_words.specs.declared.command.Command.TheVariants as commands
 use Rattle.tm_top_owed.proofs.Limits.{long, short}
 use Rattle.tm_top_owed.specs.Inputs.{refusal_of, as_fault, text_of, refused_topology}
 use Rattle.tm_top_owed.specs.Inputs.{refused_template, fault_of_topology, fault_of_template, first_fault}
@@ -30,18 +30,18 @@ use Rattle.tm_top_build.specs.Steps.{IsTopology, ImageStop}
 -- ---- which fault is the first
 
 at_topology : (b : Build) (files : Files) (fault : AnyFault) → fault_of_topology b files ≡ Some fault
-    → first_fault (to_build b) files ≡ Some (Topology, fault)
+    → first_fault (commands.Build b) files ≡ Some (Topology, fault)
 unfolding first_fault
 at_topology b files fault is = rw is refl
 
 at_template : (b : Build) (files : Files) (fault : AnyFault) → fault_of_topology b files ≡ None
     → fault_of_template b files ≡ Some fault
-    → first_fault (to_build b) files ≡ Some (Template, fault)
+    → first_fault (commands.Build b) files ≡ Some (Template, fault)
 unfolding first_fault
 at_template b files fault none is = rw (none, is) refl
 
 at_none : (b : Build) (files : Files) → fault_of_topology b files ≡ None → fault_of_template b files ≡ None
-    → first_fault (to_build b) files ≡ None
+    → first_fault (commands.Build b) files ≡ None
 unfolding first_fault
 at_none b files first second = rw (first, second) refl
 
@@ -64,7 +64,7 @@ topology_read b files text held h = rw held (short TOPOLOGY_BYTES refused_topolo
 -- a read of the topology that stopped
 pub topology_stop : (s : Stop) (b : Build) (desk : DeskChange)
     → ReadStop s Topology (IsTrue desk.tells) (desk.held b.topo) TOPOLOGY_BYTES desk.faults desk.faults_after
-    → InputStop s (to_build b) desk
+    → InputStop s (commands.Build b) desk
 topology_stop (stop.Refused by fault) b desk (role_is, fault_is, h) = rw (role_is, fault_is) (record {
   read = refl;
   status = refl;
@@ -80,7 +80,7 @@ topology_stop stop.NoMemory b desk h = tt
 pub topology_refused : (b : Build) (desk : DeskChange) (text : List ℕ) (refusal : InputFault)
     → (IsTrue desk.tells → desk.held b.topo ≡ Some text) → length text ≤ TOPOLOGY_BYTES
     → Some refusal ≡ topology_refusal text → IsNamed refusal
-    → IsRefusal (to_build b) desk Topology (Input refusal)
+    → IsRefusal (commands.Build b) desk Topology (Input refusal)
 topology_refused b desk text refusal held h is named = record {
   read = refl;
   status = refl;
@@ -118,7 +118,7 @@ template_read b files topo text first held h = rw (first, held) (short TEMPLATE_
 pub template_stop : (s : Stop) (b : Build) (desk : DeskChange) (text : List ℕ) (there : Option (List ℕ)) (faults : ℕ)
     → IsTopology b desk.tells desk.held text → (IsTrue desk.tells → there ≡ desk.held b.template) → desk.faults ≤ faults
     → ReadStop s Template (IsTrue desk.tells) there TEMPLATE_BYTES faults desk.faults_after
-    → InputStop s (to_build b) desk
+    → InputStop s (commands.Build b) desk
 template_stop (stop.Refused by fault) b desk text there faults topology same later (role_is, fault_is, h) =
     rw (role_is, fault_is) (record {
       read = refl;
@@ -140,7 +140,7 @@ template_stop stop.NoMemory b desk text there faults topology same later h = tt
 pub image_stop : (s : Stop) (b : Build) (desk : DeskChange) (text template : List ℕ)
     → IsTopology b desk.tells desk.held text
     → (IsTrue desk.tells → desk.held b.template ≡ Some template) → length template ≤ TEMPLATE_BYTES
-    → ImageStop s (inputs text template) → InputStop s (to_build b) desk
+    → ImageStop s (inputs text template) → InputStop s (commands.Build b) desk
 image_stop (stop.Refused by fault) b desk text template topology there h (refusal, refused, role_is, fault_is, calm) =
     rw (role_is, fault_is) (record {
       read = refl;
@@ -169,7 +169,7 @@ template_accepted topo template file seed h = built_at (inputs topo template) to
 pub no_fault : (b : Build) (desk : DeskChange) (topo template file : List ℕ) → IsTopology b desk.tells desk.held topo
     → (IsTrue desk.tells → desk.held b.template ≡ Some template) → length template ≤ TEMPLATE_BYTES
     → built topo template b.seed ≡ Ok file
-    → IsTrue desk.tells → first_fault (to_build b) desk.held ≡ None
+    → IsTrue desk.tells → first_fault (commands.Build b) desk.held ≡ None
 no_fault b desk topo template file topology there h is_built told =
     at_none b desk.held (topology_accepted b desk topo topology told)
     (template_read b desk.held topo template (topology.there told) (there told) h ∙ ap as_fault

@@ -9,7 +9,7 @@ use Rattle.tm_image_inputs.specs.Inputs.{topology_refusal}
 use Rattle.tm_top_line.specs.declared.fault.AnyFault.TheVariants.{Input}
 use Rattle.tm_top_owed.specs.declared.stop.Stop.{Stop}
 use Rattle.tm_top_owed.specs.declared.stop.Stop.TheVariants as stop
-use Rattle.tm_words.specs.Words.{Build}
+use Rattle.tm_words.specs.declared.command.Build.{Build}
 use Rattle.tm_top_line.specs.Lines.{wants_memory}
 
 -- The topology is held, within its limit and accepted.

@@ -1,7 +1,6 @@
 // The inputs of a build, read and refused in the order of work.
 ghost use Rattle.std.specs.Prelude.{◌≡◌, ◌≤◌, IsTrue, IfOk, IfErr};
-ghost use Rattle.tm_words.specs.Words.{build_in};
-ghost use Rattle.tm_words.specs.Words.Command.{to_build};
+ghost use Rattle.tm_words.specs.declared.command.Command.TheVariants as commands;
 ghost use Rattle.tm_top_owed.specs.Changes.{desk_change};
 ghost use Rattle.tm_top_owed.specs.Owed.{IsImageOf};
 ghost use Rattle.tm_top_owed.specs.Steps.{InputStop};
@@ -16,17 +15,17 @@ use tm_image_inputs::topology_fault;
 use tm_refusals::Role;
 use tm_top_line::AnyFault;
 use tm_top_owed::{Stop, read_input};
-use tm_words::BuildWords;
+use tm_words::Build;
 
 /// Reads the topology, and refuses it.
-fn read_topology<D: Desk>(alloc: Global, b: &BuildWords<'_>, desk: &mut D) -> Result<Bytes, Stop>
-    ensures ok { IfOk result (λ text. IsTopology (build_in b.now) D.tells (D.held desk.old) text) }
+fn read_topology<D: Desk>(alloc: Global, b: &Build, desk: &mut D) -> Result<Bytes, Stop>
+    ensures ok { IfOk result (λ text. IsTopology b.now D.tells (D.held desk.old) text) }
     ensures unchanged { IsTrue D.tells → D.held desk.new ≡ D.held desk.old }
     ensures later { D.faults desk.old ≤ D.faults desk.new }
     ensures cause { IfErr result (λ stop.
-        InputStop stop (to_build (build_in b.now)) (desk_change D.tells D.held D.faults desk.old desk.new)) }
+        InputStop stop (commands.Build b.now) (desk_change D.tells D.held D.faults desk.old desk.new)) }
 {
-    let text = match read_input(desk, Role::Topology, b.topo, TOPOLOGY_BYTES) {
+    let text = match read_input(desk, Role::Topology, b.topo.as_str(), TOPOLOGY_BYTES) {
         Ok(text) => text,
         Err(stop) => return Err(stop),
     };
@@ -38,18 +37,18 @@ fn read_topology<D: Desk>(alloc: Global, b: &BuildWords<'_>, desk: &mut D) -> Re
 }
 
 /// Reads the two inputs and builds the image, or stops at the first that fails or is refused.
-pub fn make_image<D: Desk>(alloc: Global, b: &BuildWords<'_>, desk: &mut D) -> Result<Made, Stop>
-    ensures ok { IfOk result (λ made. IsImageOf (build_in b.now) D.tells (D.held desk.old) made.file made.line) }
+pub fn make_image<D: Desk>(alloc: Global, b: &Build, desk: &mut D) -> Result<Made, Stop>
+    ensures ok { IfOk result (λ made. IsImageOf b.now D.tells (D.held desk.old) made.file made.line) }
     ensures unchanged { IsTrue D.tells → D.held desk.new ≡ D.held desk.old }
     ensures later { D.faults desk.old ≤ D.faults desk.new }
     ensures cause { IfErr result (λ stop.
-        InputStop stop (to_build (build_in b.now)) (desk_change D.tells D.held D.faults desk.old desk.new)) }
+        InputStop stop (commands.Build b.now) (desk_change D.tells D.held D.faults desk.old desk.new)) }
 {
     let topo = match read_topology(alloc, b, desk) {
         Ok(topo) => topo,
         Err(stop) => return Err(stop),
     };
-    let template = match read_input(desk, Role::Template, b.template, TEMPLATE_BYTES) {
+    let template = match read_input(desk, Role::Template, b.template.as_str(), TEMPLATE_BYTES) {
         Ok(template) => template,
         Err(stop) => return Err(stop),
     };

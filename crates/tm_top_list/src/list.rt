@@ -1,6 +1,6 @@
 // The command that lists an image.
 ghost use Rattle.std.specs.Prelude.{◌≡◌, ◌≤◌, IsTrue, IfErr, IfOk, OnOk, None};
-ghost use Rattle.tm_words.specs.Words.Command.{to_list};
+ghost use Rattle.tm_words.specs.declared.command.Command.TheVariants as commands;
 ghost use Rattle.tm_top_owed.specs.Changes.{desk_change, sink_change, FilesStay};
 ghost use Rattle.tm_top_owed.specs.Owed.{IsDone, IsListingOf};
 ghost use Rattle.tm_top_owed.specs.Steps.{InputStop, Stopped};
@@ -17,7 +17,7 @@ fn read_listing<D: Desk>(alloc: Global, image: &str, desk: &mut D) -> Result<Tex
     ensures unchanged { IsTrue D.tells → D.held desk.new ≡ D.held desk.old }
     ensures later { D.faults desk.old ≤ D.faults desk.new }
     ensures cause { IfErr result (λ stop.
-        InputStop stop (to_list image.now) (desk_change D.tells D.held D.faults desk.old desk.new)) }
+        InputStop stop (commands.List image.now) (desk_change D.tells D.held D.faults desk.old desk.new)) }
 {
     let image = match open_input(alloc, image, desk) {
         Ok(image) => image,
@@ -37,10 +37,10 @@ pub fn list_command<D: Desk, O: Sink>(
     desk: &mut D,
     out: &mut O,
 ) -> Result<(), Stop>
-    ensures done { OnOk result (IsDone (to_list image.now)
+    ensures done { OnOk result (IsDone (commands.List image.now)
         (desk_change D.tells D.held D.faults desk.old desk.new)
         (sink_change O.tells O.taken O.faults out.old out.new) 0 None) }
-    ensures stopped { IfErr result (λ stop. Stopped stop (to_list image.now)
+    ensures stopped { IfErr result (λ stop. Stopped stop (commands.List image.now)
         (desk_change D.tells D.held D.faults desk.old desk.new)
         (sink_change O.tells O.taken O.faults out.old out.new)) }
     ensures stay { FilesStay (desk_change D.tells D.held D.faults desk.old desk.new) }

@@ -37,7 +37,7 @@ Quiets a access = IsTrue (writes_in a 8 access) → access ≡ Write a 8 0
 abbrev puts : ℕ → Access → ℕ
 puts a access = unwrap_or (put_at a access) 0
 
-covers : (a addr width : ℕ) → addr ≡ a → width ≡ 8 → (nat_lt addr (a + 8) && nat_lt a (addr + width)) ≡ true
+pub covers : (a addr width : ℕ) → addr ≡ a → width ≡ 8 → (nat_lt addr (a + 8) && nat_lt a (addr + width)) ≡ true
 covers a addr width at wide = rw (lt-ltb addr (a + 8) (omega arith), lt-ltb a (addr + width) (omega arith)) refl
 
 puts-nothing : (a : ℕ) (access : Access) → Quiets a access → puts a access ≡ 0
@@ -55,7 +55,7 @@ puts-nothing a (Write addr width value) quiet = by (addr == a) (width == 8) refl
 -- ---- all events
 
 -- of each event P
-abbrev Each : (Event → Type 0) → List Event → Type 0
+abbrev pub Each : (Event → Type 0) → List Event → Type 0
 Each P [] = Unit {0}
 Each P (e ∷ more) = P e × Each P more
 
@@ -67,7 +67,7 @@ each-front : (P : Event → Type 0) (xs : List Event) (y : Event) → Each P (xs
 each-front P [] y (this, none) = (tt, this)
 each-front P (x ∷ xs) y (this, more) = let (front, last) = each-front P xs y more in ((this, front), last)
 
-each-turned : (P : Event → Type 0) (xs : List Event) → Each P (reverse xs) → Each P xs
+pub each-turned : (P : Event → Type 0) (xs : List Event) → Each P (reverse xs) → Each P xs
 each-turned P [] none = tt
 each-turned P (x ∷ xs) all =
     let (front, last) = each-front P (reverse xs) x (subst (Each P) (reverse-append (x ∷ []) xs) all) in

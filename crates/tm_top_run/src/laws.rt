@@ -3,7 +3,8 @@ ghost use Rattle.tm_top_run.specs.Laws.{NoReport};
 
 use tm_plan_cases::Program;
 
-/// On a simulation of a sound program under no script every verdict is 0, so that no case is reported.
+/// On a legal run of a sound program, as each simulation under no script is, every verdict is 0, so that no case is
+/// reported.
 pub fn no_report(program: &Program)
     ensures { NoReport program.now }
 {

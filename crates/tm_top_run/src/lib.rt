@@ -1,8 +1,11 @@
-//! The command that runs an image: in round order, and with a thread for each hart.
+//! The command that runs an image: in round order, and with a thread for each hart, under a script of faults or none.
 #![tactic(auto)]
 
+mod finish;
+mod inputs;
 pub mod laws;
 mod run;
+mod script;
 mod tell;
 mod threads;
 

@@ -3,7 +3,8 @@ ghost use Rattle.std.specs.Prelude.{◌≡◌, IfOk};
 ghost use Rattle.tm_guest.specs.Rounds.{AllHalted};
 ghost use Rattle.tm_world.specs.Sound.{Sound};
 ghost use Rattle.tm_top_owed.specs.Runs.{IsOver};
-ghost use Rattle.tm_top_run.specs.Steps.{IsToldOf, IsToldSilent, IsStatusOf};
+ghost use Rattle.tm_plan_script.specs.Accepted.{AreAccepted};
+ghost use Rattle.tm_top_run.specs.Steps.{IsToldOf, IsToldRight, IsStatusOf};
 
 use std::alloc::Global;
 use tm_base::{NoMemory, Text};
@@ -25,9 +26,10 @@ fn status_of(verdicts: &[u64]) -> u8
 // The report on a simulation at whose end all harts are at halt, and its status.
 fn reported(alloc: Global, program: &Program, guest: &Guest<'_>) -> Result<(Text, u8), NoMemory>
     requires sound { Sound program.now }
+    requires accepted { AreAccepted program.now.cases guest.now.faults }
     requires over { IsOver program.now guest.now }
     requires halted { AllHalted guest.now }
-    ensures { IfOk result (λ both. IsToldSilent guest.now both.0 both.1) }
+    ensures { IfOk result (λ both. IsToldRight guest.now both.0 both.1) }
 {
     let journal = guest.journal();
     let found = verdicts(alloc, program, journal)?;
@@ -39,8 +41,9 @@ fn reported(alloc: Global, program: &Program, guest: &Guest<'_>) -> Result<(Text
 // status.
 fn ending(alloc: Global, program: &Program, guest: &Guest<'_>) -> Result<(Text, u8), NoMemory>
     requires sound { Sound program.now }
+    requires accepted { AreAccepted program.now.cases guest.now.faults }
     requires over { IsOver program.now guest.now }
-    ensures { IfOk result (λ both. IsToldSilent guest.now both.0 both.1) }
+    ensures { IfOk result (λ both. IsToldRight guest.now both.0 both.1) }
 {
     if guest.all_halted() {
         return reported(alloc, program, guest);
@@ -49,14 +52,17 @@ fn ending(alloc: Global, program: &Program, guest: &Guest<'_>) -> Result<(Text, 
     Ok((text, 4))
 }
 
-/// Tells a simulation under no script that has ended, since all harts are at halt or the journal is full: with the
-/// report, and status 0, where all harts are at halt, and else with the line that says so, and status 4. Of a sound
-/// program no case is reported, so that status 1, which would say so, never comes.
+/// Tells a simulation that has ended, since all harts are at halt or the journal is full: where all harts are at halt
+/// with the report, and status 0 where no case is reported, and else 1; and else with the line that says so, and status
+/// 4. Where the script has no lines, no case of a sound program is reported, and status 1 never comes.
+///
+/// Asked: a sound program, and a script that is accepted over its cases.
 pub fn told(alloc: Global, program: &Program, guest: Guest<'_>) -> Result<Simulated, NoMemory>
     requires sound { Sound program.now }
+    requires accepted { AreAccepted program.now.cases guest.faults }
     requires over { IsOver program.now guest }
     ensures told { IfOk result (λ s.
-        IsToldOf program.now guest.entry.limit guest.entry.journal s.text s.status) }
+        IsToldOf program.now guest.entry.faults guest.entry.limit guest.entry.journal s.text s.status) }
     ensures journal { IfOk result (λ s. s.journal.events ≡ guest.entry.journal) }
 {
     let (text, status) = ending(alloc, program, &guest)?;

@@ -1,12 +1,13 @@
 -- How the simulation of a sample is told.
-use Rattle.std.proofs.Common.{◌≡◌, ◌∙◌, ℕ, List, refl, sym, ap₂, subst, Some}
+use Rattle.std.proofs.Common.{◌≡◌, ◌∙◌, ℕ, List, [], refl, sym, ap, ap₂, subst, Some}
 use Rattle.tm_base.specs.declared.limits.TheConstants.{DEFAULT_EVENTS}
 use Rattle.tm_plan_cases.specs.declared.program.Program.{Program}
 use Rattle.tm_plan_cases.specs.declared.event.Event.{Event}
+use Rattle.tm_plan_script.specs.declared.faults.FaultLine.{FaultLine}
 use Rattle.tm_guest.specs.Guested.{Guested}
 use Rattle.tm_guest.specs.Rounds.{AllHalted}
 use Rattle.tm_report_run.specs.Verdicts.{verdicts_of}
-use Rattle.tm_top_owed.specs.Runs.{guest_of, IsOver, IsSimulated, IsRoundOrder}
+use Rattle.tm_top_owed.specs.Runs.{guest_of, IsOver, IsRunUnder, IsRoundOrder}
 use Rattle.tm_top_owed.specs.Owed.{IsBuiltOf, IsSampleOf, IsSummed}
 use Rattle.tm_sample.specs.Texts.{sample_topology, sample_template}
 use Rattle.tm_top_owed.specs.Sample.{summary}
@@ -29,14 +30,16 @@ summed_whole n p g events text over halted is said =
 -- ---- what is kept of it
 
 pub summary_of : (n : ℕ) (p : Program) (g : Guested) (events : List Event) (text its_text : List ℕ)
-    (status its_status : ℕ) → IsOver p g → g.limit ≡ DEFAULT_EVENTS → IsRoundOrder p DEFAULT_EVENTS g.journal
-    → IsSimulated p g.limit events → events ≡ g.journal → text ≡ its_text → status ≡ its_status
+    (status its_status : ℕ) → IsOver p g → g.faults ≡ [] → g.limit ≡ DEFAULT_EVENTS
+    → IsRoundOrder p [] DEFAULT_EVENTS g.journal → IsRunUnder p g.faults g.limit events → events ≡ g.journal → text ≡ its_text → status ≡ its_status
     → IsSummed n g its_text its_status → IsSummary n p events text status
-summary_of n p g events text its_text status its_status over limit order made same text_is status_is told =
-    let whole : g ≡ guest_of p DEFAULT_EVENTS events = as_guest p g over ∙ ap₂ (guest_of p) limit (sym same) in
+summary_of n p g events text its_text status its_status over none limit order made same text_is status_is told =
+    let whole : g ≡ guest_of p [] DEFAULT_EVENTS events = as_guest p g over
+    ∙ (ap (λ (ls : List FaultLine). guest_of p ls g.limit g.journal) none ∙ ap₂ (guest_of p []) limit (sym same)) in
     rw (text_is, status_is) (record {
-      simulated = subst (λ (most : ℕ). IsSimulated p most events) limit made;
-      in_order = subst (IsRoundOrder p DEFAULT_EVENTS) (sym same) order;
+      simulated = subst (λ (most : ℕ). IsRunUnder p [] most events) limit
+          (subst (λ (ls : List FaultLine). IsRunUnder p ls g.limit events) none made);
+      in_order = subst (IsRoundOrder p [] DEFAULT_EVENTS) (sym same) order;
       told = subst (λ (x : Guested). IsSummed n x its_text its_status) whole told;
     })
 

@@ -12,6 +12,7 @@ use std::alloc::Global;
 use tm_base::{DEFAULT_EVENTS, NoMemory, Text};
 use tm_plan_cases::Program;
 use tm_plan_journal::Journal;
+use tm_plan_script::Faults;
 use tm_report_run::verdicts;
 use tm_top_owed::{Simulated, run_in_order};
 
@@ -39,7 +40,7 @@ pub fn simulated(alloc: Global, n: u64, program: &Program) -> Result<Simulated, 
     requires room { budget_of program.now.cases ≤ DEFAULT_EVENTS }
     ensures { IfOk result (λ s. IsSummary n program.now s.journal.events s.text s.status) }
 {
-    let guest = run_in_order(alloc, program, DEFAULT_EVENTS)?;
+    let guest = run_in_order(alloc, program, Faults::nothing(alloc), DEFAULT_EVENTS)?;
     let text = summed_text(alloc, n, program, guest.journal())?;
     Ok(Simulated::of(program, guest, text, 0))
 }
