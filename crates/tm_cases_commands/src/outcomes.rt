@@ -42,12 +42,7 @@ pub fn put_files(
 }
 
 /// Appends what a desk holds under a name that its files didn't have.
-fn put_new(
-    state: &State,
-    desk: &mut MemDesk,
-    name: &str,
-    out: &mut Bytes,
-) -> Result<(), NoMemory> {
+fn put_new(state: &State, desk: &mut MemDesk, name: &str, out: &mut Bytes) -> Result<(), NoMemory> {
     if is_held(state, name) {
         return Ok(());
     }

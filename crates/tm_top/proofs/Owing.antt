@@ -6,8 +6,8 @@ use Rattle.tm_top_line.specs.declared.fault.AnyFault.{AnyFault}
 use Rattle.tm_top_line.specs.declared.fault.AnyFault.TheVariants.{Desk}
 use Rattle.tm_top_owed.specs.declared.stop.Stop.{Stop}
 use Rattle.tm_top_owed.specs.declared.stop.Stop.TheVariants as stop
-use Rattle.tm_words.specs.Words.{Command}
-use Rattle.tm_words.specs.Words.Command.{to_build, to_list, to_run, to_sample}
+use Rattle.tm_words.specs.declared.command.Command.{Command}
+use Rattle.tm_words.specs.declared.command.Command.TheVariants as commands
 use Rattle.tm_top_line.specs.Lines.{fault_text}
 use Rattle.tm_top_owed.specs.Inputs.{first_fault}
 use Rattle.tm_plan_cases.specs.declared.event.Event.{Event}
@@ -20,6 +20,7 @@ use Rattle.tm_top_owed.specs.Owed.InputFailure.{unread, missing}
 use Rattle.tm_top_owed.specs.Owed.IsFailure.{at_input, at_write, at_print}
 use Rattle.tm_top_owed.specs.Steps.{Stopped, Told, Reported, IsTellable}
 use Rattle.tm_top_owed.specs.Steps.Told.{told_whole, told_short}
+use Rattle.tm_top_run.proofs.Running.{all_stay}
 
 -- ---- how a call ended
 
@@ -33,11 +34,11 @@ others_stay : (desk : DeskChange) (name : List ℕ) → FilesStay desk → Other
 others_stay desk name stay = λ told other differs. ap (λ (files : List ℕ → Option (List ℕ)). files other) (stay told)
 
 -- where all files stay, the rest does
-rest_stays : (c : Command) (desk : DeskChange) → FilesStay desk → RestStays c desk
-rest_stays (to_build b) desk stay = others_stay desk b.out stay
-rest_stays (to_list image) desk stay = stay
-rest_stays (to_run r) desk stay = stay
-rest_stays (to_sample number) desk stay = stay
+pub rest_stays : (c : Command) (desk : DeskChange) → FilesStay desk → RestStays c desk
+rest_stays (commands.Build b) desk stay = others_stay desk b.out stay
+rest_stays (commands.List image) desk stay = stay
+rest_stays (commands.Run r) desk stay = all_stay r.trace desk stay
+rest_stays (commands.Sample number) desk stay = stay
 
 ended_refused : (asked : Option Command) (c : Command) (desk : DeskChange) (out err : SinkChange) (role : Role)
     (fault : AnyFault) (status : ℕ) → asked ≡ Some c → IsRefusal c desk role fault → IsUntouched desk out
@@ -104,17 +105,17 @@ same_fault : (c : Command) (desk : DeskChange) (role other_role : Role) (fault o
 same_fault c desk role other_role fault other is is_other =
     ap (λ (p : Role × AnyFault). p.1) (same_first (role, fault) (other_role, other) (sym is ∙ is_other))
 
-no_input : (number : ℕ) (desk : DeskChange) → first_fault (to_sample number) desk.held ≡ None
+no_input : (number : ℕ) (desk : DeskChange) → first_fault (commands.Sample number) desk.held ≡ None
 unfolding first_fault
 no_input number desk = refl
 
 -- where an end is ready, no input is at fault
 ready_accepted : (c : Command) (desk : DeskChange) (e : Ending) → IsReady c desk e → IsTrue desk.tells
     → first_fault c desk.held ≡ None
-ready_accepted (to_build b) desk e ready tells = ready.0.image.accepted tells
-ready_accepted (to_list image) desk e ready tells = ready.0.accepted tells
-ready_accepted (to_run r) desk e ready tells = ready.accepted tells
-ready_accepted (to_sample number) desk e ready tells = no_input number desk
+ready_accepted (commands.Build b) desk e ready tells = ready.0.image.accepted tells
+ready_accepted (commands.List image) desk e ready tells = ready.0.accepted tells
+ready_accepted (commands.Run r) desk e ready tells = ready.its.accepted tells
+ready_accepted (commands.Sample number) desk e ready tells = no_input number desk
 
 -- a failure with no count risen is that of the first fault
 failure_first : (c : Command) (desk : DeskChange) (out : SinkChange) (role wrong : Role) (fault : AnyFault)
@@ -123,7 +124,7 @@ failure_first : (c : Command) (desk : DeskChange) (out : SinkChange) (role wrong
 failure_first c desk out role wrong fault (at_input (unread input rose before) kept) tells calm is = absurd (calm rose)
 failure_first c desk out role wrong fault (at_input (missing _ first) kept) tells calm is =
     ap status_of (same_fault c desk role wrong (Desk Failed) fault first is)
-failure_first c desk out role wrong fault (at_write output rose left) tells calm is = absurd (calm rose)
+failure_first c desk out role wrong fault (at_write rose left) tells calm is = absurd (calm rose)
 failure_first c desk out role wrong fault (at_print output rose left) tells calm is =
     absurd (no_first c desk wrong fault (ready_accepted c desk left.ending left.ready tells) is)
 
@@ -154,7 +155,7 @@ failure_none : (c : Command) (desk : DeskChange) (out : SinkChange) (role : Role
 failure_none c desk out role (at_input (unread input rose before) kept) calm quiet none = calm rose
 failure_none c desk out role (at_input (missing _ first) kept) calm quiet none =
     no_first c desk role (Desk Failed) none first
-failure_none c desk out role (at_write output rose left) calm quiet none = calm rose
+failure_none c desk out role (at_write rose left) calm quiet none = calm rose
 failure_none c desk out role (at_print output rose left) calm quiet none = quiet rose
 
 always_done : (asked : Option Command) (c : Command) (desk : DeskChange) (out err : SinkChange)

@@ -5,10 +5,10 @@ use Rattle.std.specs.declared.io.Error.{Error}
 use Rattle.std.specs.declared.io.ErrorKind.TheVariants as kinds
 use Rattle.std.specs.declared.string.String.{String}
 use Rattle.std.specs.declared.alloc.Global.{Global}
-use Rattle.tm_words.specs.Words.{bytes_of_words, command_if}
+use Rattle.tm_words.specs.Words.{bytes_of_words}
 use Rattle.tm_plan_cases.specs.declared.event.Event.{Event}
 use Rattle.tm_top_owed.specs.Changes.{DeskChange, SinkChange, FilesStay, Silent, TookFronts}
-use Rattle.tm_top_owed.specs.Owed.{Owes}
+use Rattle.tm_top_owed.specs.Owed.{OwesWords}
 use Rattle.tm_top.specs.declared.program.NoWords.{NoWords}
 use Rattle.tm_top.specs.declared.program.NoWords.TheVariants.{NotText, NoMemory}
 
@@ -17,8 +17,8 @@ use Rattle.tm_top.specs.declared.program.NoWords.TheVariants.{NotText, NoMemory}
 abbrev pub OwesFor : Result (Vec (String Global) Global) NoWords → DeskChange → SinkChange → SinkChange
     → Option (List Event) → ℕ → Type 0
 OwesFor (Ok words) desk out err journal status =
-    Owes (command_if false (bytes_of_words words.items)) desk out err journal status
-OwesFor (Err NotText) desk out err journal status = Owes (command_if false []) desk out err journal status
+    OwesWords false (bytes_of_words words.items) desk out err journal status
+OwesFor (Err NotText) desk out err journal status = OwesWords false [] desk out err journal status
 OwesFor (Err NoMemory) desk out err journal status =
     (status ≡ 6) × (journal ≡ None) × FilesStay desk × Silent out × TookFronts err []
 

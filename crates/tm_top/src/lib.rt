@@ -11,3 +11,4 @@ pub use tm_sample::laws::always_accepted;
 pub use tm_sample::sample_texts;
 pub use tm_top_line::{AnyFault, fault_line};
 pub use tm_top_owed::Outcome;
+pub use tm_words::laws::words_ask;
