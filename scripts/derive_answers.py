@@ -24,7 +24,7 @@ CRATES = Path(__file__).resolve().parent.parent / "crates"
 
 def stored_answers(crate):
     """The stored cases with their answers: a line, and behind it one that begins with two blanks."""
-    lines = (CRATES / crate / "stdout").read_bytes().decode("latin1").split("\n")
+    lines = (CRATES / crate / "stdout").read_bytes().decode("utf-8", "replace").split("\n")
     pairs = []
     for at in range(0, len(lines) - 1, 2):
         pairs.append((lines[at], lines[at + 1].removeprefix("  ")))

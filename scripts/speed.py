@@ -3,12 +3,13 @@
 
 usage: speed.py THREADMILL FOLDER
 
-Needs riscv64-linux-gnu-as and -ld (Debian: binutils-riscv64-linux-gnu) and qemu-system-riscv64 (qemu-system-misc);
-what is missing is left out, and said.
+Needs riscv64-linux-gnu-as and -ld (Debian: binutils-riscv64-linux-gnu) and qemu-system-riscv64 (qemu-system-misc), and
+crates/tm_cases_scripts/out/tm_cases_scripts, which the gate leaves there; what is missing is left out, and said.
 
 The program's own figures are compared with those that docs/gate.md keeps, in the table that begins
-`| Figure | Kept | Unit |`. Figures "a second" are better where they are greater, all others where they are less. Where
-one is worse than twice the kept one, or a kept one wasn't measured, the script says so and ends with status 1.
+`| Figure | Kept | Unit |`. A kept figure whose unit ends with "at least" or "at most" is a bound. Of the others those
+"a second" are better where they are greater, all others where they are less. Where a bound isn't kept, a figure is
+worse than twice the kept one, or a kept one wasn't measured, the script says so and ends with status 1.
 """
 import argparse
 import os
@@ -18,10 +19,20 @@ import sys
 import time
 from pathlib import Path
 
+sys.path.insert(0, str(Path(__file__).resolve().parent))
+
+from derive.scripts import has_effect
+from survey import FileImage, decode
+
 MIXED = "cores = 2\nthreads = 2\nline = 64\nbias = 40\n"
 WINDOWS = "window 0 true 4\nwindow 1 false 4\nwindow 2 own 8\n"
 WIDE = "cores = 8\nthreads = 1\nline = 64\n"
 QEMU_SECONDS = 5
+MEGABYTE = 1e6
+# A trace that is read back has so many of these lines.
+TRACE_EVENTS = 800_000
+TRACE_LINE = "0 0000000080000578 0083b023 w 0000000080c01000 8 0000000000000000"
+READER = Path(__file__).resolve().parent.parent / "crates" / "tm_cases_scripts" / "out" / "tm_cases_scripts"
 KEPT = Path(__file__).resolve().parent.parent / "docs" / "gate.md"
 KEPT_HEAD = "| Figure | Kept | Unit |"
 
@@ -44,6 +55,16 @@ def stores():
     return "template stores\npasses 8\n" + WINDOWS + cases
 
 
+def fault_of(value, kept, unit):
+    """What is wrong with a figure, if anything."""
+    if unit.endswith("at least"):
+        return ": LESS" if value < kept else ""
+    if unit.endswith("at most"):
+        return ": MORE" if value > kept else ""
+    times = kept / value if unit.endswith("a second") else value / kept
+    return ": WORSE THAN TWICE" if times > 2 else ""
+
+
 class Figures:
     """The figures that were measured, and how they compare with the kept ones."""
 
@@ -58,15 +79,15 @@ class Figures:
             print(f"  {name}: {value:.2f} {unit}, not kept")
             return
         self.left.discard((name, unit))
-        times = kept / value if unit.endswith("a second") else value / kept
-        self.worse += times > 2
-        print(f"  {name}: {value:.2f} {unit}, kept {kept:g}" + (": WORSE THAN TWICE" if times > 2 else ""))
+        wrong = fault_of(value, kept, unit)
+        self.worse += wrong != ""
+        print(f"  {name}: {value:.2f} {unit}, kept {kept:g}{wrong}")
 
     def status(self):
         for name, unit in sorted(self.left):
             print(f"{name}, {unit}: kept, and not measured")
         if self.worse:
-            print(f"{self.worse} figures are worse than twice")
+            print(f"{self.worse} figures are worse than twice, or not within their bounds")
         return 1 if self.worse or self.left else 0
 
 
@@ -84,12 +105,12 @@ def kept_figures(page):
     return kept
 
 
-def measured(words, times=5):
-    """The least seconds of some runs, and the last run's output and greatest memory in MiB."""
+def measured(words, times=5, folder=None):
+    """The least seconds of some runs in a folder, and the last run's output and greatest memory in MiB."""
     best = None
     for _ in range(times):
         begun = time.monotonic()
-        process = subprocess.Popen([str(word) for word in words], stdout=subprocess.PIPE)
+        process = subprocess.Popen([str(word) for word in words], stdout=subprocess.PIPE, cwd=folder)
         out = process.stdout.read().decode()
         _, status, usage = os.wait4(process.pid, 0)
         seconds = time.monotonic() - begun
@@ -177,8 +198,72 @@ def shared(program, image, figures):
         os.sched_setaffinity(0, processors)
     print(f"run threads: {alone:.3f} s alone, {beside:.3f} s beside busy loops, {pinned:.3f} s on one processor")
     name = f"run {image.stem} threads"
-    figures.note(f"{name} beside busy loops", beside / alone, "times as long")
-    figures.note(f"{name} on one processor", pinned / alone, "times as long")
+    figures.note(f"{name} beside busy loops", beside / alone, "times as long, at most")
+    figures.note(f"{name} on one processor", pinned / alone, "times as long, at most")
+
+
+def script_of(image, folder):
+    """A script of some hundred lines for an image: a bit of a result, in pass 1, which most of them leave behind."""
+    cases = FileImage(image.read_bytes()).cases.cases
+    lines = []
+    for c, case in enumerate(cases):
+        for h, words in enumerate(case.words):
+            slots = [s for s, word in enumerate(words) if has_effect("result", decode(word))]
+            lines += [f"hart {h} case {c} pass 1 slot {s} result 1\n" for s in slots[:: max(1, len(slots) // 4)]]
+    path = folder / "long.faults"
+    path.write_text("".join(lines))
+    return path, len(lines)
+
+
+def faulted(program, image, folder, figures):
+    """A run in round order under a script beside the same without."""
+    script, lines = script_of(image, folder)
+    words = [program, "run", image, "--order", "round"]
+    plain = measured(words, 7)
+    under = measured([*words, "--faults", script], 7)
+    # A reported pass ends its comparison early, so the rates are compared, not the seconds.
+    events = [int(out.strip().split()[-1]) for _, out, _, _ in (plain, under)]
+    rates = [count / run[0] for count, run in zip(events, (plain, under))]
+    print(f"run round under a script of {lines} lines: {events[1]} events in {under[0]:.3f} s, "
+          f"without it {events[0]} in {plain[0]:.3f} s")
+    figures.note(f"run {image.stem} faulted", rates[0] / rates[1], "times as long, at most")
+
+
+def written(program, image, folder, figures):
+    """The trace of a run, written."""
+    trace = folder / "long.trace"
+    words = [program, "run", image, "--order", "round"]
+    plain = measured(words, 7)[0]
+    seconds = measured([*words, "--trace", trace], 7)[0]
+    size = trace.stat().st_size
+    trace.unlink()
+    rate = size / MEGABYTE / max(seconds - plain, 1e-6)
+    print(f"trace of a run in round order: {size} bytes in {seconds:.3f} s, {plain:.3f} s of them without it")
+    figures.note("trace written", rate, "MB a second, at least")
+
+
+def read_back(folder, figures):
+    """A trace, read and written again by the program of cases; what else it does is measured without the reading."""
+    if not READER.exists():
+        print(f"{READER} isn't here")
+        return
+    folder = folder / "read_back"
+    folder.mkdir(exist_ok=True)
+    (folder / "scripts").write_text("")
+    head = f"trace 1 harts 1 events {TRACE_EVENTS}\\n"
+    size = len(head) - 1 + TRACE_EVENTS * (len(TRACE_LINE) + 1) + 4
+    seconds = []
+    for kind in ("let T", "trace"):
+        lines = f"times E {TRACE_EVENTS} {TRACE_LINE}\\n\n{kind} {head}{{E}}end\\n\n"
+        (folder / "traces").write_text(lines)
+        took, out, _, status = measured([READER], 3, folder)
+        if status != 0 or (kind == "trace" and not out.endswith(", the same\n")):
+            print(f"{READER} ended with status {status}: {out[-80:]}")
+            return
+        seconds.append(took)
+    rate = size / MEGABYTE / max(seconds[1] - seconds[0], 1e-6)
+    print(f"trace of {size} bytes, read and written again: {seconds[1]:.3f} s, {seconds[0]:.3f} s of them for its text")
+    figures.note("trace read back", rate, "MB a second, at least")
 
 
 def traced(folder, image, harts):
@@ -217,6 +302,9 @@ def main():
     image = built(asked.program, asked.folder, "long", MIXED, long(), figures)
     for order in ("round", "threads"):
         simulated(asked.program, image, order, 4000000, figures)
+    faulted(asked.program, image, asked.folder, figures)
+    written(asked.program, image, asked.folder, figures)
+    read_back(asked.folder, figures)
     shared(asked.program, image, figures)
     traced(asked.folder, image, 4)
     return figures.status()

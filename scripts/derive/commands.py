@@ -4,7 +4,9 @@ from . import template, texts, topology
 from .faults import Fault
 from .image import Image, open_image, topology_of
 from .numbers import number_or_none
+from .scripts import LONGEST, read_script
 from .simulator import Run
+from .traces import trace_text
 
 LONGEST_IMAGE = 16_777_216
 MOST_EVENTS = 4_000_000
@@ -19,39 +21,78 @@ class Stop(Exception):
         self.line = line.encode()
 
 
-def is_file_name(word):
-    return word != "" and not word.startswith("-")
+# Of each command: how many names stand behind it, and its options.
+FORMS = {
+    "build": (3, ("--seed",)),
+    "list": (1, ()),
+    "run": (1, ("--events", "--order", "--faults", "--trace")),
+    "sample": (1, ()),
+}
 
 
 def number_of(word):
     return number_or_none(word.encode())
 
 
-def read_run(words, orders):
-    """The image, the most events and the order of words that ask for a run in one of the orders, or None."""
-    options = dict(zip(words[2::2], words[3::2]))
-    if len(words) not in (2, 4, 6) or not is_file_name(words[1]) or len(options) != len(words) // 2 - 1:
+def split_words(words, known):
+    """The names and, by name, the options of the words behind a command; None where they aren't of the form."""
+    names, options, left = [], {}, list(words)
+    while left:
+        word = left.pop(0)
+        if word == "--":
+            names += left
+            break
+        if not word.startswith("-"):
+            names.append(word)
+            continue
+        option, is_joined, value = word.partition("=")
+        if option not in known or option in options:
+            return None
+        options[option] = value if is_joined else left.pop(0) if left else ""
+    taken = [*names, *options.values()]
+    return (names, options) if all(word and not word.startswith("-") for word in taken) else None
+
+
+def read_run(image, options, orders):
+    """The parts of a run in one of the orders, or None."""
+    events = number_of(options.get("--events", str(MOST_EVENTS)))
+    order = options.get("--order", "threads")
+    if order not in orders or events is None or not 1 <= events <= 100_000_000:
         return None
-    events = number_of(options.pop("--events", str(MOST_EVENTS)))
-    order = options.pop("--order", "threads")
-    if options or order not in orders or events is None or not 1 <= events <= 100_000_000:
+    return image, events, order, options.get("--faults"), options.get("--trace")
+
+
+def parts_of(command, names, options, orders):
+    """What a command asks for, or None."""
+    if command == "run":
+        return read_run(*names, options, orders)
+    if command == "list":
+        return names
+    number = number_of(options.get("--seed", "") if command == "build" else names[0])
+    if number is None:
         return None
-    return words[1], events, order
+    return (*names, number) if command == "build" else (number,)
 
 
 def read_words(words, orders):
     """The command that the words ask for, where runs may have these orders: a name and its parts, or None."""
-    if words[:1] == ["build"] and len(words) == 6 and all(is_file_name(w) for w in words[1:4]):
-        seed = number_of(words[5])
-        return ("build", *words[1:4], seed) if words[4] == "--seed" and seed is not None else None
-    if words[:1] == ["list"] and len(words) == 2 and is_file_name(words[1]):
-        return ("list", words[1])
-    if words[:1] == ["sample"] and len(words) == 2 and number_of(words[1]) is not None:
-        return ("sample", number_of(words[1]))
-    if words[:1] == ["run"]:
-        found = read_run(words, orders)
-        return ("run", *found) if found else None
-    return None
+    command, *rest = words or [""]
+    if command not in FORMS:
+        return None
+    count, known = FORMS[command]
+    found = split_words(rest, known)
+    if found is None or len(found[0]) != count:
+        return None
+    parts = parts_of(command, *found, orders)
+    return None if parts is None else (command, *parts)
+
+
+def read_faults(text, cases):
+    """The lines of a script, or its first fault, named by the layer that it is of."""
+    try:
+        return read_script(text, cases)
+    except Fault as fault:
+        raise Fault("Lex", fault=fault) if fault.name in ("BadByte", "LongWord") else fault from None
 
 
 class Call:
@@ -82,6 +123,12 @@ class Call:
         except Fault as fault:
             raise Stop(5 if fault.name == "Failed" else 3, f"threadmill: {role}: {fault.told()}\n") from None
 
+    def write(self, role, name, data):
+        try:
+            self.desk.write(name, data)
+        except Fault:
+            raise Stop(5, f"threadmill: {role}: Failed\n") from None
+
     def asked(self, role, question, *parts):
         """What a question answers, where its fault is a refusal."""
         try:
@@ -100,10 +147,7 @@ class Call:
         self.asked("topology", topology_of, first)
         second = self.read("template", tmpl, template.LONGEST)
         image = self.asked("template", Image, first, second, seed)
-        try:
-            self.desk.write(out, image.file)
-        except Fault:
-            raise Stop(5, "threadmill: output: Failed\n") from None
+        self.write("output", out, image.file)
         cases = image.cases
         self.print(f"built: harts {cases.harts}, cases {len(cases.cases)}, bytes {len(image.file)}\n".encode())
         return 0
@@ -124,10 +168,20 @@ class Call:
             return 4
         return 1 if texts.reported(run) else 0
 
-    def run(self, name, events, order):
-        run = Run(self.opened(name), events)
+    def script(self, name, cases):
+        """The lines of a script, none where none is named."""
+        if name is None:
+            return []
+        return self.asked("faults", read_faults, self.read("faults", name, LONGEST), cases)
+
+    def run(self, name, events, order, faults, trace):
+        image = self.opened(name)
+        script = self.script(faults, image.cases)
+        run = Run(image, events, script)
         if order == "threads" and run.cases.harts != 1:
             raise NotImplementedError("a run of many harts by threads has more than one end")
+        if trace is not None:
+            self.write("trace", trace, trace_text(run.cases.harts, run.journal))
         return self.told(run, texts.report)
 
     def sample(self, n):

@@ -398,13 +398,16 @@ DESKS = {"desk": desks, "sink": sinks}
 # ---- commands
 
 
-def taken(name, data):
-    """What a sink took, if it took something; of a long text its length and its digest."""
-    if not data:
-        return ""
+def long_shown(data):
+    """Bytes; of a long text its length and its digest."""
     if len(data) <= 4096:
-        return f", {name} {shown(data)}"
-    return f", {name} {len(data)} bytes of SHA-256 {hashlib.sha256(data).hexdigest()}"
+        return shown(data)
+    return f"{len(data)} bytes of SHA-256 {hashlib.sha256(data).hexdigest()}"
+
+
+def taken(name, data):
+    """What a sink took, if it took something."""
+    return f", {name} {long_shown(data)}" if data else ""
 
 
 def call(words, desk, options):
@@ -423,22 +426,38 @@ def file_told(book, name, file):
 
 
 def files_told(book, desk, words):
-    """Each file that isn't as it was: those that were held, and then new ones, in the order of the words."""
+    """Each file that isn't as it was: those that were held, then new ones in the order of the words."""
     out = ""
     for name, was in book.held.items():
         if desk.files[name] != was:
             out += file_told(book, name, desk.files[name])
-    for name in words:
-        if name in desk.files and name not in book.held:
-            out += file_told(book, name, desk.files[name])
+    for word in words:
+        for name in (word, word.partition("=")[2]):
+            if name in desk.files and name not in book.held:
+                out += file_told(book, name, desk.files[name])
     return out
 
 
-def command(book, rest):
+def done(book, rest):
+    """What a command over the held files answers, and the desk behind it."""
     options, words = options_of(rest)
     words = [book.read(word).decode("utf-8", "replace") for word in words.split(" ")]
     desk = Desk(book.held, calls(options, "desk"))
-    return call(words, desk, options) + files_told(book, desk, words)
+    return call(words, desk, options) + files_told(book, desk, words), desk
+
+
+def command(book, rest):
+    return done(book, rest)[0]
+
+
+def keep(book, rest):
+    """A command; one of the files that the desk then holds gets a name as a text."""
+    name, _, rest = rest.partition(" ")
+    file, _, rest = rest.partition(" ")
+    out, desk = done(book, rest)
+    if file in desk.files:
+        book.texts[name] = desk.files[file]
+    return out
 
 
 def image(book, rest):
@@ -452,10 +471,10 @@ def image(book, rest):
 
 def bytes_of(book, rest):
     name, at, count = words_of(rest, 3)
-    return shown(book.find(name)[small(at) :][: small(count)])
+    return long_shown(book.find(name)[small(at) :][: small(count)])
 
 
-COMMANDS = {"command": command, "image": image, "bytes": bytes_of}
+COMMANDS = {"command": command, "keep": keep, "image": image, "bytes": bytes_of}
 
 # ---- words of a program
 
@@ -486,5 +505,5 @@ PROGRAMS = {
     "tm_cases_scripts": (["scripts", "traces"], SCRIPTS),
     "tm_cases_elf": (["elf"], ELF),
     "tm_cases_desks": (["desks"], DESKS),
-    "tm_cases_commands": (["texts", "commands", "runs", "tests"], COMMANDS),
+    "tm_cases_commands": (["texts", "commands", "runs", "tests", "words", "faults"], COMMANDS),
 }

@@ -5,6 +5,8 @@ from .lexer import tokens
 from .numbers import number_or_none
 from .table import BRANCHES, LOADS, STORES, decode, has_rd
 
+LONGEST = 65_536
+
 NUMBERED = ("result", "loaded", "stored")
 ACTIONS = NUMBERED + ("drop", "turn")
 

@@ -1,20 +1,38 @@
 // Whole commands over desks and sinks in memory.
-use crate::outcomes::{held, put_files, put_taken};
+use crate::outcomes::{held, put_files, put_shown, put_taken};
 use std::alloc::Global;
 use std::str;
 use tm_base::{Bytes, NoMemory, push_decimal};
-use tm_cases_book::{State, calls, option, put_text, small, words_of};
+use tm_cases_book::{State, calls, option, small, words_of};
 use tm_desk::{MemDesk, MemSink};
 use tm_top::still;
 
 /// A command, `OPTIONS: WORDS`, over the held files: `desk=`, `out=` and `err=` have the numbers of the calls that
 /// fail, `most=` how many bytes a put takes.
 pub fn command(state: &State, rest: &str, out: &mut Bytes) -> Result<(), NoMemory> {
+    let _ = done(state, rest, out)?;
+    Ok(())
+}
+
+/// A command, behind the name of a text and that of a file: what the file holds afterwards is put under the name.
+pub fn keep(state: &mut State, rest: &str, out: &mut Bytes) -> Result<(), NoMemory> {
+    let (name, rest) = rest.split_once(' ').unwrap_or((rest, ""));
+    let (file, rest) = rest.split_once(' ').unwrap_or((rest, ""));
+    let mut desk = done(state, rest, out)?;
+    match held(&mut desk, file) {
+        Some(file) => state.texts.put(name, file),
+        None => Ok(()),
+    }
+}
+
+/// Does a command, appends what it did, and gives its desk.
+fn done(state: &State, rest: &str, out: &mut Bytes) -> Result<MemDesk, NoMemory> {
     let (options, words) = rest.split_once(": ").unwrap_or(("", rest));
     let words = command_words(state, words)?;
     let mut desk = state.desk(options)?;
     put_call(state.alloc, options, words.as_slice(), &mut desk, out)?;
-    put_files(state, &mut desk, words.as_slice(), out)
+    put_files(state, &mut desk, words.as_slice(), out)?;
+    Ok(desk)
 }
 
 /// The words between blanks.
@@ -99,5 +117,5 @@ pub fn slice(state: &State, rest: &str, out: &mut Bytes) -> Result<(), NoMemory>
     let [name, at, count, ..] = words_of(rest);
     let from = small(at) as usize;
     let tail = state.texts.find(name).get(from..).unwrap_or(b"");
-    put_text(out, tail.get(..small(count) as usize).unwrap_or(tail))
+    put_shown(tail.get(..small(count) as usize).unwrap_or(tail), out)
 }

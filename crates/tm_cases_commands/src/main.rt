@@ -4,7 +4,7 @@
 mod commands;
 mod outcomes;
 
-use commands::{command, image, slice};
+use commands::{command, image, keep, slice};
 use std::process::ExitCode;
 use std::rt::HostRuntime;
 use tm_base::{Bytes, NoMemory};
@@ -18,6 +18,7 @@ impl Kinds for CommandCases {
             "image" => Some("wttw"),
             "bytes" => Some("tnn"),
             "command" => Some("O"),
+            "keep" => Some("wwO"),
             _ => None,
         }
     }
@@ -33,11 +34,13 @@ impl Kinds for CommandCases {
             "image" => image(state, rest, out),
             "bytes" => slice(state, rest, out),
             "command" => command(state, rest, out),
+            "keep" => keep(state, rest, out),
             _ => out.append(b"no such kind"),
         }
     }
 }
 
 fn main(rt: HostRuntime) -> ExitCode {
-    answer_files(rt, &["texts", "commands", "runs", "tests"], &CommandCases)
+    let files = ["texts", "commands", "runs", "tests", "words", "faults"];
+    answer_files(rt, &files, &CommandCases)
 }

@@ -33,13 +33,23 @@ pub fn put_files(
         put_change(&state.texts, file, is, out)?;
     }
     for word in words {
-        if !is_held(state, word) {
-            if let Some(file) = held(desk, word) {
-                put_file(&state.texts, word, file.as_slice(), out)?;
-            }
+        put_new(state, desk, word, out)?;
+        if let Some((_, value)) = word.split_once('=') {
+            put_new(state, desk, value, out)?;
         }
     }
     Ok(())
+}
+
+/// Appends what a desk holds under a name that its files didn't have.
+fn put_new(state: &State, desk: &mut MemDesk, name: &str, out: &mut Bytes) -> Result<(), NoMemory> {
+    if is_held(state, name) {
+        return Ok(());
+    }
+    match held(desk, name) {
+        Some(file) => put_file(&state.texts, name, file.as_slice(), out),
+        None => Ok(()),
+    }
 }
 
 fn is_held(state: &State, name: &str) -> bool {
@@ -87,7 +97,7 @@ fn put_file(texts: &Book, name: &str, file: &[u8], out: &mut Bytes) -> Result<()
     out.append(b" bytes")
 }
 
-/// Appends what a sink took, if it took something; of a long text its length and its digest.
+/// Appends what a sink took, if it took something.
 pub fn put_taken(name: &[u8], taken: &[u8], out: &mut Bytes) -> Result<(), NoMemory>
     ensures { taken.now ≡ [] → out.new ≡ out.old }
 {
@@ -95,12 +105,17 @@ pub fn put_taken(name: &[u8], taken: &[u8], out: &mut Bytes) -> Result<(), NoMem
         return Ok(());
     }
     out.append(name)?;
-    if taken.len() <= LONGEST_SHOWN {
-        return put_text(out, taken);
+    put_shown(taken, out)
+}
+
+/// Appends bytes; of a long text its length and its digest.
+pub fn put_shown(text: &[u8], out: &mut Bytes) -> Result<(), NoMemory> {
+    if text.len() <= LONGEST_SHOWN {
+        return put_text(out, text);
     }
-    push_decimal(out, taken.len() as u64)?;
+    push_decimal(out, text.len() as u64)?;
     out.append(b" bytes of SHA-256 ")?;
-    for byte in Sha256::digest(taken) {
+    for byte in Sha256::digest(text) {
         push_hex(out, u64::from(byte), 2)?;
     }
     Ok(())

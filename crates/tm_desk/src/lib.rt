@@ -11,6 +11,7 @@ mod mem_desk;
 mod mem_sink;
 mod real;
 mod sink;
+mod whole;
 
 pub use calm_desk::CalmDesk;
 pub use calm_sink::CalmSink;

@@ -3,6 +3,7 @@ ghost use Rattle.std.specs.Prelude.{◌≡◌, ◌↔◌, ◌≤◌, ◌<◌, �
 ghost use Rattle.std.specs.IoError.{error_kind};
 ghost use Rattle.tm_desk.specs.Causes.{WriteFault, PutFault};
 
+use crate::whole::write_whole;
 use crate::{Desk, DeskError, Sink, SinkError};
 use std::alloc::Global;
 use std::fs;
@@ -86,7 +87,7 @@ impl<R: Files> Desk for RealDesk<R> {
     }
 
     fn write(&mut self, name: &str, bytes: &[u8]) -> Result<(), DeskError> {
-        match fs::write(&self.files, name, bytes) {
+        match write_whole(self.alloc, &self.files, name, bytes) {
             Ok(()) => Ok(()),
             Err(error) => Err(self.counted(error)),
         }

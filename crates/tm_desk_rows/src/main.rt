@@ -12,6 +12,7 @@ use std::io;
 fn main(rt: HostRuntime) -> io::Result<()> {
     files::short_file(&rt)?;
     files::long_file(&rt)?;
+    files::old_file(&rt)?;
     sinks::output(&rt)?;
     sinks::refusals(&rt)?;
     sinks::short_writes(&rt)?;

@@ -10,3 +10,5 @@ pub mod Refusing
 pub mod Scripts
 pub mod Refusals
 pub mod Going
+pub mod Entries
+pub mod Rooms

@@ -1,3 +1,4 @@
 pub mod Script
 pub mod Spelled
 pub mod Causes
+pub mod Marks

@@ -3,6 +3,7 @@
 
 mod fault;
 mod line;
+mod marks;
 mod parse;
 mod slots;
 mod words;

@@ -1,64 +1,20 @@
 // All lines of a script.
-ghost use Rattle.std.specs.Prelude.{◌≡◌, ◌≢◌, ◌^◌, ◌<◌, ◌≤◌, Ok, Err, IfOk, IfErr, All, length};
-ghost use Rattle.std.specs.List.{list_any};
+ghost use Rattle.std.specs.Prelude.{◌≡◌, ◌≢◌, ◌*◌, ◌^◌, ◌<◌, [], Ok, Err, IfOk, IfErr, IfSome, All, length};
 ghost use Rattle.tm_plan_cases.specs.Shaped.{AreShaped};
-ghost use Rattle.tm_plan_script.specs.declared.faults.FaultLine.{FaultLine};
-ghost use Rattle.tm_plan_script.specs.Accepted.{same_kind, meet, are_twice};
 ghost use Rattle.tm_lex.specs.Lines as lexed;
 ghost use Rattle.tm_fault.specs.Script as script;
 ghost use Rattle.tm_fault.specs.Spelled as spelled;
 ghost use Rattle.tm_fault.specs.Causes as causes;
+ghost use Rattle.tm_fault.specs.Marks as marked;
 
 use crate::FaultScriptFault;
 use crate::line::line_at;
+use crate::marks::{CASE_ENTRIES, Marks};
 use std::alloc::Global;
 use tm_base::Pos;
 use tm_lex::{LexFault, Token, tokens};
 use tm_plan_cases::Cases;
-use tm_plan_script::{Action, FaultLine, Faults};
-
-// Whether two actions are of one kind.
-fn same_kind(a: Action, b: Action) -> bool
-    ensures { result ≡ same_kind a b }
-{
-    match (a, b) {
-        (Action::Result(_), Action::Result(_))
-        | (Action::Loaded(_), Action::Loaded(_))
-        | (Action::Stored(_), Action::Stored(_))
-        | (Action::Drop, Action::Drop)
-        | (Action::Turn, Action::Turn) => true,
-        _ => false,
-    }
-}
-
-// Whether two lines have a pass in common.
-fn meet(a: Option<u32>, b: Option<u32>) -> bool
-    ensures { result ≡ meet a b }
-{
-    match (a, b) {
-        (Some(k), Some(n)) => k == n,
-        _ => true,
-    }
-}
-
-// Whether two lines name the same step and the same action.
-fn are_twice(a: FaultLine, b: FaultLine) -> bool
-    ensures { result ≡ are_twice a b }
-{
-    a.hart == b.hart
-        && a.case == b.case
-        && a.slot == b.slot
-        && same_kind(a.action, b.action)
-        && meet(a.pass, b.pass)
-}
-
-// Whether an earlier line names what a line names.
-#[tactic(auto, unfolding(crate::specs::Script::is_twice))]
-fn is_twice(before: &[FaultLine], line: FaultLine) -> bool
-    ensures { result ≡ script.is_twice before.now line }
-{
-    before.iter().any(|earlier| are_twice(*earlier, line))
-}
+use tm_plan_script::{FaultLine, Faults};
 
 // The place of the first token.
 fn first_at(tokens: &[Token]) -> Pos
@@ -70,21 +26,22 @@ fn first_at(tokens: &[Token]) -> Pos
     }
 }
 
-// The next line, behind earlier ones.
+// The next line, behind those that the table tells of.
 fn next_line<'a>(
     text: &[u8],
     tokens: &'a [Token],
     cases: &Cases,
-    before: &[FaultLine],
+    marks: &Marks,
 ) -> Result<(FaultLine, &'a [Token]), FaultScriptFault>
     requires spans { All (lexed.IsSpan text.now) tokens.now }
-    requires few { script.HasFewSlots cases.now }
-    requires cases { length cases.now.cases ≤ 2 ^ 32 }
-    requires harts { cases.now.harts ≤ 2 ^ 32 }
-    ensures { script.Reads text.now (script.next_line cases.now before.now) tokens.now result }
+    requires shaped { AreShaped cases.now }
+    requires entries { length marks.now ≡ length cases.now.cases * CASE_ENTRIES }
+    ensures reads { (before : _) → marked.AreMarks before marks.now
+        → script.Reads text.now (script.next_line cases.now before) tokens.now result }
+    ensures tabled { IfOk result (λ r. marked.IsTabled (length marks.now) r.0) }
 {
     let (line, rest) = line_at(text, tokens, cases)?;
-    if is_twice(before, line) {
+    if marks.has(line) {
         return Err(FaultScriptFault::Twice {
             pos: first_at(tokens),
         });
@@ -92,25 +49,39 @@ fn next_line<'a>(
     Ok((line, rest))
 }
 
-// The next line behind earlier ones, if there is one.
+// The next line behind those that the table tells of, if there is one.
 fn next_of<'a>(
     text: &[u8],
     tokens: &'a [Token],
     cases: &Cases,
-    before: &[FaultLine],
+    marks: &Marks,
 ) -> Result<Option<(FaultLine, &'a [Token])>, FaultScriptFault>
     requires spans { All (lexed.IsSpan text.now) tokens.now }
-    requires few { script.HasFewSlots cases.now }
-    requires cases { length cases.now.cases ≤ 2 ^ 32 }
-    requires harts { cases.now.harts ≤ 2 ^ 32 }
-    ensures { script.IsNext cases.now text.now before.now tokens.now result }
+    requires shaped { AreShaped cases.now }
+    requires entries { length marks.now ≡ length cases.now.cases * CASE_ENTRIES }
+    ensures next { (before : _) → marked.AreMarks before marks.now
+        → script.IsNext cases.now text.now before tokens.now result }
+    ensures tabled { IfOk result (λ o. IfSome o (λ r. marked.IsTabled (length marks.now) r.0)) }
 {
     if tokens.is_empty() {
         return Ok(None);
     }
-    match next_line(text, tokens, cases, before) {
+    match next_line(text, tokens, cases, marks) {
         Ok((line, rest)) => Ok(Some((line, rest))),
         Err(fault) => Err(fault),
+    }
+}
+
+// The table of some cases before any line.
+fn marks_of(alloc: Global, cases: &Cases) -> Result<Marks, FaultScriptFault>
+    requires { AreShaped cases.now }
+    ensures marks { IfOk result (λ m. marked.AreMarks [] m) }
+    ensures long { IfOk result (λ m. length m ≡ length cases.now.cases * CASE_ENTRIES) }
+    ensures err { IfErr result (λ e. e ≡ FaultScriptFault.NoMemory) }
+{
+    match Marks::none(alloc, cases.cases.as_slice().len()) {
+        Ok(marks) => Ok(marks),
+        Err(_) => Err(FaultScriptFault::NoMemory),
     }
 }
 
@@ -122,19 +93,19 @@ fn read_lines(
     cases: &Cases,
 ) -> Result<Faults, FaultScriptFault>
     requires spans { All (lexed.IsSpan text.now) tokens.now }
-    requires few { script.HasFewSlots cases.now }
-    requires cases { length cases.now.cases ≤ 2 ^ 32 }
-    requires harts { cases.now.harts ≤ 2 ^ 32 }
+    requires shaped { AreShaped cases.now }
     ensures ok { IfOk result (λ lines. script.of_tokens cases.now text.now (Ok tokens.now) ≡ Ok lines) }
     ensures err { IfErr result (λ e. e ≢ FaultScriptFault.NoMemory
         → script.of_tokens cases.now text.now (Ok tokens.now) ≡ Err e) }
 {
+    let mut marks = marks_of(alloc, cases)?;
     let mut faults = Faults::nothing(alloc);
     let mut rest = tokens;
-    while let Some((line, behind)) = next_of(text, rest, cases, faults.as_slice())? {
+    while let Some((line, behind)) = next_of(text, rest, cases, &marks)? {
         if faults.put(line).is_err() {
             return Err(FaultScriptFault::NoMemory);
         }
+        marks.put(line);
         rest = behind;
     }
     Ok(faults)

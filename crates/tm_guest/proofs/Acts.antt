@@ -36,7 +36,7 @@ writes-in r (Read addr width value) g s h = tt
 writes-in r (Write addr width value) g s h = placed r addr width g s.0 h
 
 -- values below 2 ^ (8 * width) fit the width
-fitting : (width value : ℕ) → IsWidth width → value < 2 ^ (8 * width) → IsFitting width value
+pub fitting : (width value : ℕ) → IsWidth width → value < 2 ^ (8 * width) → IsFitting width value
 fitting width value w l = (w, by w)
   where
     at : (n : ℕ) → width ≡ n → value < 2 ^ (8 * n)
@@ -51,7 +51,7 @@ fitting width value w l = (w, by w)
     by (inr (inr (inl e))) = back 4 e (at 4 e)
     by (inr (inr (inr e))) = back 8 e (at 8 e)
 
-low-fits : (width value : ℕ) → IsWidth width → value % 2 ^ (8 * width) < 2 ^ (8 * width)
+pub low-fits : (width value : ℕ) → IsWidth width → value % 2 ^ (8 * width) < 2 ^ (8 * width)
 low-fits width value w = by w
   where
     back : (n : ℕ) → width ≡ n → value % 2 ^ (8 * n) < 2 ^ (8 * n) → value % 2 ^ (8 * width) < 2 ^ (8 * width)

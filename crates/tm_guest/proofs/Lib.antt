@@ -1,4 +1,6 @@
 pub mod Acts
+pub mod Making
+pub mod Changing
 pub mod Memory
 pub mod Harts
 pub mod Rows

@@ -7,7 +7,9 @@ use Rattle.std.proofs.lemmas.List.{get_or-replicate, get_or_past}
 use Rattle.tm_base.specs.declared.limits.TheConstants.{MOST_EVENTS}
 use Rattle.tm_plan_cases.specs.declared.program.Program.{Program}
 use Rattle.tm_plan_cases.specs.Shaped.{IsProgram}
-use Rattle.tm_plan_script.specs.declared.faults.FaultLine.{FaultLine}
+use Rattle.tm_plan_script.specs.Accepted.{AreAccepted}
+use Rattle.tm_world.specs.Whole.{Laid}
+use Rattle.tm_changes.specs.Scripted.{Scripted}
 use Rattle.tm_ram.specs.Region.{Region}
 use Rattle.tm_world.specs.Kinds.{IsOpening}
 use Rattle.tm_world.specs.Work.{NeverStuck}
@@ -33,14 +35,17 @@ pub is-opening : (h : ℕ) → h < 2 ^ 64 → IsOpening h (opening h)
 unfolding opening
 is-opening h l = record { count = refl; fits = λ r. opening-fits h r l; zero = refl; number = refl }
 
-pub keeps-fresh : (p : Program) (lines : List FaultLine) (limit : ℕ) (decodes : List Decoded) (states : List HartState)
-    (r : Region) → IsProgram p → lines ≡ [] → NeverStuck p lines → limit ≤ MOST_EVENTS → AreDecoded p.text decodes
+pub keeps-fresh : (p : Program) (changes : Scripted) (limit : ℕ) (decodes : List Decoded) (states : List HartState)
+    (r : Region) → IsProgram p → changes.program ≡ p → Laid p → AreAccepted p.cases changes.lines
+    → NeverStuck p changes.lines → limit ≤ MOST_EVENTS → AreDecoded p.text decodes
     → AreOpened p.cases.harts states → IsMemory p [] r
-    → KeepsReplay p lines limit decodes states r (record { events = []; room = limit })
+    → KeepsReplay p changes limit decodes states r (record { events = []; room = limit })
 unfolding steps_of
-keeps-fresh p lines limit decodes states r shaped none never few rows opened memory = record {
+keeps-fresh p changes limit decodes states r shaped its laid accepted never few rows opened memory = record {
   program = shaped;
-  none = none;
+  its_program = its;
+  laid = laid;
+  accepted = accepted;
   unstuck = never;
   few = few;
   room = refl;

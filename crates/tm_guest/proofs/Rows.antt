@@ -61,6 +61,7 @@ is-row p hart w i at there known decoded next =
     ∙ ap (λ (j : Instr). Some (row hart j read)) (sym (decoded.instr i known)) in
     record {
       word = there ∙ ap (λ (x : ℕ). Some x) (sym decoded.word);
+      decoded = ap instr_of decoded.word ∙ (known ∙ ap (λ (j : Instr). Some j) (sym (decoded.instr i known)));
       fits = decoded.fits;
       made = λ read. ap (λ (x : ℕ). row_word hart x read) decoded.word ∙ by-instr read;
       possible = λ read.

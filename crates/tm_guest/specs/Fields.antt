@@ -1,5 +1,5 @@
 -- How a guest keeps its state (this project's own).
-use Rattle.std.specs.Prelude.{◌≡◌, ℕ, ◌≤◌, ◌<◌, List, [], length, slice_index, slice_index_or, Some, unwrap_or}
+use Rattle.std.specs.Prelude.{◌≡◌, ℕ, ◌≤◌, ◌<◌, List, length, slice_index, slice_index_or, Some, unwrap_or}
 use Rattle.tm_table.specs.declared.instr.Instr.{Instr}
 use Rattle.tm_table.specs.State.{Hart, hart_of}
 use Rattle.tm_table.specs.Row.{row, row_word}
@@ -16,7 +16,9 @@ use Rattle.tm_world.specs.Place.{harts, exit_of, image_byte, word_at}
 use Rattle.tm_world.specs.Run.{Step, own, phase, last_write}
 use Rattle.tm_world.specs.Kinds.{IsPossible}
 use Rattle.tm_world.specs.Course.{signals, this_phase}
-use Rattle.tm_plan_script.specs.declared.faults.FaultLine.{FaultLine}
+use Rattle.tm_plan_script.specs.Accepted.{AreAccepted}
+use Rattle.tm_world.specs.Whole.{Laid}
+use Rattle.tm_changes.specs.Scripted.{Scripted}
 use Rattle.tm_world.specs.Script.{FaultedRun}
 use Rattle.tm_world.specs.Work.{NeverStuck}
 use Rattle.tm_guest.specs.declared.decoded.Decoded.{Decoded}
@@ -39,6 +41,7 @@ pub record AreDecoded (text : List ℕ) (rows : List Decoded) : Type 0 where
 -- and its access can be made.
 pub record IsRow (p : Program) (hart : Hart) (at : Decoded) : Type 0 where
   pub word : word_at p hart.pc ≡ Some at.word
+  pub decoded : instr_of at.word ≡ Some at.instr
   pub fits : Fits at.instr
   pub made : (read : ℕ) → row_word hart at.word read ≡ Some (row hart at.instr read)
   pub possible : (read : ℕ) → IsPossible (row hart at.instr read).1
@@ -60,16 +63,18 @@ pub record IsMemory (p : Program) (steps : List Step) (r : Region) : Type 0 wher
   pub bytes : (b : ℕ) → guest_base ≤ b → b < guest_end → byte_at r b ≡ unwrap_or (last_write b steps) (image_byte p b)
 
 -- The fields of a guest: its state is what replaying its journal gives, and its journal is a run that the script has
--- changed. So far the script has no lines.
-pub record KeepsReplay (p : Program) (lines : List FaultLine) (limit : ℕ) (decodes : List Decoded)
+-- changed, whose lines are accepted.
+pub record KeepsReplay (p : Program) (changes : Scripted) (limit : ℕ) (decodes : List Decoded)
     (states : List HartState) (ram : Region) (journal : Journaled) : Type 0 where
   pub program : IsProgram p
-  pub none : lines ≡ []
-  pub unstuck : NeverStuck p lines
+  pub its_program : changes.program ≡ p
+  pub laid : Laid p
+  pub accepted : AreAccepted p.cases changes.lines
+  pub unstuck : NeverStuck p changes.lines
   pub few : limit ≤ MOST_EVENTS
   pub room : journal.room ≡ limit
   pub within : length journal.events ≤ limit
   pub rows : AreDecoded p.text decodes
-  pub each_hart : AreStates p (steps_of p lines journal.events) states
-  pub memory : IsMemory p (steps_of p lines journal.events) ram
-  pub goes_on : FaultedRun p lines (run_of p lines journal.events)
+  pub each_hart : AreStates p (steps_of p changes.lines journal.events) states
+  pub memory : IsMemory p (steps_of p changes.lines journal.events) ram
+  pub goes_on : FaultedRun p changes.lines (run_of p changes.lines journal.events)

@@ -6,4 +6,5 @@ pub mod Waiting
 pub mod Laws
 pub mod Fields
 pub mod Memory
+pub mod Making
 pub mod Start

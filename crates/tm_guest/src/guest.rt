@@ -11,6 +11,10 @@ ghost use Rattle.tm_world.specs.Kinds.{Plain};
 ghost use Rattle.tm_world.specs.Course.{signals, this_phase};
 ghost use Rattle.tm_world.specs.Script.{FaultedRun};
 ghost use Rattle.tm_world.specs.Work.{NeverStuck};
+ghost use Rattle.tm_world.specs.Whole.{Laid};
+ghost use Rattle.tm_world.specs.Replay.{change_next};
+ghost use Rattle.tm_plan_script.specs.Accepted.{AreAccepted};
+ghost use Rattle.tm_changes.specs.Made.{change_told};
 ghost use Rattle.tm_guest.specs.Guested.{IsHalted, fresh, run, state, steps, with_event};
 ghost use Rattle.tm_guest.specs.Fields.{IsRow};
 ghost use Rattle.tm_guest.specs.Turns.{Answers, IsNextEvent};
@@ -25,6 +29,7 @@ use crate::turn::Turn;
 use std::alloc::Global;
 use std::marker::Model;
 use tm_base::NoMemory;
+use tm_changes::{Change, Changes};
 use tm_plan_cases::{Event, Program};
 use tm_plan_journal::Journal;
 use tm_plan_map::TEXT_ADDRESS;
@@ -33,12 +38,11 @@ use tm_ram::Ram;
 use tm_table::{Access, Cpu};
 
 /// A machine that runs a program: one memory, and harts that step one at a time. Contracts see the program, the lines
-/// of the script, the limit and the events so far, which give the state of each hart by being replayed. So far the
-/// script has no lines.
+/// of the script, the limit and the events so far, which give the state of each hart by being replayed.
 #[derive(Drop)]
 pub struct Guest<'a> {
     program: &'a Program,
-    faults: Faults,
+    changes: Changes<'a>,
     decodes: Vec<Decoded>,
     harts: Vec<HartState>,
     ram: Ram,
@@ -54,20 +58,21 @@ impl<'a> Model for Guest<'a> {
 
     ghost view = { λ g. record {
       program = g.program.now;
-      faults = g.faults;
+      faults = g.changes.lines;
       limit = g.limit;
       journal = g.journal.events;
     } };
 
     ghost invariant = { λ g.
-        KeepsReplay g.program.now g.faults g.limit g.decodes.items g.harts.items g.ram g.journal };
+        KeepsReplay g.program.now g.changes g.limit g.decodes.items g.harts.items g.ram g.journal };
 }
 
 impl<'a> Guest<'a> {
     /// A guest before its first step, with room for `limit` events. All memory is taken here, 40 bytes for each event.
     ///
-    /// Asked: a script without lines, and that no hart gets stuck: on each run of the program under the script each
-    /// hart that isn't at its halt mark has a next step.
+    /// Asked: that the marks are laid as the course has them, that the script's lines are accepted, and that no hart
+    /// gets stuck: on each run of the program under the script each hart that isn't at its halt mark has a next step.
+    /// Sound programs have all that, under each script whose lines are accepted.
     pub fn start(
         alloc: Global,
         program: &'a Program,
@@ -77,7 +82,8 @@ impl<'a> Guest<'a> {
         requires program { IsProgram program.now }
         requires some { 1 ≤ limit }
         requires few { limit ≤ MOST_EVENTS }
-        requires none { faults ≡ [] }
+        requires laid { Laid program.now }
+        requires accepted { AreAccepted program.now.cases faults }
         requires unstuck { NeverStuck program.now faults }
         ensures { IfOk result (λ g. g ≡ fresh program.now faults limit) }
     {
@@ -85,9 +91,10 @@ impl<'a> Guest<'a> {
         let harts = opened(alloc, program.cases.harts)?;
         let ram = image(alloc, program)?;
         let journal = Journal::start(alloc, limit)?;
+        let changes = Changes::start(alloc, program, faults)?;
         Ok(Guest {
             program,
-            faults,
+            changes,
             decodes,
             harts,
             ram,
@@ -173,7 +180,7 @@ impl<'a> Guest<'a> {
     {
         let Guest {
             program: _,
-            faults: _,
+            changes: _,
             decodes: _,
             harts: _,
             ram: _,
@@ -220,6 +227,16 @@ impl<'a> Guest<'a> {
         self.decodes[place as usize]
     }
 
+    /// What the script changes in the next step of a hart that isn't at its halt mark.
+    fn change(&self, h: u32) -> Option<Change>
+        requires below { h < harts self.now.program }
+        requires off_halt { ¬ IsHalted self.now h }
+        ensures { change_told result ≡ change_next self.now.program self.now.faults (steps self.now) h }
+    {
+        let hart = &self.harts[h as usize];
+        self.changes.at(h, hart.phase, hart.cpu.pc)
+    }
+
     /// What the next step of a hart that isn't at its halt mark would do in memory.
     fn next_access(&self, h: u32) -> Access
         requires below { h < harts self.now.program }
@@ -227,7 +244,8 @@ impl<'a> Guest<'a> {
         ensures { (e : Event) × IsNextEvent self.now h e × (e.access ≡ result) }
     {
         let at = self.row(h);
-        next_access(self.cpu(h), &self.ram, at.instr)
+        let change = self.change(h);
+        next_access(self.cpu(h), &self.ram, at.instr, change)
     }
 
     /// Makes the next step of a hart that isn't at its halt mark.
@@ -239,9 +257,10 @@ impl<'a> Guest<'a> {
         ensures after { self.new ≡ with_event self.old result }
     {
         let at = self.row(h);
+        let change = self.change(h);
         let exit = self.program.marks.exits.as_slice()[h as usize];
         let hart = &mut self.harts[h as usize];
-        let event = hart.step(&mut self.ram, at, h, exit);
+        let event = hart.step(&mut self.ram, at, h, exit, change);
         self.journal.put(event);
         event
     }

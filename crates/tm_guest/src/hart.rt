@@ -3,13 +3,16 @@ ghost use Rattle.std.specs.Prelude.{◌≡◌, ◌+◌, ◌<◌, ◌^◌, ℕ};
 ghost use Rattle.tm_table.specs.State.{hart_of};
 ghost use Rattle.tm_table.specs.Words.{Fits};
 ghost use Rattle.tm_table.specs.Row.{row};
-ghost use Rattle.tm_world.specs.Run.{Reads, HasShape, read_value};
+ghost use Rattle.tm_world.specs.Run.{HasShape};
 ghost use Rattle.tm_world.specs.Kinds.{IsPossible, writes_flag as writes_flag_of};
-ghost use Rattle.tm_guest.specs.Memory.{IsGuestRegion, IsWritten, owed_of};
+ghost use Rattle.tm_changes.specs.Made.{change_told};
+ghost use Rattle.tm_guest.specs.Memory.{IsGuestRegion, IsWritten};
+ghost use Rattle.tm_guest.specs.Making.{IsMade, FitsOp};
 ghost use Rattle.tm_guest.specs.Waiting.{phase_after, signalled_after};
 
 use crate::act::act;
 use crate::decoded::Decoded;
+use tm_changes::Change;
 use tm_plan_cases::Event;
 use tm_plan_map::flag_addr;
 use tm_ram::Ram;
@@ -25,25 +28,32 @@ pub struct HartState {
 }
 
 impl HartState {
-    /// Makes the step of an instruction at hart `h`, whose exit mark is `exit`.
-    pub fn step(&mut self, ram: &mut Ram, at: Decoded, h: u32, exit: u64) -> Event
+    /// Makes the step of an instruction at hart `h`, whose exit mark is `exit`, with the change that is made to it.
+    pub fn step(
+        &mut self,
+        ram: &mut Ram,
+        at: Decoded,
+        h: u32,
+        exit: u64,
+        change: Option<Change>,
+    ) -> Event
         requires fits { Fits at.instr }
         requires possible { (bytes : ℕ) → IsPossible (row (hart_of self.old.cpu) at.instr bytes).1 }
+        requires suits { FitsOp (change_told change) at.instr.op }
         requires region { IsGuestRegion ram.old }
         requires few { h < 16 }
         requires room { self.old.phase + 1 < 2 ^ 64 }
         ensures hart { result.hart ≡ h }
         ensures pc { result.pc ≡ self.old.cpu.pc }
         ensures word { result.word ≡ at.word }
-        ensures step { row (hart_of self.old.cpu) at.instr (read_value result.access)
-            ≡ (hart_of self.new.cpu, result.access) }
+        ensures made { IsMade (change_told change) (hart_of self.old.cpu) at.instr ram.old result.access
+            (hart_of self.new.cpu) }
         ensures shape { HasShape result.access }
-        ensures reads { Reads (owed_of ram.old) result.access }
         ensures memory { IsWritten ram.old result.access ram.new }
         ensures phase { self.new.phase ≡ phase_after exit result.pc self.old.phase }
         ensures signalled { self.new.signalled ≡ signalled_after exit h result self.old.signalled }
     {
-        let event = act(&mut self.cpu, ram, at, h);
+        let event = act(&mut self.cpu, ram, at, h, change);
         self.note(event, h, exit);
         event
     }

@@ -1,5 +1,5 @@
 // The fields of a line, read one behind the other.
-ghost use Rattle.std.specs.Prelude.{◌≡◌, ◌≤◌, ◌<◌, ◌^◌, true, IfSome, length, codes};
+ghost use Rattle.std.specs.Prelude.{◌≡◌, ◌≤◌, ◌<◌, ◌+◌, ◌^◌, true, IfSome, length, codes};
 ghost use Rattle.std.specs.List.{list_all, prefix_len};
 ghost use Rattle.std.specs.Char.{digit_value};
 ghost use Rattle.tm_trace.specs.Fields as fields;
@@ -12,7 +12,8 @@ pub const DECIMAL_END: u64 = 1_000_000_000;
 /// These bytes, where they stand next.
 #[tactic(auto, unfolding(crate::specs::Fields::word_field))]
 pub fn word_at<'a>(bytes: &'a [u8], word: &[u8]) -> Option<&'a [u8]>
-    ensures { fields.IsPassed (fields.word_field word.now bytes.now) result }
+    ensures is { fields.IsPassed (fields.word_field word.now bytes.now) result }
+    ensures less { IfSome result (λ r. length word.now + length r.now ≤ length bytes.now) }
 {
     if !bytes.starts_with(word) {
         return None;
@@ -53,6 +54,7 @@ fn are_plain(digits: &[u8]) -> bool
 pub fn decimal_at(bytes: &[u8]) -> Option<(u64, &[u8])>
     ensures is { fields.IsField (fields.decimal_field bytes.now) result }
     ensures low { IfSome result (λ r. r.0 < DECIMAL_END) }
+    ensures less { IfSome result (λ r. 1 + length r.1.now ≤ length bytes.now) }
 {
     let len = decimal_len(bytes);
     if !are_plain(&bytes[..len]) {
@@ -116,6 +118,7 @@ pub fn hex_at(bytes: &[u8], digits: usize) -> Option<(u64, &[u8])>
     requires { digits ≤ 16 }
     ensures is { fields.IsField (fields.hex_field digits bytes.now) result }
     ensures low { IfSome result (λ r. r.0 < 16 ^ digits) }
+    ensures less { IfSome result (λ r. digits + length r.1.now ≤ length bytes.now) }
 {
     if bytes.len() < digits {
         return None;
@@ -132,6 +135,7 @@ pub fn hex_behind<'a>(bytes: &'a [u8], word: &[u8], digits: usize) -> Option<(u6
     requires { digits ≤ 16 }
     ensures is { fields.IsField (fields.hex_behind word.now digits bytes.now) result }
     ensures low { IfSome result (λ r. r.0 < 16 ^ digits) }
+    ensures less { IfSome result (λ r. length word.now + digits + length r.1.now ≤ length bytes.now) }
 {
     hex_at(word_at(bytes, word)?, digits)
 }
@@ -140,6 +144,7 @@ pub fn hex_behind<'a>(bytes: &'a [u8], word: &[u8], digits: usize) -> Option<(u6
 pub fn decimal_behind<'a>(bytes: &'a [u8], word: &[u8]) -> Option<(u64, &'a [u8])>
     ensures is { fields.IsField (fields.decimal_behind word.now bytes.now) result }
     ensures low { IfSome result (λ r. r.0 < DECIMAL_END) }
+    ensures less { IfSome result (λ r. length word.now + 1 + length r.1.now ≤ length bytes.now) }
 {
     decimal_at(word_at(bytes, word)?)
 }

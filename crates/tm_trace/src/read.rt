@@ -1,11 +1,12 @@
 // The text of a trace, read.
-ghost use Rattle.std.specs.Prelude.{◌≡◌, ◌≢◌, ◌==◌, ◌+◌, ◌≤◌, ◌<◌, ◌^◌, [], Ok, Err, IfOk, IfErr, true};
+ghost use Rattle.std.specs.Prelude.{◌≡◌, ◌≢◌, ◌==◌, ◌+◌, ◌*◌, ◌/◌, ◌≤◌, ◌<◌, ◌^◌, [], Ok, Err, IfOk, IfErr, true};
+ghost use Rattle.std.specs.Prelude.{length, min};
 ghost use Rattle.std.specs.List.{list_any};
 ghost use Rattle.tm_trace.specs.Reading as reading;
 ghost use Rattle.tm_trace.specs.Traced.{IsTrace};
 
 use crate::fields::word_at;
-use crate::line::{Line, Place, Touch, head_at, line_at};
+use crate::line::{LEAST_LINE, Line, Place, Touch, head_at, line_at};
 use crate::trace::{Trace, TraceFault};
 use std::alloc::Global;
 use tm_base::{HART_ROOM, MOST_EVENTS};
@@ -83,7 +84,8 @@ fn line_fault(bytes: &[u8], line: u32) -> TraceFault
 // The event of the next line.
 #[tactic(auto, unfolding(crate::specs::Reading::next_event))]
 fn next_event(bytes: &[u8], harts: u32, line: u32) -> Result<(Event, &[u8]), TraceFault>
-    ensures { reading.IsRead (reading.next_event harts line bytes.now) result }
+    ensures is { reading.IsRead (reading.next_event harts line bytes.now) result }
+    ensures less { IfOk result (λ r. LEAST_LINE + length r.1.now ≤ length bytes.now) }
 {
     let Some((said, rest)) = line_at(bytes) else {
         return Err(line_fault(bytes, line));
@@ -108,10 +110,11 @@ fn read_events<'a>(
     count: u32,
 ) -> Result<&'a [u8], TraceFault>
     requires none { journal.old.events ≡ [] }
-    requires room { count ≤ journal.old.room }
+    requires room { min count (length bytes.now / LEAST_LINE) ≤ journal.old.room }
     requires few { count + 2 < 2 ^ 32 }
     ensures ok { IfOk result (λ rest. reading.events_from count harts 2 bytes.now ≡ Ok (journal.new.events, rest.now)) }
     ensures err { IfErr result (λ e. reading.events_from count harts 2 bytes.now ≡ Err e) }
+    ensures room { journal.new.room ≡ journal.old.room }
 {
     let mut rest = bytes;
     for place in 0..count {
@@ -143,11 +146,14 @@ fn is_head(harts: u32, events: u32) -> bool
     1 <= harts && harts <= HART_ROOM && u64::from(events) <= MOST_EVENTS
 }
 
-fn journal_of(alloc: Global, events: u32) -> Result<Journal, TraceFault>
-    ensures ok { IfOk result (λ j. j ≡ record { events = []; room = events }) }
+// Room for so many events, but for no more than these bytes have lines. A first line that tells of more events than
+// stand there takes no memory for them.
+fn journal_of(alloc: Global, events: u32, bytes: &[u8]) -> Result<Journal, TraceFault>
+    ensures ok { IfOk result (λ j. j ≡ record { events = []; room = min events (length bytes.now / LEAST_LINE) }) }
     ensures err { IfErr result (λ e. e ≡ TraceFault.NoMemory) }
 {
-    match Journal::start(alloc, u64::from(events)) {
+    let room = u64::from(events).min(bytes.len() as u64 / LEAST_LINE);
+    match Journal::start(alloc, room) {
         Ok(journal) => Ok(journal),
         Err(_) => Err(TraceFault::NoMemory),
     }
@@ -162,8 +168,9 @@ fn read_behind(alloc: Global, bytes: &[u8], harts: u32, events: u32) -> Result<T
     ensures is { IfOk result (λ t. IsTrace t.harts t.events.events) }
     ensures err { IfErr result (λ e. e ≢ TraceFault.NoMemory
         → reading.whole harts (events + 2) (reading.events_from events harts 2 bytes.now) ≡ Err e) }
+    ensures small { IfOk result (λ t. t.events.room * LEAST_LINE ≤ length bytes.now) }
 {
-    let mut journal = journal_of(alloc, events)?;
+    let mut journal = journal_of(alloc, events, bytes)?;
     let rest = read_events(&mut journal, bytes, harts, events)?;
     match read_end(rest, events + 2) {
         Ok(()) => Ok(Trace {
@@ -174,12 +181,13 @@ fn read_behind(alloc: Global, bytes: &[u8], harts: u32, events: u32) -> Result<T
     }
 }
 
-/// The trace that a text is, or its first fault.
+/// The trace that a text is, or its first fault. The room of its events is no more than the text has lines for.
 #[tactic(auto, unfolding(crate::specs::Reading::trace_of))]
 pub fn read_trace(alloc: Global, bytes: &[u8]) -> Result<Trace, TraceFault>
     ensures ok { IfOk result (λ t. reading.trace_of bytes.now ≡ Ok (t.harts, t.events.events)) }
     ensures is { IfOk result (λ t. IsTrace t.harts t.events.events) }
     ensures err { IfErr result (λ e. e ≢ TraceFault.NoMemory → reading.trace_of bytes.now ≡ Err e) }
+    ensures small { IfOk result (λ t. t.events.room * LEAST_LINE ≤ length bytes.now) }
 {
     let Some(((harts, events), rest)) = head_at(bytes) else {
         return Err(line_fault(bytes, 1));

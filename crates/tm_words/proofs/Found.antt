@@ -1,25 +1,22 @@
 -- What the parser finds in words is what they spell.
-use Rattle.std.proofs.Common.{◌≡◌, ◌≢◌, ◌∙◌, ◌&&◌, ◌||◌, not, ℕ, Bool, cond, true, false, refl, sym, ap, ap₂, subst}
-use Rattle.std.proofs.Common.{List, [], ◌∷◌, ◌++◌, map, drop, Option, Some, None, find, is_some, codes}
-use Rattle.std.specs.List.{list_any, list_all, fold}
-use Rattle.std.specs.Option.{option_map_or}
-use Rattle.clap.specs.Walk.{Text, Row, Held, Walk, walk, nothing_held, finished, settled, rows_after, first_of}
+use Rattle.std.proofs.Common.{◌≡◌, ◌∙◌, cond, true, false, refl, sym, ap, ap₂}
+use Rattle.std.proofs.Common.{List, [], ◌∷◌, ◌++◌, map, drop, Option, Some, None, is_some}
+use Rattle.clap.specs.Walk.{Text, Row, Walk, walk, nothing_held, finished, settled, rows_after, first_of}
 use Rattle.clap.specs.Simple.{App, Shape, built, entered, argument_words, matches_of}
-use Rattle.clap.specs.Kinds.{Kinds, or_else, check_kinds}
-use Rattle.clap.specs.Faults.{built_fault, entered_fault, level_fault, check_fault, defaults_fault, settle_fault}
+use Rattle.clap.specs.Kinds.{or_else, check_kinds}
+use Rattle.clap.specs.Faults.{built_fault, entered_fault, level_fault, check_fault, settle_fault}
 use Rattle.clap.specs.Faults.{walk_fault, fault_of}
-use Rattle.tm_words.specs.Words.{is_name}
-use Rattle.tm_words.specs.Form.{Given, Spell, is_among, come_once, value_of, all_spelled, ending, behind, names_in}
-use Rattle.tm_words.specs.Form.{options_in, is_part_of}
+use Rattle.tm_words.specs.Form.{Given, Spell, come_once, value_of, behind, names_in}
+use Rattle.tm_words.specs.Form.{options_in}
 use Rattle.tm_words.specs.Parser.{are_fit, names_found, Holds, IsRead, IsUnspelled}
 use Rattle.tm_words.proofs.Plain.{is_nil, nil_is, or_else-nil}
 use Rattle.tm_words.proofs.Rules.{rules_of, built_shape, are_good, no_default_fault, nothing_added, none_required}
-use Rattle.tm_words.proofs.Uses.{Use, settle_all, clash_all, names_used, options_used, are_options, once_is, names_are}
+use Rattle.tm_words.proofs.Uses.{settle_all, clash_all, options_used, are_options, once_is, names_are}
 use Rattle.tm_words.proofs.Uses.{values_are}
 use Rattle.tm_words.proofs.Uses.Use.{nothing}
 use Rattle.tm_words.proofs.Walking.{between}
 use Rattle.tm_words.proofs.Spelling as spelling
-use Rattle.tm_words.proofs.Spelling.{Cut, all_uses, names_of_uses, options_of_uses, fit_options}
+use Rattle.tm_words.proofs.Parts.{parts_fit, all_uses, names_of_uses, options_of_uses, fit_options}
 
 module _ (os : List Text) (good : are_good os ≡ true) (name : Text) where
   abbrev at_start : Walk
@@ -77,7 +74,7 @@ module _ (os : List Text) (good : are_good os ≡ true) (name : Text) where
         let fit = ap (are_options os) options ∙ fit_options os sp.parts sp.fit in
         let once =
         once_is os uses [] [] good (λ o e. refl) fit ∙ ap (come_once []) (options ∙ sym sp.are_given) ∙ sp.once in (
-          ap (are_fit false) sp.spells ∙ spelling.parts_fit os good sp.parts sp.rest sp.fit sp.fit_behind,
+          ap (are_fit false) sp.spells ∙ parts_fit os good sp.parts sp.rest sp.fit sp.fit_behind,
           faults_are words ∙ ap (spelling.total os good name at_start) sp.spells ∙ spelling.parts_faults os good name
               sp.parts sp.rest [] nothing false refl sp.fit ∙ nil_is (clash_all [] uses) once,
         )

@@ -2,6 +2,7 @@ pub mod Plain
 pub mod Rules
 pub mod Uses
 pub mod Walking
+pub mod Parts
 pub mod Spelling
 pub mod Found
 pub mod Verbs

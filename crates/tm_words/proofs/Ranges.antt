@@ -14,7 +14,7 @@ use Rattle.tm_words.specs.declared.command.Verb.{Verb}
 use Rattle.tm_words.specs.declared.command.WordsFault.{WordsFault}
 use Rattle.tm_words.specs.Words.{Text, IsInRange, IsStill, build_of, build_asked, list_asked, events_of, events_asked}
 use Rattle.tm_words.specs.Words.{order_asked, run_of, run_asked, sample_of, sample_asked}
-use Rattle.tm_words.specs.Form.{Given, asked, value_of, IsForm, IsAskedFor, waits_for_nobody}
+use Rattle.tm_words.specs.Form.{Given, asked, IsForm, IsAskedFor, waits_for_nobody}
 
 -- the number of events, where there is one, is in range
 abbrev EventsFit : Option ℕ → Type 0

@@ -1,18 +1,18 @@
 -- The arguments of a built parser, and how they are found.
-use Rattle.std.proofs.Common.{◌≡◌, ◌≢◌, ◌∙◌, ◌<◌, ◌+◌, ◌==◌, ◌&&◌, ◌||◌, not, ℕ, Bool, cond, true, false, refl, sym, ap}
-use Rattle.std.proofs.Common.{ap₂, subst, arith, List, [], ◌∷◌, ◌++◌, map, length, Option, Some, None, find, is_some}
+use Rattle.std.proofs.Common.{◌≡◌, ◌∙◌, ◌==◌, ◌&&◌, ◌||◌, not, ℕ, Bool, cond, true, false, refl, sym, ap}
+use Rattle.std.proofs.Common.{List, [], ◌∷◌, map, Some, None, find, is_some}
 use Rattle.std.proofs.Common.{codes, true≢false}
 use Rattle.std.specs.Str.{bytes_eq}
 use Rattle.std.specs.List.{list_any, list_all, fold}
-use Rattle.clap.specs.Walk.{Text, Rule, Row, Held, arg_by_id, arg_by_long, arg_by_short, arg_by_index, has_long}
-use Rattle.clap.specs.Walk.{has_short, with_default, finished, settled, has_row}
-use Rattle.clap.specs.Simple.{Shape, new_rule, new_shape, filled, with_index}
+use Rattle.clap.specs.Walk.{Text, Rule, Row, arg_by_id, arg_by_long, arg_by_short, has_long}
+use Rattle.clap.specs.Walk.{with_default, has_row}
+use Rattle.clap.specs.Simple.{Shape, new_shape, filled, with_index}
 use Rattle.clap.specs.Kinds.{Kinds, or_else}
-use Rattle.clap.specs.Faults.{default_fault, defaults_fault}
+use Rattle.clap.specs.Faults.{defaults_fault}
 use Rattle.clap.specs.Takes.{is_given}
 use Rattle.tm_words.specs.Form.{is_among}
 use Rattle.tm_words.specs.Parser.{names_rule, option_rule}
-use Rattle.tm_words.proofs.Plain.{same_text, text_is, or-false, both, not_false}
+use Rattle.tm_words.proofs.Plain.{same_text, or-false, both, not_false}
 
 -- ---- what building makes of the arguments
 

@@ -1,12 +1,11 @@
 -- What uses of arguments, one behind the other, leave in the rows of a parse.
-use Rattle.std.proofs.Common.{◌≡◌, ◌≢◌, ◌∙◌, ◌<◌, ◌+◌, ◌==◌, ◌&&◌, ◌||◌, not, ℕ, Bool, cond, if◌then◌else◌, true, false}
-use Rattle.std.proofs.Common.{refl, sym, ap, ap₂, subst, arith, List, [], ◌∷◌, ◌++◌, map, length, Option, Some, None}
+use Rattle.std.proofs.Common.{◌≡◌, ◌∙◌, ◌&&◌, ◌||◌, not, Bool, cond, if◌then◌else◌, true, false}
+use Rattle.std.proofs.Common.{refl, sym, ap, ap₂, List, [], ◌∷◌, ◌++◌, Option, Some, None}
 use Rattle.std.proofs.Common.{find, is_some, codes, true≢false, append_assoc, append-nil, slice_get, option_map}
-use Rattle.std.proofs.Common.{option_and_then, ◌⊎◌, inl, inr}
+use Rattle.std.proofs.Common.{option_and_then}
 use Rattle.std.specs.Option.{unwrap_or}
 use Rattle.std.specs.Str.{bytes_eq}
-use Rattle.std.specs.List.{list_any, list_all}
-use Rattle.clap.specs.Walk.{Text, Rule, Row, at_row, more_values, with_values, without, used, has_row, first_of, all_of}
+use Rattle.clap.specs.Walk.{Text, Row, with_values, without, used, has_row, first_of, all_of}
 use Rattle.clap.specs.Walk.{reading_by}
 use Rattle.clap.specs.Kinds.{Kinds, or_else}
 use Rattle.clap.specs.Faults.{use_fault}
@@ -15,7 +14,7 @@ use Rattle.clap.specs.declared.parser.matches.ValueSource.{ValueSource}
 use Rattle.clap.specs.declared.error.kind.ErrorKind.TheVariants as kind
 use Rattle.tm_words.specs.Form.{Given, is_among, come_once, value_of}
 use Rattle.tm_words.specs.Parser.{names_found}
-use Rattle.tm_words.proofs.Plain.{same_text, text_is, differ, swapped, is_nil, nil-or_else, or_else-nil, both}
+use Rattle.tm_words.proofs.Plain.{same_text, text_is, swapped, is_nil, both}
 use Rattle.tm_words.proofs.Rules.{name_arg, opt, are_good, good_among, not_names}
 
 -- ---- the values of an id

@@ -1,20 +1,19 @@
 -- The parsers of the four commands, and what they find.
-use Rattle.std.proofs.Common.{◌≡◌, ◌≢◌, ◌∙◌, ◌&&◌, ◌||◌, not, ℕ, Bool, cond, true, false, refl, sym, ap, ap₂, subst}
-use Rattle.std.proofs.Common.{List, [], ◌∷◌, ◌++◌, map, Option, Some, None, Result, Ok, Err, IfOk, IfErr, MatchOption}
-use Rattle.std.proofs.Common.{ok_or, option_map, codes, true≢false, inl, inr, ◌⊎◌, bytes_eq}
+use Rattle.std.proofs.Common.{◌≡◌, ◌≢◌, ◌∙◌, Bool, cond, true, false, refl, sym, ap, ap₂, subst}
+use Rattle.std.proofs.Common.{List, [], ◌∷◌, Option, Some, None, Result, Ok, Err, IfOk, IfErr}
+use Rattle.std.proofs.Common.{option_map, codes, true≢false, inl, inr, ◌⊎◌, bytes_eq}
 use Rattle.std.specs.Option.{unwrap_or}
 use Rattle.clap.specs.Words.{App, Row, rows_of, found_of, first_of, fault_of, is_simple, is_simple_and_free}
 use Rattle.clap.specs.Words.{HasMatchesOf, matches_of, raw_values, matched_of}
 use Rattle.clap.specs.declared.parser.matches.Found.{Found}
 use Rattle.clap.proofs.WalkLemmas.{raw_values-rows}
 use Rattle.tm_words.specs.declared.command.Command.{Command}
-use Rattle.tm_words.specs.declared.command.Command.TheVariants as commands
 use Rattle.clap.specs.Simple.{built}
 use Rattle.clap.specs.declared.parser.matches.ArgMatches.{ArgMatches}
 use Rattle.clap.proofs.OnLiterals.{clap_on_literals}
 use Rattle.tm_words.specs.Words.{Text, Tells, build_asked, list_asked, run_asked, sample_asked}
 use Rattle.tm_words.specs.Form.{Given, Spell, SpellsBehind, IsForm, IsAskedFor, Ask, verb_word, options_of, asked}
-use Rattle.tm_words.specs.Form.{is_among, value_of, waits_for_nobody}
+use Rattle.tm_words.specs.Form.{value_of, waits_for_nobody}
 use Rattle.tm_words.specs.declared.command.Verb.{Verb}
 use Rattle.tm_words.specs.declared.command.Verb.TheVariants as verb
 use Rattle.tm_words.specs.Parser.{parser_of, are_fit, names_found, Holds, IsRead, IsUnspelled, verb_named, asked_by}
@@ -301,8 +300,9 @@ told_behind v ws = elim (false_or_true (are_fit false ws)) [
     by fit fine (Some c) is =
         inl (
           c,
-          spelled_behind v ws (matches_of (parser v) ws) c (is_read (options_of v) (good v) (verb_word v) (parser
-              v) (built_of v) (bare v) ws (matches_of (parser v) ws) refl fit (nil_is (fault_of (parser v) ws) fine)) is,
+          spelled_behind v ws (matches_of (parser v) ws) c
+              (is_read (options_of v) (good v) (verb_word v) (parser v) (built_of v) (bare v) ws
+              (matches_of (parser v) ws) refl fit (nil_is (fault_of (parser v) ws) fine)) is,
         )
     by fit fine None is =
         inr (none_spelled v ws (matches_of (parser v) ws) (is_read (options_of v) (good v) (verb_word v) (parser v)

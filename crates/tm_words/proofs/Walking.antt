@@ -1,9 +1,8 @@
 -- How the parse goes over one word, and over the two words of an option.
-use Rattle.std.proofs.Common.{◌≡◌, ◌≢◌, ◌∙◌, ◌<◌, ◌+◌, ◌==◌, ◌&&◌, ◌||◌, not, ℕ, Bool, cond, true, false, refl, sym, ap}
-use Rattle.std.proofs.Common.{ap₂, subst, arith, List, [], ◌∷◌, ◌++◌, map, length, Option, Some, None, find, is_some}
-use Rattle.std.proofs.Common.{codes, true≢false, inl, inr, ◌⊎◌}
+use Rattle.std.proofs.Common.{◌≡◌, ◌∙◌, ◌==◌, ◌&&◌, ℕ, Bool, cond, true, false, refl, sym, ap}
+use Rattle.std.proofs.Common.{ap₂, List, [], ◌∷◌, Option, Some, None}
+use Rattle.std.proofs.Common.{codes, true≢false, inl, inr}
 use Rattle.std.specs.Str.{bytes_eq}
-use Rattle.std.specs.List.{list_any, list_all, fold}
 use Rattle.std.specs.Prelude.{option_and_then, nat_lt}
 use Rattle.std.specs.Option.{option_map_or}
 use Rattle.clap.specs.Lexer.{name_and_value, long_of, short_of, long_of_rest, short_of_rest, strip_byte}
@@ -11,17 +10,14 @@ use Rattle.clap.specs.Walk.{Text, Rule, Row, Held, Waiting, idle, option, positi
 use Rattle.clap.specs.Walk.{word_met, settled, settled_rows, arg_by_id, arg_by_long, arg_by_index, after_step}
 use Rattle.clap.specs.Walk.{after_flag, long_met, long_or_other, short_or_plain, subcommand_or_other, plain_word}
 use Rattle.clap.specs.Walk.{positional_held, used, is_pending, takes_several, pushed}
-use Rattle.clap.specs.Simple.{Shape}
 use Rattle.clap.specs.Kinds.{Kinds, or_else}
 use Rattle.clap.specs.Faults.{turn_fault, word_fault, other_fault, flag_word_fault, bundle_fault, step_fault}
-use Rattle.clap.specs.Faults.{positional_fault, settle_fault, use_fault, option_fault, react_fault, long_fault}
+use Rattle.clap.specs.Faults.{positional_fault, settle_fault, use_fault, react_fault, long_fault}
 use Rattle.clap.specs.declared.error.kind.ErrorKind.TheVariants as kind
-use Rattle.clap.proofs.LexerLemmas.{name_and_value-at, name_and_value-without}
-use Rattle.clap.proofs.CutLemmas.{Lacks}
 use Rattle.tm_words.specs.Words.{is_name}
-use Rattle.tm_words.specs.Form.{is_among, dashed}
-use Rattle.tm_words.proofs.Plain.{and-false, text_is, not_false, or_else-nil, lacks, is_nil, false_or_true}
-use Rattle.tm_words.proofs.Rules.{name_arg, opt, rules_of, built_shape, are_good, good_among, is_good, no_equals, id_is}
+use Rattle.tm_words.specs.Form.{is_among}
+use Rattle.tm_words.proofs.Plain.{and-false, text_is, not_false, or_else-nil, is_nil, false_or_true}
+use Rattle.tm_words.proofs.Rules.{name_arg, opt, rules_of, built_shape, are_good, id_is}
 use Rattle.tm_words.proofs.Rules.{long_is, no_long}
 use Rattle.tm_words.proofs.Uses.{Use, settle, clash, clash_is}
 use Rattle.tm_words.proofs.Uses.Use.{nothing, named, valued}

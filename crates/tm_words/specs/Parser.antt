@@ -1,13 +1,12 @@
 -- How `clap` is asked to read the words behind a command: what it is told of the names and the options, and the
 -- words that it is given at all (words of private contracts).
-use Rattle.std.specs.Prelude.{◌≡◌, ◌+◌, ◌==◌, ℕ, Bool, true, false, not, ◌&&◌, ◌||◌, if◌then◌else◌, List, [], ◌∷◌, map}
+use Rattle.std.specs.Prelude.{◌≡◌, ◌+◌, ◌==◌, Bool, true, false, ◌&&◌, ◌||◌, if◌then◌else◌, List, [], ◌∷◌}
 use Rattle.std.specs.Prelude.{nat_eq}
 use Rattle.std.specs.Prelude.{codes, drop, position, Option, None, Some, unwrap_or, Result, Ok, Err}
 use Rattle.std.specs.List.{starts_with}
 use Rattle.std.specs.Option.{option_map_or}
 use Rattle.std.specs.Str.{bytes_eq}
-use Rattle.clap.specs.Words.{App, Row, Rule, Shape, new_rule, new_app, with_rule, matches_of, all_of, first_of}
-use Rattle.clap.specs.Words.{fault_of}
+use Rattle.clap.specs.Words.{App, Row, Rule, new_rule, new_app, with_rule, all_of, first_of}
 use Rattle.clap.specs.declared.builder.action.ArgAction.TheVariants.{Set, Append}
 use Rattle.tm_words.specs.Words.{Text, is_name, build_asked, list_asked, run_asked, sample_asked}
 use Rattle.tm_words.specs.declared.command.Command.{Command}

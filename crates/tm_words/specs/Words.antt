@@ -9,8 +9,6 @@ use Rattle.std.specs.declared.alloc.Global.{Global}
 use Rattle.tm_base.specs.Numbers.{number_of}
 use Rattle.tm_base.specs.declared.numbers.NumberFault.{NumberFault}
 use Rattle.tm_base.specs.declared.limits.TheConstants.{DEFAULT_EVENTS, MOST_EVENTS}
-use Rattle.tm_words.specs.declared.command.Build.{Build}
-use Rattle.tm_words.specs.declared.command.Run.{Run}
 use Rattle.tm_words.specs.declared.command.Command.{Command}
 use Rattle.tm_words.specs.declared.command.Command.TheVariants as commands
 use Rattle.tm_words.specs.declared.command.WordsFault.{WordsFault}

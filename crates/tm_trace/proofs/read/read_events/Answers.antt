@@ -8,7 +8,7 @@ pub loop-place-init : goal.loop-place-init
 loop-place-init c =
     let none = c.requires.none in
     let all : c.args.count - 0 ≡ c.args.count = omega arith in
-    rw (none, all) (behind_none (events_from c.args.count c.args.harts 2 c.args.bytes.now), refl, refl)
+    rw (none, all) (behind_none (events_from c.args.count c.args.harts 2 c.args.bytes.now), refl, refl, omega arith)
 
 pub returns-in_err-event-clause-err : goal.returns-in_err-event-clause-err
 returns-in_err-event-clause-err c =
@@ -17,13 +17,15 @@ returns-in_err-event-clause-err c =
     omega (arith, c.loop-place-test.true) in
     rw (p.1, p.2) (fails _ c.loop-place.journal.events (c.args.count - c.loop-place.place)
     (c.args.count - (c.loop-place.place + 1)) c.args.harts (c.loop-place.place + 2) c.loop-place.rest.now _
-    c.loop-place.invariant.0 left c.in_err-event.ensures)
+    c.loop-place.invariant.0 left c.in_err-event.ensures.is)
 
 pub put-requires : goal.put-requires
 put-requires c =
     let count = c.loop-place.invariant.1 in
     let room = c.loop-place.invariant.2 in
-    omega (arith, count, room, c.requires.room, c.loop-place-test.true)
+    let left = c.loop-place.invariant.3 in
+    let less = c.in_ok-event.ensures.less in
+    omega (arith, count, room, left, less, c.requires.room, c.loop-place-test.true)
 
 pub loop-place-preserved : goal.loop-place-preserved
 loop-place-preserved c =
@@ -35,9 +37,10 @@ loop-place-preserved c =
       goes_on _ c.loop-place.journal.events (c.args.count - c.loop-place.place)
           (c.args.count - (c.loop-place.place + 1)) c.args.harts (c.loop-place.place + 2) (c.loop-place.place + 1 + 2)
           c.loop-place.rest.now c.in_ok-event.event c.in_ok-event.behind.now c.loop-place.invariant.0 left (omega arith)
-          c.in_ok-event.ensures,
+          c.in_ok-event.ensures.is,
       omega (arith, sum, count),
       c.loop-place.invariant.2,
+      omega (arith, c.loop-place.invariant.3, c.in_ok-event.ensures.less),
     )
 
 pub returns-clause-ok : goal.returns-clause-ok

@@ -1,6 +1,5 @@
-use Rattle.std.proofs.Common.{◌≡◌, ◌∙◌, ap, codes, map}
+use Rattle.std.proofs.Common.{◌∙◌, ap, codes, map}
 use Rattle.std.specs.String.{string_bytes}
-use Rattle.clap.specs.Words.{app_of}
 use Rattle.tm_words.specs.Parser.{with_option}
 use Rattle.tm_words.specs.declared.command.Verb.TheVariants as verb
 use Rattle.tm_words.proofs.Verbs.{found_in, unspelled_in}

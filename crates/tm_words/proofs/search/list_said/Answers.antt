@@ -1,7 +1,7 @@
-use Rattle.std.proofs.Common.{◌≡◌, ◌∙◌, ap, ap₂, codes}
-use Rattle.clap.specs.Words.{rows_of, found_of, first_of}
-use Rattle.tm_words.specs.Words.{build_asked, list_asked, run_asked, sample_asked}
-use Rattle.tm_words.proofs.Verbs.{names_some, names_none, asked_as, run_same}
+use Rattle.std.proofs.Common.{ap}
+use Rattle.clap.specs.Words.{found_of}
+use Rattle.tm_words.specs.Words.{list_asked}
+use Rattle.tm_words.proofs.Verbs.{names_some, names_none, asked_as}
 use Rattle.tm_words.proofs.search.list_said.Goals as goal
 
 pub returns-in-Some : goal.returns-in-Some

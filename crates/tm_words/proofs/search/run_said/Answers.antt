@@ -1,6 +1,6 @@
-use Rattle.std.proofs.Common.{◌≡◌, ◌∙◌, ap, ap₂, codes}
+use Rattle.std.proofs.Common.{ap, codes}
 use Rattle.clap.specs.Words.{rows_of, found_of, first_of}
-use Rattle.tm_words.specs.Words.{build_asked, list_asked, run_asked, sample_asked}
+use Rattle.tm_words.specs.Words.{run_asked}
 use Rattle.tm_words.proofs.Verbs.{names_some, names_none, asked_as, run_same}
 use Rattle.tm_words.proofs.search.run_said.Goals as goal
 

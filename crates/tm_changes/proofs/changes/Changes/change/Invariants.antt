@@ -1,0 +1,13 @@
+use Rattle.std.proofs.Common.{◌≡◌, ◌≤◌, drop, length}
+use Rattle.tm_world.specs.Script.{change_of}
+use Rattle.tm_changes.specs.Made.{change_in}
+use Rattle.tm_changes.proofs.changes.Changes.change.Given as goal
+
+abbrev pub invariant-loop-left : goal.invariant-loop-left
+invariant-loop-left l = record {
+  few : l.left ≤ length l.lines;
+  behind : change_in l.change ≡ change_of l.self.program (drop l.left l.lines) l.h l.phase l.pc;
+}
+
+abbrev pub decreases-loop-left : goal.decreases-loop-left
+decreases-loop-left l = l.left
