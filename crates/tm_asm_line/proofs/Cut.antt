@@ -5,6 +5,7 @@ use Rattle.std.specs.List.{prefix_len, take_while}
 use Rattle.std.proofs.lemmas.Bool.{and_parts, not-true}
 use Rattle.std.proofs.lemmas.List.{drop-drop}
 use Rattle.tm_asm_line.specs.Reading.{is_blank, is_delimiter, after_blanks, operand, name_at}
+use Rattle.std.proofs.Math.Seq.{take-append_seam, drop-append_seam}
 
 -- no byte stops
 abbrev pub none : (ℕ → Bool) → List ℕ → Bool
@@ -31,22 +32,14 @@ prefix-none stop (b ∷ bs) rest h k =
     let p = and_parts (not (stop b)) (none stop bs) h in
     rw (p.0, prefix-none stop bs rest p.1 k) (omega arith)
 
-take_front : (xs ys : List ℕ) → take (length xs) (xs ++ ys) ≡ xs
-take_front [] ys = refl
-take_front (x ∷ xs) ys = ap (λ (l : List ℕ). x ∷ l) (take_front xs ys)
-
-drop_front : (xs ys : List ℕ) → drop (length xs) (xs ++ ys) ≡ ys
-drop_front [] ys = refl
-drop_front (x ∷ xs) ys = drop_front xs ys
-
 pub cut : (stop : ℕ → Bool) (bs rest : List ℕ) → none stop bs ≡ true → ends stop rest ≡ true
     → take_while (λ b. not (stop b)) (bs ++ rest) ≡ bs
-cut stop bs rest h k = rw (prefix-none stop bs rest h k) (take_front bs rest)
+cut stop bs rest h k = rw (prefix-none stop bs rest h k) (take-append_seam bs rest)
 
 -- what stands behind bytes that stand at a place
 pub drop_behind : (text bs rest : List ℕ) (at : ℕ) → drop at text ≡ bs ++ rest → drop (at + length bs) text ≡ rest
 drop_behind text bs rest at here =
-    sym (drop-drop (length bs) at text) ∙ (ap (λ (l : List ℕ). drop (length bs) l) here ∙ drop_front bs rest)
+    sym (drop-drop (length bs) at text) ∙ (ap (λ (l : List ℕ). drop (length bs) l) here ∙ drop-append_seam bs rest)
 
 pub operand-here : (text bs rest : List ℕ) (at : ℕ) → drop at text ≡ bs ++ rest → none is_delimiter bs ≡ true
     → ends is_delimiter rest ≡ true → operand text at ≡ bs

@@ -7,18 +7,11 @@ use Rattle.tm_world.specs.Place.{harts}
 use Rattle.tm_runs.specs.World.{Sizes, is_fixed_dword, is_private_dword, is_guest_dword, world_of}
 use Rattle.tm_runs.proofs.Places.{fixed-place, guest-true}
 use Rattle.tm_barrier.specs.Laws.{Meeting}
+use Rattle.tm_runs.proofs.Worlds.{not-fixed}
 
 private-here : (h : ℕ) → is_private_dword h (private_at h + 256) ≡ true
 unfolding is_private_dword private_size
 private-here h = grind (arith, nat_tests)
-
-free-at : (p : Program) (a : ℕ) → Sizes p → flag_at 0 ≤ a → is_fixed_dword p a ≡ false
-unfolding flag_at
-free-at p a s l = by (is_fixed_dword p a) refl
-  where
-    by : (b : Bool) → is_fixed_dword p a ≡ b → is_fixed_dword p a ≡ false
-    by true q = let f = fixed-place p a s q in absurd (omega arith)
-    by false q = q
 
 guest-at : (a : ℕ) → flag_at 0 ≤ a → a + 8 ≤ 0x81000000 → is_guest_dword a ≡ true
 unfolding guest_base guest_end flag_at
@@ -35,8 +28,8 @@ meeting_of p h s l =
       above = omega arith;
       aligned = omega arith;
       own = ap (λ (b : Bool). b || is_fixed_dword p (private_at h + 256)) (private-here h);
-      free = free-at p (private_at h + 256) s (omega arith);
+      free = not-fixed p (private_at h + 256) s (omega arith);
       count = guest-at (private_at h + 256) (omega arith) (omega arith);
       flags = λ g b. guest-at (flag_at g) (omega arith) (omega (arith, s.harts));
-      writable = free-at p (flag_at h) s (omega arith);
+      writable = not-fixed p (flag_at h) s (omega arith);
     }

@@ -4,12 +4,26 @@ use Rattle.std.proofs.Common.{List, [], ◌∷◌, ◌++◌, length, map, get_or
 use Rattle.std.proofs.Common.{arith}
 use Rattle.std.specs.Prelude.{slice_get, slice_index, filter, All, if◌then◌else◌}
 use Rattle.std.proofs.lemmas.Bool.{cases_lt, or_left, or_right}
-use Rattle.std.proofs.lemmas.Option.{slice_get_within, slice_get_cases, get_or_from_slice_get}
+use Rattle.std.proofs.Common.{Option, Result, Ok, Err}
+use Rattle.std.specs.Result.{is_err, OnOk}
+use Rattle.std.proofs.lemmas.Option.{slice_get_within, slice_get_cases, get_or_from_slice_get, same_Some, none-some}
 use Rattle.tm_base.specs.Lists.{any, count_from}
 
 -- a test gives one answer
 pub no : {A : Type 0} {b : Bool} → b ≡ false → b ≡ true → A
 no e f = absurd (true≢false (sym f ∙ e))
+
+-- an option has one value
+pub same-value : {A : Type 0} (o : Option A) (x y : A) → o ≡ Some x → o ≡ Some y → x ≡ y
+same-value o x y p q = same_Some x y (sym p ∙ q)
+
+pub no-value : {A : Type 0} (o : Option A) (x : A) → o ≡ None → o ≡ Some x → ⊥
+no-value o x p q = none-some x (sym p ∙ q)
+
+-- a call that didn't fail
+pub was-ok : {T E : Type 0} (r : Result T E) (P : Type 0) → is_err r ≡ false → OnOk r P → P
+was-ok (Ok x) P fine h = h
+was-ok (Err e) P fine h = absurd (true≢false fine)
 
 -- ---- elements
 

@@ -9,7 +9,7 @@ use Rattle.tm_table.specs.declared.state.Access.{Access}
 use Rattle.tm_table.specs.declared.state.Access.TheVariants.{Quiet, Read}
 use Rattle.tm_runs.specs.Machine.{World, State, Table, get, computes, loaded, MayAccess}
 use Rattle.tm_runs.specs.Runs.{Takes, Now, At, Within, IsQuiet}
-use Rattle.tm_runs.proofs.Compose.{takes_then, takes_more, takes_map, within_map}
+use Rattle.tm_runs.proofs.Compose.{takes_then, takes_more, takes_map, within_map, quiet_within}
 use Rattle.tm_runs.proofs.Steps.{step_addi, step_and, step_xor, step_ld, step_bne, step_bne_taken, step_bne_on}
 use Rattle.tm_runs.proofs.Steps.{branched}
 use Rattle.tm_runs.proofs.Tables.{get_put_other, at_front, at_next}
@@ -438,9 +438,6 @@ module _ (w : World) (lo hi : ℕ) (A : Access → Type 0) (quiet : A Quiet) (ta
         length-append (constant 3 masks ++ (addi 4 0 lines ∷ [])) (line_turn dwords b far)
         ∙ omega (arith, length-append (constant 3 masks) (addi 4 0 lines ∷ []), length-constant 3 masks)
 
-    quiet-within : (t : State) → Within lo hi IsQuiet t → Within lo hi A t
-    quiet-within t h = within_map lo hi lo hi (omega arith) (omega arith) (λ x e. subst A (sym e) quiet) t h
-
     pub window_take : (lines masks p q i far : ℕ) (s : State) → Comparable p q (rows masks dwords b lines)
         → get s.regs 1 ≡ p → get s.regs 2 ≡ q → get s.regs 8 ≡ i → p + 8 * (lines * dwords) < 2 ^ 63
         → q + 8 * (lines * dwords) < 2 ^ 63 → masks + on * lines < 2 ^ 63 → i + lines * dwords < 2 ^ 32 → lines < 2048
@@ -477,7 +474,7 @@ module _ (w : World) (lo hi : ℕ) (A : Access → Type 0) (quiet : A Quiet) (ta
         let most = at_front w.text s.pc front (line_turn dwords b far) code in
         takes_more {n = 11 + suc (lines * (12 * dwords + 4))} (12 + lines * (12 * dwords + 4)) (omega arith)
         (takes_then {n = 11} {k = suc (lines * (12 * dwords + 4))}
-        (takes_map quiet-within (λ t c. c) (constant_takes w lo hi 3 masks (omega arith) s x (omega (arith, len))
+        (takes_map (quiet_within lo hi quiet) (λ t c. c) (constant_takes w lo hi 3 masks (omega arith) s x (omega (arith, len))
         (omega arith) (at_front w.text s.pc (constant 3 masks) (addi 4 0 lines ∷ []) most))) (λ t c.
         let pc : t.pc ≡ s.pc + 44 = c.pc in
         let here = at_next w.text s.pc t.pc (constant 3 masks) (addi 4 0 lines ∷ []) 11 (length-constant 3 masks) pc

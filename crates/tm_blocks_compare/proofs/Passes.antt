@@ -9,7 +9,7 @@ use Rattle.tm_plan_cases.specs.declared.cases.Cases.{Cases}
 use Rattle.tm_plan_cases.specs.Shaped.{AreShaped}
 use Rattle.tm_runs.specs.Machine.{World, State, Table, get, computes}
 use Rattle.tm_runs.specs.Runs.{Takes, Now, At, Within, IsQuiet}
-use Rattle.tm_runs.proofs.Compose.{takes_then, takes_map, within_map}
+use Rattle.tm_runs.proofs.Compose.{takes_then, takes_map, within_map, quiet_within}
 use Rattle.tm_runs.proofs.Steps.{step_addi, step_add, step_slli}
 use Rattle.tm_runs.proofs.Tables.{get_put_other, at_front, at_next}
 use Rattle.tm_blocks_base.specs.Instrs.{addi, add, slli}
@@ -245,15 +245,12 @@ module _ (w : World) (lo hi : ℕ) (table : Table) (stop M : ℕ) (cases : Cases
     mem : u.mem ≡ t.mem
     fits : RegistersFit t → RegistersFit u
 
-  quiet-within : (t : State) → Within lo hi IsQuiet t → Within lo hi (Peeks w) t
-  quiet-within t g = within_map lo hi lo hi (omega arith) (omega arith) (λ x e. subst (Peeks w) (sym e) tt) t g
-
   head_take : (p k : ℕ) (t : State) → p < 2 ^ 58 → k < 2 ^ 8 → get t.regs 9 ≡ k → lo ≤ t.pc → t.pc + 56 ≤ hi
       → At w.text t.pc (pass_head p) → Takes w (Within lo hi (Peeks w)) (Begun p k t) 14 t
   unfolding pass_head
   head_take p k t pl kl nine x y at =
       let tail : List Instr = slli 2 9 13 ∷ add 2 2 1 ∷ addi 8 0 0 ∷ [] in
-      takes_then {n = 11} {k = 3} (takes_map quiet-within (λ u g. g)
+      takes_then {n = 11} {k = 3} (takes_map (quiet_within lo hi tt) (λ u g. g)
       (constant_takes w lo hi 1 p (omega arith) t x (omega arith) (omega arith)
       (at_front w.text t.pc (constant 1 p) tail at))) (λ u c.
       let pc : u.pc ≡ t.pc + 44 = c.pc in

@@ -11,7 +11,7 @@ use Rattle.tm_plan_cases.specs.Shaped.{AreShaped}
 use Rattle.tm_plan_cases.specs.Collected.{owned}
 use Rattle.tm_runs.specs.Machine.{World, State, Table, get, computes, loaded}
 use Rattle.tm_runs.specs.Runs.{Takes, Now, At, Within, IsQuiet}
-use Rattle.tm_runs.proofs.Compose.{takes_then, takes_more, takes_map, within_map}
+use Rattle.tm_runs.proofs.Compose.{takes_then, takes_more, takes_map, within_map, quiet_within}
 use Rattle.tm_runs.proofs.Steps.{step_addi, step_add, step_slli, step_ld, step_jal}
 use Rattle.tm_runs.proofs.Tables.{get_put_other, get_put_zero, at_front, at_next}
 use Rattle.tm_blocks_base.specs.Instrs.{addi, add, slli, ld, sd, jump}
@@ -42,9 +42,6 @@ record Numbered (place V : ℕ) (s t : State) : Type 0 where
   fits : RegistersFit s → RegistersFit t
 
 module _ (w : World) (lo hi : ℕ) where
-  quiet-within : (t : State) → Within lo hi IsQuiet t → Within lo hi (Peeks w) t
-  quiet-within t g = within_map lo hi lo hi (omega arith) (omega arith) (λ x e. subst (Peeks w) (sym e) tt) t g
-
   -- both ends of the passes lead on with the number
   close_take : (none V : ℕ) (t : State) → Ends (none + 8) none V t → lo < none → none + 16 ≤ hi → At w.text none closing
       → Takes w (Within lo hi (Peeks w)) (Numbered (none + 16) V t) 2 t
@@ -197,7 +194,7 @@ compare_all_runs cases h p mask bytes cell w s shaped mine small c at =
     let passes : 1 + suc m ≡ cases.passes = omega (arith, shaped.passes) in
     let V = verdict_of_all s.mem cases h p mask bytes in
     let few-p = few-steps cases h shaped mine in
-    let quiet = quiet-within w lo hi in
+    let quiet = quiet_within lo hi {A = Peeks w} tt in
     let P = 14 + (332 + (12 + line_count cases h 0 * (12 * (cases.line / 8) + 4)
     + (12 + line_count cases h 1 * (12 * (cases.line / 8) + 4)
     + (12 + line_count cases h 2 * (12 * (cases.line / 8) + 4))))) + 3 in

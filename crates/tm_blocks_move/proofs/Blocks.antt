@@ -11,7 +11,7 @@ use Rattle.tm_plan_cases.specs.Shaped.{AreShaped}
 use Rattle.tm_plan_cases.specs.Collected.{owned}
 use Rattle.tm_runs.specs.Machine.{World, State, Table, get}
 use Rattle.tm_runs.specs.Runs.{Takes, At, Within, IsQuiet}
-use Rattle.tm_runs.proofs.Compose.{takes_then, takes_more, takes_map, within_map}
+use Rattle.tm_runs.proofs.Compose.{takes_then, takes_more, takes_map, within_map, quiet_within}
 use Rattle.tm_runs.proofs.Tables.{get_put_other, at_front, at_next}
 use Rattle.tm_blocks_base.specs.Blocks.{constant}
 use Rattle.tm_blocks_base.proofs.Lengths.{length-constant}
@@ -145,9 +145,6 @@ module _ (cases : Cases) (h from : ℕ) (s : AreShaped cases) (mine : h < cases.
     abbrev A : Access → Type 0
     A = UsesMoves all
 
-    quiet-within : (t : State) → Within lo hi IsQuiet t → Within lo hi A t
-    quiet-within t g = within_map lo hi lo hi (omega arith) (omega arith) (λ x e. subst A (sym e) tt) t g
-
     first-take : (v : ℕ) → v < 3 → EachMove (Ready w lo hi A tt) (set-part v)
         → One w lo hi A (first_window cases h from) set-part (λ v t. Unit {0}) set-steps v
     unfolding windows_base
@@ -162,7 +159,7 @@ module _ (cases : Cases) (h from : ℕ) (s : AreShaped cases) (mine : h < cases.
         let whole : (half + half) * c ≡ a * c = ap (λ (x : ℕ). x * c) twice in
         let len : length (first ++ lines) ≡ 11 + length lines =
         length-append first lines ∙ ap (λ (k : ℕ). k + length lines) (length-constant 2 (windows_base + d)) in
-        takes_then (takes_map quiet-within (λ u g. g) (constant_takes w lo hi 2 (windows_base + d) (omega arith) t x
+        takes_then (takes_map (quiet_within lo hi tt) (λ u g. g) (constant_takes w lo hi 2 (windows_base + d) (omega arith) t x
         (omega (arith, len)) (omega (arith, far.place)) (at_front w.text t.pc first lines at))) (λ u g.
         let pc = g.pc in
         takes_map (λ v k. k) (λ v k. record {

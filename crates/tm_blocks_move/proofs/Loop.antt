@@ -8,7 +8,7 @@ use Rattle.tm_table.specs.declared.state.Access.TheVariants.{Quiet, Read, Write}
 use Rattle.tm_base.specs.Lists.{count_from}
 use Rattle.tm_runs.specs.Machine.{World, State, Table, get, loaded, computes}
 use Rattle.tm_runs.specs.Runs.{Takes, Now, At, Within, IsQuiet}
-use Rattle.tm_runs.proofs.Compose.{takes_then, takes_more, takes_map, within_map}
+use Rattle.tm_runs.proofs.Compose.{takes_then, takes_more, takes_map, within_map, quiet_within}
 use Rattle.tm_runs.proofs.Steps.{step_ld, step_sd, step_addi, step_bne_taken, step_bne_on, written, branched}
 use Rattle.tm_runs.proofs.Tables.{get_put_other, at_front, at_next}
 use Rattle.tm_blocks_base.specs.Instrs.{addi, ld, sd}
@@ -201,9 +201,6 @@ module _ (w : World) (lo hi : ℕ) (A : Access → Type 0) (quiet : A Quiet) whe
       pub two : get t.regs 2 ≡ q + (b + b) * lines
       pub moved : HasMoved w (lines_moves from q n (a + a) (b + b) lines) s t
 
-    quiet-within : (t : State) → Within lo hi IsQuiet t → Within lo hi A t
-    quiet-within t h = within_map lo hi lo hi (omega arith) (omega arith) (λ x e. subst A (sym e) quiet) t h
-
     open-loop : (pc : ℕ) → At w.text pc (lines_loop n a b) → At w.text pc (line ++ rest)
     unfolding lines_loop
     open-loop pc h = h
@@ -229,7 +226,7 @@ module _ (w : World) (lo hi : ℕ) (A : Access → Type 0) (quiet : A Quiet) whe
         (length-constant 1 from) in
         takes_more {n = 11 + suc (lines * (2 * n + 6))} (12 + lines * (2 * n + 6)) (omega arith)
         (takes_then {n = 11} {k = suc (lines * (2 * n + 6))}
-        (takes_map quiet-within (λ t c. c) (constant_takes w lo hi 1 from (omega arith) s (omega arith)
+        (takes_map (quiet_within lo hi quiet) (λ t c. c) (constant_takes w lo hi 1 from (omega arith) s (omega arith)
         (omega arith) (omega arith) (at_front w.text s.pc (constant 1 from) (addi 4 0 lines ∷ []) most))) (λ t c.
         let pc : t.pc ≡ s.pc + 44 = c.pc in
         let here = at_next w.text s.pc t.pc (constant 1 from) (addi 4 0 lines ∷ []) 11 (length-constant 1 from) pc most

@@ -11,13 +11,7 @@ use Rattle.tm_runs.proofs.Places.{fixed-place, guest-true}
 use Rattle.tm_blocks_move.specs.Laws.{Move, Movable, EachMove, line_moves}
 use Rattle.tm_blocks_move.specs.Lines.{set_moves, collect_moves}
 use Rattle.tm_blocks_move.specs.Runs.{FitsIn}
-
-free-at : (p : Program) (a : ℕ) → Sizes p → 2160066560 ≤ a → is_fixed_dword p a ≡ false
-free-at p a s l = by (is_fixed_dword p a) refl
-  where
-    by : (b : Bool) → is_fixed_dword p a ≡ b → is_fixed_dword p a ≡ false
-    by true q = let f = fixed-place p a s q in absurd (omega arith)
-    by false q = q
+use Rattle.tm_runs.proofs.Worlds.{not-fixed}
 
 module _ (p : Program) (h : ℕ) (s : Sizes p) where
   movable : (a b : ℕ) → a % 8 ≡ 0 → b % 8 ≡ 0 → guest_base ≤ a → a + 8 ≤ guest_end → 2160066560 ≤ b → b + 8 ≤ guest_end
@@ -28,7 +22,7 @@ module _ (p : Program) (h : ℕ) (s : Sizes p) where
     read_low = omega arith;
     write = (bl, guest-true b (omega arith) q);
     write_low = omega arith;
-    free = free-at p b s z;
+    free = not-fixed p b s z;
   }
 
   sets : (from : ℕ) → from % 8 ≡ 0 → guest_base ≤ from → from + windows_size ≤ guest_end → (xs : List ℕ) → Dwords xs

@@ -4,7 +4,7 @@ use Rattle.std.proofs.Common.{option_map, Result, Ok, Err, List, [], ◌∷◌, 
 use Rattle.std.proofs.Common.{subst, arith}
 use Rattle.std.proofs.lemmas.List.{length-take}
 use Rattle.std.proofs.lemmas.List.Elements.{All-cons}
-use Rattle.std.proofs.lemmas.Bool.{and_parts}
+use Rattle.std.proofs.lemmas.Bool.{and_parts, leb-true, ltb-true}
 use Rattle.tm_elf_write.specs.declared.parts.Symbol.{Symbol}
 use Rattle.tm_elf_write.specs.Elf.{IsWritable}
 use Rattle.tm_elf_write.specs.Symbols.{IsName}
@@ -16,14 +16,14 @@ use Rattle.tm_elf.specs.Read.{parts_in, symbols_in, words_from}
 use Rattle.tm_elf_head.specs.Spans.{segment, section, bytes_in}
 use Rattle.tm_elf.specs.SymbolTable.{is_name, name_len, symbol_at, symbols_from, then_symbols}
 use Rattle.tm_elf.proofs.WordLemmas.{length_words}
-use Rattle.tm_elf_head.proofs.FitLemmas.{at_most, below, text_fits, plan_fits, plan_lengths, symbols_fit}
+use Rattle.tm_elf_head.proofs.FitLemmas.{text_fits, plan_fits, plan_lengths, symbols_fit}
 
 name_holds : (name : List ℕ) → is_name name ≡ true → IsName name
 unfolding is_name
 name_holds name h =
     let a = and_parts _ _ h in
     let b = and_parts _ _ a.1 in
-    record { some = below _ _ a.0; short = at_most _ _ b.0; ascii = b.1 }
+    record { some = ltb-true _ _ a.0; short = leb-true _ _ b.0; ascii = b.1 }
 
 chosen : (t : Bool) (n m : ℕ) → cond t (Some n) None ≡ Some m → (t ≡ true) × (n ≡ m)
 chosen true n m h = (refl, cc)

@@ -2,7 +2,7 @@
 use Rattle.std.proofs.Common.{◌≡◌, ℕ, ◌+◌, ◌-◌, ◌%◌, ◌<◌, ◌≤◌, ◌==◌, Bool, true, false, cond, nat_lt, nat_le, ◌*◌}
 use Rattle.std.proofs.Common.{Option, Some, None, List, length, drop, refl, arith, length-drop}
 use Rattle.std.proofs.lemmas.List.{length-take}
-use Rattle.std.proofs.lemmas.Bool.{and_parts}
+use Rattle.std.proofs.lemmas.Bool.{and_parts, leb-true, ltb-true, eqb-true}
 use Rattle.std.proofs.lemmas.Bool.Decides.{nat_tests}
 use Rattle.tm_elf_write.specs.declared.parts.TheConstants.{MOST_SYMBOLS}
 use Rattle.tm_base.specs.declared.limits.TheConstants.{TEXT_WORDS, TABLES_BYTES, TOPOLOGY_BYTES, TEMPLATE_BYTES}
@@ -11,18 +11,9 @@ use Rattle.tm_elf_head.specs.Numbers.{word_at}
 use Rattle.tm_elf_head.specs.PartFaults.{is_text, is_tables, bad_segment, is_plan, plan_of, has_plan, has_symbols}
 use Rattle.tm_elf_head.specs.Spans.{ends_by, segment, section, bytes_in, headers_at}
 
-pub at_most : (a b : ℕ) → nat_le a b ≡ true → a ≤ b
-at_most a b h = grind (arith, nat_tests)
-
-pub below : (a b : ℕ) → nat_lt a b ≡ true → a < b
-below a b h = grind (arith, nat_tests)
-
-pub is_equal : (a b : ℕ) → (a == b) ≡ true → a ≡ b
-is_equal a b h = grind (arith, nat_tests)
-
 ends : (limit : ℕ) (span : Span) → ends_by limit span ≡ true → span.at + span.len ≤ limit
 unfolding ends_by
-ends limit span h = at_most (span.at + span.len) limit h
+ends limit span h = leb-true (span.at + span.len) limit h
 
 -- a range within a file has its length
 pub length_in : (span : Span) (bytes : List ℕ) → span.at + span.len ≤ length bytes → length (bytes_in span bytes)
@@ -51,11 +42,11 @@ text_holds bytes t u =
     let end : (segment bytes 0).at + (segment bytes 0).len ≤ length bytes - 512 =
     ends (headers_at bytes) (segment bytes 0) a.0 in
     record {
-      some = below _ _ c.0;
-      most = at_most _ _ b.0;
-      words = is_equal _ _ c.1;
+      some = ltb-true _ _ c.0;
+      most = leb-true _ _ b.0;
+      words = eqb-true _ _ c.1;
       long = length_in (segment bytes 0) bytes (omega arith);
-      tables = at_most _ _ e.1;
+      tables = leb-true _ _ e.1;
     }
 
 pub text_fits : (bytes : List ℕ) → bad_segment bytes ≡ None → TextFits bytes
@@ -82,9 +73,9 @@ symbols_fit bytes h =
     let end : (section bytes 5).at + (section bytes 5).len ≤ length bytes - 512 =
     ends (headers_at bytes) (section bytes 5) a.0 in
     record {
-      some = below _ _ c.0;
-      few = at_most _ _ d.0;
-      entries = is_equal _ _ d.1;
+      some = ltb-true _ _ c.0;
+      few = leb-true _ _ d.0;
+      entries = eqb-true _ _ d.1;
       long = length_in (section bytes 5) bytes (omega arith);
     }
 
@@ -99,9 +90,9 @@ plan_lengths bytes h =
     let b = and_parts _ _ a.1 in
     let c = and_parts _ _ b.1 in
     let d = and_parts _ _ c.1 in
-    let topo : word_at bytes 16 ≤ TOPOLOGY_BYTES = at_most _ _ c.0 in
-    let template : word_at bytes 20 ≤ TEMPLATE_BYTES = at_most _ _ d.0 in
-    let whole : 24 + word_at bytes 16 + word_at bytes 20 ≡ length bytes = is_equal _ _ d.1 in
+    let topo : word_at bytes 16 ≤ TOPOLOGY_BYTES = leb-true _ _ c.0 in
+    let template : word_at bytes 20 ≤ TEMPLATE_BYTES = leb-true _ _ d.0 in
+    let whole : 24 + word_at bytes 16 + word_at bytes 20 ≡ length bytes = eqb-true _ _ d.1 in
     record {
       topo = omega (arith, length-take (word_at bytes 16) (drop 24 bytes));
       template = omega (arith, length-drop (24 + word_at bytes 16) bytes);

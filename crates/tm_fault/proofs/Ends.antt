@@ -10,6 +10,7 @@ use Rattle.tm_lex.specs.declared.token.TokenKind.TheVariants.{LineEnd}
 use Rattle.tm_lex.specs.declared.token.LexFault.{LexFault}
 use Rattle.tm_lex.specs.Lines.{Lexeme, lexemes, is_line_end}
 use Rattle.tm_fault.proofs.Reading.{err≢ok, ok-same}
+use Rattle.std.proofs.lemmas.Bool.{or_right}
 
 -- some token ends a line
 abbrev pub has_end : List Lexeme → Bool
@@ -84,7 +85,3 @@ left_well (y ∷ z ∷ front) x behind e = left_well (z ∷ front) x behind e
 pub has_one : (x : Lexeme) (xs : List Lexeme) → lexed_well (x ∷ xs) ≡ true → has_end (x ∷ xs) ≡ true
 has_one x [] e = ap (λ b. b || false) e
 has_one x (y ∷ xs) e = or_right (is_line_end x.0.kind) (has_end (y ∷ xs)) (has_one y xs e)
-  where
-    or_right : (a b : Bool) → b ≡ true → (a || b) ≡ true
-    or_right true b e = refl
-    or_right false b e = e

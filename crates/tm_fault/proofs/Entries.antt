@@ -3,7 +3,7 @@ use Rattle.std.proofs.Common.{◌≡◌, ◌∙◌, ◌<◌, ◌≤◌, ◌+◌,
 use Rattle.std.proofs.Common.{refl, sym, ap, ap₂, subst, arith, List, [], ◌∷◌, ◌++◌, length, true≢false, All}
 use Rattle.std.proofs.Common.{Option, Some, None, bit_and, bit_or, min, max, not, inl, inr, ◌⊎◌, length-set, get_or}
 use Rattle.std.specs.Prelude.{slice_index, slice_set}
-use Rattle.std.proofs.lemmas.Bool.{cases_Bool}
+use Rattle.std.proofs.lemmas.Bool.{cases_Bool, eqb-true, and_parts, or_right}
 use Rattle.std.proofs.lemmas.Bool.Decides.{nat_tests}
 use Rattle.std.proofs.lemmas.List.Elements.{All-nil, All-cons, All-head, All-tail, All-append}
 use Rattle.std.proofs.lemmas.List.Folds.{list_any-append}
@@ -23,9 +23,6 @@ use Rattle.tm_fault.specs.Marks.{kind_number, place_of, HasBit, IsTabled, in_pas
 
 -- ---- the bits of a pass
 
-same_of : (a b : ℕ) → (a == b) ≡ true → a ≡ b
-same_of a b h = grind (arith, nat_tests)
-
 apart_of : (a b : ℕ) → (a == b) ≡ false → b ≡ a → ⊥
 apart_of a b h e = grind (arith, nat_tests)
 
@@ -33,7 +30,7 @@ pub one_bit : (p k : ℕ) → p < 8 → bit_at (1 * 2 ^ p % 256) k ≡ cond (p =
 one_bit p k low = go (p == k) refl
   where
     go : (b : Bool) → (p == k) ≡ b → bit_at (1 * 2 ^ p % 256) k ≡ cond {A = ℕ} b 1 0
-    go true e = subst (λ (n : ℕ). bit_at (1 * 2 ^ p % 256) n ≡ 1) (same_of p k e) (bit_at_set_same w8 0 p low)
+    go true e = subst (λ (n : ℕ). bit_at (1 * 2 ^ p % 256) n ≡ 1) (eqb-true p k e) (bit_at_set_same w8 0 p low)
     go false e = bit_at_set_other w8 0 p low k (apart_of p k e) ∙ bit_at-zero k
 
 pub all_bits : (k : ℕ) → k < 8 → bit_at 255 k ≡ 1
@@ -114,10 +111,10 @@ pub same_place : (a b : FaultLine) → names_same a b ≡ true → place_of a �
 unfolding place_of
 same_place a b e =
     let all = all_true (a.hart == b.hart) (a.case == b.case) (a.slot == b.slot) (same_kind a.action b.action) e in
-    let h = same_of a.hart b.hart all.0 in
-    let c = same_of a.case b.case all.1 in
-    let s = same_of a.slot b.slot all.2 in
-    let k = same_of (kind_number a.action) (kind_number b.action) (sym (kinds a.action b.action) ∙ all.3) in
+    let h = eqb-true a.hart b.hart all.0 in
+    let c = eqb-true a.case b.case all.1 in
+    let s = eqb-true a.slot b.slot all.2 in
+    let k = eqb-true (kind_number a.action) (kind_number b.action) (sym (kinds a.action b.action) ∙ all.3) in
     omega (arith, h, c, s, k)
 
 -- ---- lines and their passes
@@ -145,16 +142,8 @@ twice_is a b = go (a.hart == b.hart) (a.case == b.case) (a.slot == b.slot)
     go true true false = refl
     go true true true = refl
 
-both : (a b : Bool) → (a && b) ≡ true → (a ≡ true) × (b ≡ true)
-both true b e = (refl, e)
-both false b e = absurd (true≢false (sym e))
-
 and_true : (a b : Bool) → a ≡ true → b ≡ true → (a && b) ≡ true
 and_true a b d e = rw (d, e) refl
-
-or_true : (a b : Bool) → b ≡ true → (a || b) ≡ true
-or_true true b e = refl
-or_true false b e = e
 
 -- of some lines one repeats another: there is a pass in which one of them names the same
 found : (len : ℕ) (lines : List FaultLine) (l : FaultLine) → All (IsTabled len) lines → HasBit l.pass
@@ -169,10 +158,10 @@ found len (m ∷ ms) l all low e =
         → (b : Bool) → are_twice m l ≡ b → (b || list_any (λ e. are_twice e l) ms) ≡ true
         → (k : ℕ) × (k < 8) × (is_named (m ∷ ms) l k ≡ true) × (in_pass l.pass k ≡ true)
     go rest true is e =
-        let parts = both (names_same m l) (meet m.pass l.pass) (sym (twice_is m l) ∙ is) in
+        let parts = and_parts (names_same m l) (meet m.pass l.pass) (sym (twice_is m l) ∙ is) in
         let p = common m.pass l.pass (All-head (IsTabled len) m ms all).pass low parts.1 in
         (p.0, p.1, ap (λ b. b || is_named ms l p.0) (and_true _ _ parts.0 p.2), p.3)
-    go rest false is e = let p = rest e in (p.0, p.1, or_true _ _ p.2, p.3)
+    go rest false is e = let p = rest e in (p.0, p.1, or_right _ _ p.2, p.3)
 
 -- and the other way round
 named : (lines : List FaultLine) (l : FaultLine) (k : ℕ) → is_named lines l k ≡ true → in_pass l.pass k ≡ true
@@ -185,10 +174,10 @@ named (m ∷ ms) l k e within =
         → (b : Bool) → (names_same m l && in_pass m.pass k) ≡ b → (b || is_named ms l k) ≡ true
         → list_any (λ e. are_twice e l) (m ∷ ms) ≡ true
     go rest true is e =
-        let parts = both (names_same m l) (in_pass m.pass k) is in
+        let parts = and_parts (names_same m l) (in_pass m.pass k) is in
         let twice = twice_is m l ∙ and_true _ _ parts.0 (meets m.pass l.pass k parts.1 within) in
         ap (λ b. b || list_any (λ e. are_twice e l) ms) twice
-    go rest false is e = or_true _ _ (rest e)
+    go rest false is e = or_right _ _ (rest e)
 
 -- ---- the table
 
@@ -218,7 +207,7 @@ repeats lines marks l bits are here of_pass low = go (list_any (λ e. are_twice 
 
     some : (x k : ℕ) → bit_at x k ≡ 1 → (x == 0) ≡ false
     some x k e = elim (cases_Bool (x == 0)) [
-      | inl zero ↦ absurd (one≢zero (sym e ∙ (ap (λ (n : ℕ). bit_at n k) (same_of x 0 zero) ∙ bit_at-zero k)))
+      | inl zero ↦ absurd (one≢zero (sym e ∙ (ap (λ (n : ℕ). bit_at n k) (eqb-true x 0 zero) ∙ bit_at-zero k)))
       | inr other ↦ other
     ]
 

@@ -93,7 +93,3 @@ pub next_err : (cases : Cases) (before : List FaultLine) (xs : List Lexeme) (e :
     → line_reading cases xs ≡ Err e → next_line cases before xs ≡ Err e
 unfolding next_line
 next_err cases before xs e is = ap (unless_twice (first_at xs) before) is
-
-pub was_ok : {T E : Type 0} (r : Result T E) (P : Type 0) → is_err r ≡ false → OnOk r P → P
-was_ok (Ok x) P fine h = h
-was_ok (Err e) P fine h = absurd (true≢false fine)

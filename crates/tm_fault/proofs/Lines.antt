@@ -3,7 +3,7 @@ use Rattle.std.proofs.Common.{◌≡◌, ◌∙◌, ◌<◌, ◌^◌, ◌*◌, �
 use Rattle.std.proofs.Common.{zero, suc, refl, sym, ap, ap₂, subst, arith, List, [], ◌∷◌, ◌++◌, length, Option, Some}
 use Rattle.std.proofs.Common.{None, Ok, nat_le, codes}
 use Rattle.std.proofs.Common.{append_assoc}
-use Rattle.std.proofs.lemmas.Bool.{and_parts}
+use Rattle.std.proofs.lemmas.Bool.{and_parts, ltb-true, lt-ltb, leb-true, le-leb}
 use Rattle.tm_table.specs.declared.instr.Instr.{Instr}
 use Rattle.tm_plan_cases.specs.declared.cases.Cases.{Cases}
 use Rattle.tm_plan_cases.specs.declared.cases.Stream.{Stream}
@@ -24,10 +24,11 @@ use Rattle.tm_fault.specs.Script.{xor, with_number, number_reading, action_readi
 use Rattle.tm_fault.specs.Script.{slot_reading, line_reading}
 use Rattle.tm_fault.specs.Spelled.{Piece, AreFit, pass_piece, action_pieces, line_pieces}
 use Rattle.tm_fault.specs.Spelled.Piece.{fixed, a_number, the_end}
-use Rattle.tm_fault.proofs.Reading.{ok-same, none≢some, bound}
+use Rattle.tm_fault.proofs.Reading.{ok-same, bound}
 use Rattle.tm_fault.proofs.Reading.{one_read, Got, got_both, fit_parts}
-use Rattle.tm_fault.proofs.Tokens.{end_fits, fits_end, lt_is, is_lt, le_is, is_le, named_got, named_reads, pass_got}
+use Rattle.tm_fault.proofs.Tokens.{end_fits, fits_end, named_got, named_reads, pass_got}
 use Rattle.tm_fault.proofs.Tokens.{pass_reads, KindAt, kind_read, xor_read, xor_reads, numbered_is, kind_reads}
+use Rattle.std.proofs.lemmas.Option.{none-some}
 
 -- ---- an action
 
@@ -60,7 +61,7 @@ action_behind slot xs mid kind.Result i a rest at e =
       };
       instr = i;
       slot_is = at.slot_is;
-      suits_it = (le_is 1 i.rd fine.0, le_is i.rd 27 fine.1, x.some, x.low);
+      suits_it = (leb-true 1 i.rd fine.0, leb-true i.rd 27 fine.1, x.some, x.low);
     })
 action_behind slot xs mid kind.Loaded i a rest at e =
     let num = numbered_is act.Loaded (xor (2 ^ (8 * load_width i.op)) mid) a rest e in
@@ -74,7 +75,7 @@ action_behind slot xs mid kind.Loaded i a rest at e =
       };
       instr = i;
       slot_is = at.slot_is;
-      suits_it = (lt_is 0 (load_width i.op) at.suits_it, x.some, x.low);
+      suits_it = (ltb-true 0 (load_width i.op) at.suits_it, x.some, x.low);
     })
 action_behind slot xs mid kind.Stored i a rest at e =
     let num = numbered_is act.Stored (xor (2 ^ (8 * store_width i.op)) mid) a rest e in
@@ -88,7 +89,7 @@ action_behind slot xs mid kind.Stored i a rest at e =
       };
       instr = i;
       slot_is = at.slot_is;
-      suits_it = (lt_is 0 (store_width i.op) at.suits_it, x.some, x.low);
+      suits_it = (ltb-true 0 (store_width i.op) at.suits_it, x.some, x.low);
     })
 action_behind slot xs mid kind.Drop i a rest at e =
     let same = ok-same (act.Drop, mid) (a, rest) e in
@@ -96,7 +97,7 @@ action_behind slot xs mid kind.Drop i a rest at e =
       got = record { front = at.x ∷ []; whole = at.whole ∙ ap (λ t. at.x ∷ t.1) same; fit = (at.fits, tt) };
       instr = i;
       slot_is = at.slot_is;
-      suits_it = lt_is 0 (store_width i.op) at.suits_it;
+      suits_it = ltb-true 0 (store_width i.op) at.suits_it;
     })
 action_behind slot xs mid kind.Turn i a rest at e =
     let same = ok-same (act.Turn, mid) (a, rest) e in
@@ -121,7 +122,7 @@ unfolding action_reading number_reading
 action_reads i (act.Result n) [] rest f s = absurd f
 action_reads i (act.Result n) (x ∷ []) rest f s = absurd f.1
 action_reads i (act.Result n) (x ∷ y ∷ []) rest f s =
-    let fine : suits kind.Result i ≡ true = rw (is_le 1 i.rd s.0, is_le i.rd 27 s.1) refl in
+    let fine : suits kind.Result i ≡ true = rw (le-leb 1 i.rd s.0, le-leb i.rd 27 s.1) refl in
     ap (λ r. r >>= (λ k mid. number_reading k.0 k.1 mid)) (kind_reads kind.Result i x (y ∷ rest) f.0 fine)
     ∙ ap (with_number act.Result) (xor_reads (2 ^ 64) n y rest f.1.0 s.2 s.3)
 action_reads i (act.Result n) (x ∷ y ∷ z ∷ xs) rest f s = absurd f.1.1
@@ -129,20 +130,20 @@ action_reads i (act.Loaded n) [] rest f s = absurd f
 action_reads i (act.Loaded n) (x ∷ []) rest f s = absurd f.1
 action_reads i (act.Loaded n) (x ∷ y ∷ []) rest f s =
     ap (λ r. r >>= (λ k mid. number_reading k.0 k.1 mid))
-    (kind_reads kind.Loaded i x (y ∷ rest) f.0 (is_lt 0 (load_width i.op) s.0))
+    (kind_reads kind.Loaded i x (y ∷ rest) f.0 (lt-ltb 0 (load_width i.op) s.0))
     ∙ ap (with_number act.Loaded) (xor_reads (2 ^ (8 * load_width i.op)) n y rest f.1.0 s.1 s.2)
 action_reads i (act.Loaded n) (x ∷ y ∷ z ∷ xs) rest f s = absurd f.1.1
 action_reads i (act.Stored n) [] rest f s = absurd f
 action_reads i (act.Stored n) (x ∷ []) rest f s = absurd f.1
 action_reads i (act.Stored n) (x ∷ y ∷ []) rest f s =
     ap (λ r. r >>= (λ k mid. number_reading k.0 k.1 mid))
-    (kind_reads kind.Stored i x (y ∷ rest) f.0 (is_lt 0 (store_width i.op) s.0))
+    (kind_reads kind.Stored i x (y ∷ rest) f.0 (lt-ltb 0 (store_width i.op) s.0))
     ∙ ap (with_number act.Stored) (xor_reads (2 ^ (8 * store_width i.op)) n y rest f.1.0 s.1 s.2)
 action_reads i (act.Stored n) (x ∷ y ∷ z ∷ xs) rest f s = absurd f.1.1
 action_reads i act.Drop [] rest f s = absurd f
 action_reads i act.Drop (x ∷ []) rest f s =
     ap (λ r. r >>= (λ k mid. number_reading k.0 k.1 mid))
-    (kind_reads kind.Drop i x rest f.0 (is_lt 0 (store_width i.op) s))
+    (kind_reads kind.Drop i x rest f.0 (lt-ltb 0 (store_width i.op) s))
 action_reads i act.Drop (x ∷ y ∷ xs) rest f s = absurd f.1
 action_reads i act.Turn [] rest f s = absurd f
 action_reads i act.Turn (x ∷ []) rest f s = ap (λ r. r >>= (λ k mid. number_reading k.0 k.1 mid))
@@ -247,12 +248,12 @@ line_got cases xs l rest e =
     subst (λ (t : FaultLine). LineGot cases t xs rest) (sym slot_at.same) whole
 
 get_low : (ws : List ℕ) (n : ℕ) (i : Instr) → instr_at (slice_get ws n) ≡ Some i → n < length ws
-get_low [] n i e = absurd (none≢some i e)
+get_low [] n i e = absurd (none-some i e)
 get_low (w ∷ ws) zero i e = omega arith
 get_low (w ∷ ws) (suc n) i e = let rest = get_low ws n i e in omega arith
 
 slot_low : (stream : Option Stream) (n : ℕ) (i : Instr) → slot_in stream n ≡ Some i → n < slot_count stream
-slot_low None n i e = absurd (none≢some i e)
+slot_low None n i e = absurd (none-some i e)
 slot_low (Some s) n i e = get_low s.words n i e
 
 slot_reads : (stream : Option Stream) (before : FaultLine) (slot : ℕ) (i : Instr) (a : Action) (xs rest : List Lexeme)

@@ -19,11 +19,14 @@ use Rattle.tm_fault.specs.Spelled.Piece.{fixed}
 use Rattle.tm_fault.specs.Causes.{Place, Stands, HasEffect, IsXor, FailsNumber, FailsAction, Fails, FailsAt, kind_text}
 use Rattle.tm_fault.specs.Causes.Place.{word_place, index_place, pass_place, action_place, xor_place, end_place}
 use Rattle.tm_fault.proofs.Ends.{has_end}
-use Rattle.tm_fault.proofs.Reading.{err≢ok, err-same, some-same, none≢some, one_read}
-use Rattle.tm_fault.proofs.Tokens.{word_kind, chosen, word_fits, fits_word, number_fits, fits_number, fits_end}
+use Rattle.tm_fault.proofs.Reading.{err≢ok, err-same, one_read}
+use Rattle.tm_fault.proofs.Tokens.{word_fits, fits_word, number_fits, fits_number, fits_end}
 use Rattle.tm_fault.proofs.Tokens.{end_fits}
-use Rattle.tm_fault.proofs.Tokens.{lt_is, is_lt, index_read, pass_read, kind_is, kind_read}
+use Rattle.tm_fault.proofs.Tokens.{index_read, pass_read, kind_is, kind_read}
 use Rattle.tm_fault.proofs.Tokens.{word_at, xor_read, star_fits, in_range_is, range_is}
+use Rattle.std.proofs.lemmas.Bool.{ltb-true, lt-ltb}
+use Rattle.std.proofs.lemmas.Option.{same_Some, none-some}
+use Rattle.tm_lex.proofs.Kinds.{word_is, if_some}
 
 -- ---- one token
 
@@ -82,7 +85,7 @@ word_failed w (x ∷ xs) e ends is = go (keyword w x) refl is
       x = x;
       behind = xs;
       whole = refl;
-      fails = (λ f. none≢some tt (sym at ∙ fits_word w x f), sym (err-same (Expected x.0.at want.Word) e is));
+      fails = (λ f. none-some tt (sym at ∙ fits_word w x f), sym (err-same (Expected x.0.at want.Word) e is));
     }
     go (Some u) at is = absurd (err≢ok e (u, xs) (sym is))
 
@@ -97,13 +100,13 @@ end_failed (x ∷ xs) e ends is = go (line_end x) refl is
       x = x;
       behind = xs;
       whole = refl;
-      fails = (λ f. none≢some tt (sym at ∙ fits_end x f), sym (err-same (Expected x.0.at want.LineEnd) e is));
+      fails = (λ f. none-some tt (sym at ∙ fits_end x f), sym (err-same (Expected x.0.at want.LineEnd) e is));
     }
     go (Some u) at is = absurd (err≢ok e (u, xs) (sym is))
 
 no_number : (P : ℕ → Type 0) (x : Lexeme) (e : FaultScriptFault) → number x ≡ None → Expected x.0.at want.Number ≡ e
     → FailsNumber P x e
-no_number P x e at is = inl (λ n f. none≢some n (sym at ∙ fits_number x n f), sym is)
+no_number P x e at is = inl (λ n f. none-some n (sym at ∙ fits_number x n f), sym is)
 
 below_failed : (limit : ℕ) (x : Lexeme) (xs : List Lexeme) (e : FaultScriptFault) → below limit x xs (number x) ≡ Err e
     → FailsNumber (λ k. k < limit) x e
@@ -115,7 +118,7 @@ below_failed limit x xs e is = go (number x) refl is
     range n at false low is = inr (
       n,
       number_fits x n at,
-      λ lt. true≢false (sym (is_lt n limit lt) ∙ low),
+      λ lt. true≢false (sym (lt-ltb n limit lt) ∙ low),
       sym (err-same (OutOfRange x.0.at n) e is),
     )
 
@@ -157,11 +160,11 @@ pass_failed says passes (x ∷ xs) e ends is = go (is_star x) refl is
 
 kind_named : (x : Lexeme) (k : Kind) → action_kind x ≡ Some k → Fits (fixed (kind_text k)) x
 kind_named x k at =
-    let hit = chosen (is_word x.0.kind) (kind_of x.1) k at in (word_kind x.0.kind hit.0, kind_is x.1 k hit.1)
+    let hit = if_some (is_word x.0.kind) (kind_of x.1) k at in (word_is x.0.kind hit.0, kind_is x.1 k hit.1)
 
 no_effect : (slot : Option Instr) (k : Kind) (i : Instr) → slot ≡ Some i → suits k i ≡ false → HasEffect k slot → ⊥
 no_effect slot k i at never h =
-    true≢false (sym h.2 ∙ (ap (suits k) (some-same h.0 i (sym h.1 ∙ at)) ∙ never))
+    true≢false (sym h.2 ∙ (ap (suits k) (same_Some h.0 i (sym h.1 ∙ at)) ∙ never))
 
 pub action_failed : (says : Kind) (slot : Option Instr) (xs : List Lexeme) (e : FaultScriptFault) → has_end xs ≡ true
     → kind_reading slot xs ≡ Err e → Failed (action_place says slot) xs e
@@ -181,12 +184,12 @@ action_failed says slot (x ∷ xs) e ends is =
     slots : (k : Kind) → action_kind x ≡ Some k → (o : Option Instr) → slot ≡ o → effective x xs k o ≡ Err e
         → FailsAction slot x e
     slots k named None at is =
-        without k named (λ h. none≢some h.0 (sym at ∙ h.1)) (err-same (NoEffect x.0.at) e is)
+        without k named (λ h. none-some h.0 (sym at ∙ h.1)) (err-same (NoEffect x.0.at) e is)
     slots k named (Some i) at is = fits k i named at (suits k i) refl is
 
     go : (o : Option Kind) → action_kind x ≡ o → kind_at slot x xs o ≡ Err e → FailsAction slot x e
     go None named is =
-        inl (λ k f. none≢some k (sym named ∙ word_at k x f), sym (err-same (Expected x.0.at want.Action) e is))
+        inl (λ k f. none-some k (sym named ∙ word_at k x f), sym (err-same (Expected x.0.at want.Action) e is))
     go (Some k) named is = slots k named slot refl is
 
 from_one_failed : (limit : ℕ) (x : Lexeme) (xs : List Lexeme) (e : FaultScriptFault)
@@ -265,7 +268,7 @@ not_lt : (n limit : ℕ) → (n < limit → ⊥) → nat_lt n limit ≡ false
 not_lt n limit never = go (nat_lt n limit) refl
   where
     go : (b : Bool) → nat_lt n limit ≡ b → nat_lt n limit ≡ false
-    go true is = absurd (never (lt_is n limit is))
+    go true is = absurd (never (ltb-true n limit is))
     go false is = is
 
 below_fails : (limit : ℕ) (x : Lexeme) (xs : List Lexeme) (e : FaultScriptFault) → FailsNumber (λ k. k < limit) x e

@@ -38,15 +38,9 @@ abbrev some_or : {A : Type 0} → A → Option A → A
 some_or a (Some b) = b
 some_or a None = a
 
-pub some-same : {A : Type 0} (a b : A) → Some a ≡ Some b → a ≡ b
-some-same a b same = ap (some_or a) same
-
 abbrev is_there : {A : Type 0} → Option A → Bool
 is_there (Some a) = true
 is_there None = false
-
-pub none≢some : {A : Type 0} (a : A) → None ≡ Some a → ⊥
-none≢some a same = true≢false (sym (ap is_there same))
 
 -- ---- one behind the other
 

@@ -20,8 +20,9 @@ use Rattle.tm_fault.specs.Script.{with_number, number_reading, action_reading, s
 use Rattle.tm_fault.specs.Script.{slot_reading, begun, pass_line, case_line, line_reading}
 use Rattle.tm_fault.specs.Causes.{Place, Stands, FailsAt, xor_limit, action_places, places}
 use Rattle.tm_fault.specs.Causes.Place.{word_place, index_place, pass_place, action_place, xor_place, end_place}
-use Rattle.tm_fault.proofs.Tokens.{fits_word, fits_number, is_lt, no_star, kind_reads, xor_reads}
+use Rattle.tm_fault.proofs.Tokens.{fits_word, fits_number, no_star, kind_reads, xor_reads}
 use Rattle.tm_fault.proofs.Places.{word_fails, end_fails, index_fails, pass_fails, action_fails, xor_fails}
+use Rattle.std.proofs.lemmas.Bool.{lt-ltb}
 
 -- either the reader has this fault, or it reads this, and what is behind fails at further places
 abbrev FailsOr : {A : Type 0} → Reading A → A → List Place → FaultScriptFault → Type 0
@@ -56,13 +57,13 @@ index_or : (n limit : ℕ) (ps : List Place) (xs : List Lexeme) (e : FaultScript
     → FailsAt (index_place n limit ∷ ps) xs e → FailsOr (index limit xs) n ps e
 index_or n limit ps [] e f = absurd f
 index_or n limit ps (x ∷ xs) e (inl f) = inl (index_fails n limit x xs e f)
-index_or n limit ps (x ∷ xs) e (inr h) = inr (xs, rw (fits_number x n h.0.0, is_lt n limit h.0.1) refl, h.1)
+index_or n limit ps (x ∷ xs) e (inr h) = inr (xs, rw (fits_number x n h.0.0, lt-ltb n limit h.0.1) refl, h.1)
 
 pass_stands : (p : Option ℕ) (passes : ℕ) (x : Lexeme) (xs : List Lexeme) → Stands (pass_place p passes) x
     → pass_index passes (x ∷ xs) ≡ Ok (p, xs)
 pass_stands None passes x xs s =
     let star : is_star x ≡ true = rw (s.0.0, (bytes_eq-Decides x.1 (codes "*")).1 s.0.1) refl in rw star refl
-pass_stands (Some n) passes x xs s = rw (no_star x n s.0, fits_number x n s.0, is_lt n passes s.1) refl
+pass_stands (Some n) passes x xs s = rw (no_star x n s.0, fits_number x n s.0, lt-ltb n passes s.1) refl
 
 pass_or : (p : Option ℕ) (passes : ℕ) (ps : List Place) (xs : List Lexeme) (e : FaultScriptFault)
     → FailsAt (pass_place p passes ∷ ps) xs e → FailsOr (pass_index passes xs) p ps e

@@ -5,7 +5,7 @@ use Rattle.std.proofs.Common.{None, Result, Ok, Err, true≢false, nat_lt, nat_l
 use Rattle.std.specs.Str.{bytes_eq}
 use Rattle.std.proofs.lemmas.Slice.Eq.{bytes_eq-Decides}
 use Rattle.std.proofs.lemmas.Bool.Decides.{nat_tests}
-use Rattle.std.proofs.lemmas.Bool.{and_parts}
+use Rattle.std.proofs.lemmas.Bool.{and_parts, ltb-true, lt-ltb, leb-true, le-leb}
 use Rattle.tm_base.specs.Numbers.{number_of, digits_reading, reading_at}
 use Rattle.tm_base.specs.declared.numbers.NumberFault.TheVariants.{BadDigit}
 use Rattle.tm_base.specs.declared.numbers.NumberFault.{NumberFault}
@@ -24,64 +24,39 @@ use Rattle.tm_fault.specs.Script.{is_in_range, from_one, xor, with_number}
 use Rattle.tm_fault.specs.Spelled.{Fits, AreFit, pass_piece}
 use Rattle.tm_fault.specs.Causes.{kind_text}
 use Rattle.tm_fault.specs.Spelled.Piece.{fixed, a_number, the_end}
-use Rattle.tm_fault.proofs.Reading.{err≢ok, ok-same, some-same, none≢some, bound}
+use Rattle.tm_fault.proofs.Reading.{err≢ok, ok-same, bound}
 use Rattle.tm_fault.proofs.Reading.{one_read, Got}
+use Rattle.std.proofs.lemmas.Option.{same_Some, none-some}
+use Rattle.tm_lex.proofs.Kinds.{word_is, end_is, if_some}
 
 -- ---- single tokens
 
-pub word_kind : (k : TokenKind) → is_word k ≡ true → k ≡ Word
-word_kind Word e = refl
-word_kind Raw e = absurd (true≢false (sym e))
-word_kind LineEnd e = absurd (true≢false (sym e))
-
-pub end_kind : (k : TokenKind) → is_line_end k ≡ true → k ≡ LineEnd
-end_kind LineEnd e = refl
-end_kind Raw e = absurd (true≢false (sym e))
-end_kind Word e = absurd (true≢false (sym e))
-
--- a choice that gave something
-pub chosen : {A : Type 0} (b : Bool) (o : Option A) (a : A) → cond b o None ≡ Some a → (b ≡ true) × (o ≡ Some a)
-chosen true o a e = (refl, e)
-chosen false o a e = absurd (none≢some a e)
-
 pub word_fits : (w : List ℕ) (x : Lexeme) (u : Unit {0}) → keyword w x ≡ Some u → Fits (fixed w) x
 word_fits w x u e =
-    let hit = chosen (is_word x.0.kind && bytes_eq x.1 w) (Some tt) u e in
+    let hit = if_some (is_word x.0.kind && bytes_eq x.1 w) (Some tt) u e in
     let parts = and_parts (is_word x.0.kind) (bytes_eq x.1 w) hit.0 in
-    (word_kind x.0.kind parts.0, (bytes_eq-Decides x.1 w).0 parts.1)
+    (word_is x.0.kind parts.0, (bytes_eq-Decides x.1 w).0 parts.1)
 
 pub fits_word : (w : List ℕ) (x : Lexeme) → Fits (fixed w) x → keyword w x ≡ Some tt
 fits_word w x f = rw (f.0, (bytes_eq-Decides x.1 w).1 f.1) refl
 
 ok_is : (r : Result ℕ NumberFault) (n : ℕ) → ok_number r ≡ Some n → r ≡ Ok n
-ok_is (Ok m) n e = ap Ok (some-same m n e)
-ok_is (Err x) n e = absurd (none≢some n e)
+ok_is (Ok m) n e = ap Ok (same_Some m n e)
+ok_is (Err x) n e = absurd (none-some n e)
 
 pub number_fits : (x : Lexeme) (n : ℕ) → number x ≡ Some n → Fits (a_number n) x
 number_fits x n e =
-    let hit = chosen (is_word x.0.kind) (ok_number (number_of x.1)) n e in
-    (word_kind x.0.kind hit.0, ok_is (number_of x.1) n hit.1)
+    let hit = if_some (is_word x.0.kind) (ok_number (number_of x.1)) n e in
+    (word_is x.0.kind hit.0, ok_is (number_of x.1) n hit.1)
 
 pub fits_number : (x : Lexeme) (n : ℕ) → Fits (a_number n) x → number x ≡ Some n
 fits_number x n f = rw (f.0, f.1) refl
 
 pub end_fits : (x : Lexeme) (u : Unit {0}) → line_end x ≡ Some u → Fits the_end x
-end_fits x u e = end_kind x.0.kind (chosen (is_line_end x.0.kind) (Some tt) u e).0
+end_fits x u e = end_is x.0.kind (if_some (is_line_end x.0.kind) (Some tt) u e).0
 
 pub fits_end : (x : Lexeme) → Fits the_end x → line_end x ≡ Some tt
 fits_end x f = rw f refl
-
-pub lt_is : (n m : ℕ) → nat_lt n m ≡ true → n < m
-lt_is n m e = grind (arith, nat_tests)
-
-pub is_lt : (n m : ℕ) → n < m → nat_lt n m ≡ true
-is_lt n m e = grind (arith, nat_tests)
-
-pub le_is : (n m : ℕ) → nat_le n m ≡ true → n ≤ m
-le_is n m e = grind (arith, nat_tests)
-
-pub is_le : (n m : ℕ) → n ≤ m → nat_le n m ≡ true
-is_le n m e = grind (arith, nat_tests)
 
 -- ---- a number below a limit
 
@@ -105,7 +80,7 @@ index_read limit (x ∷ xs) n rest e = go (number x) refl e
           x = x;
           whole = ap (λ p. x ∷ p.1) same;
           fits = number_fits x n (is ∙ ap (λ p. Some p.0) same);
-          low = lt_is n limit (ap (λ p. nat_lt p.0 limit) (sym same) ∙ low);
+          low = ltb-true n limit (ap (λ p. nat_lt p.0 limit) (sym same) ∙ low);
         }
     inside m is false low e = absurd (err≢ok _ (n, rest) e)
 
@@ -132,7 +107,7 @@ pub named_reads : (w : List ℕ) (limit n : ℕ) (xs rest : List Lexeme) → Are
     → n < limit → named w limit (xs ++ rest) ≡ Ok (n, rest)
 named_reads w limit n [] rest f low = absurd f
 named_reads w limit n (x ∷ []) rest f low = absurd f.1
-named_reads w limit n (x ∷ y ∷ []) rest f low = rw (fits_word w x f.0, fits_number y n f.1.0, is_lt n limit low) refl
+named_reads w limit n (x ∷ y ∷ []) rest f low = rw (fits_word w x f.0, fits_number y n f.1.0, lt-ltb n limit low) refl
 named_reads w limit n (x ∷ y ∷ z ∷ xs) rest f low = absurd f.1.1
 
 -- ---- a pass
@@ -140,7 +115,7 @@ named_reads w limit n (x ∷ y ∷ z ∷ xs) rest f low = absurd f.1.1
 pub star_fits : (x : Lexeme) → is_star x ≡ true → Fits (fixed (codes "*")) x
 star_fits x e =
     let parts = and_parts (is_word x.0.kind) (bytes_eq x.1 (codes "*")) e in
-    (word_kind x.0.kind parts.0, (bytes_eq-Decides x.1 (codes "*")).0 parts.1)
+    (word_is x.0.kind parts.0, (bytes_eq-Decides x.1 (codes "*")).0 parts.1)
 
 pub record PassIndex (passes : ℕ) (xs : List Lexeme) (p : Option ℕ) (rest : List Lexeme) : Type 0 where
   pub x : Lexeme
@@ -219,7 +194,7 @@ pass_reads passes None (x ∷ y ∷ []) rest f low =
     let star : is_star y ≡ true = rw (f.1.0.0, (bytes_eq-Decides y.1 (codes "*")).1 f.1.0.1) refl in
     rw (fits_word (codes "pass") x f.0, star) refl
 pass_reads passes (Some n) (x ∷ y ∷ []) rest f low = rw
-    (fits_word (codes "pass") x f.0, no_star y n f.1.0, fits_number y n f.1.0, is_lt n passes low) refl
+    (fits_word (codes "pass") x f.0, no_star y n f.1.0, fits_number y n f.1.0, lt-ltb n passes low) refl
 pass_reads passes p (x ∷ y ∷ z ∷ xs) rest f low = absurd f.1.1
 
 -- ---- an action
@@ -228,7 +203,7 @@ abbrev Choice : Bool → Kind → Option Kind → Kind → Type 0
 Choice b first o k = ((b ≡ true) × (first ≡ k)) ⊎ (o ≡ Some k)
 
 choice : (b : Bool) (first : Kind) (o : Option Kind) (k : Kind) → cond b (Some first) o ≡ Some k → Choice b first o k
-choice true first o k e = inl (refl, some-same first k e)
+choice true first o k e = inl (refl, same_Some first k e)
 choice false first o k e = inr e
 
 text_of : (w : List ℕ) (first k : Kind) → bytes_eq w (kind_text first) ≡ true → first ≡ k → w ≡ kind_text k
@@ -245,7 +220,7 @@ kind_is w k e = elim (choice (bytes_eq w (codes "result")) kind.Result _ k e) [
         | inl h ↦ text_of w kind.Drop k h.0 h.1
         | inr e ↦ elim (choice (bytes_eq w (codes "turn")) kind.Turn None k e) [
           | inl h ↦ text_of w kind.Turn k h.0 h.1
-          | inr e ↦ absurd (none≢some k e)
+          | inr e ↦ absurd (none-some k e)
         ]
       ]
     ]
@@ -269,11 +244,11 @@ kind_read slot (x ∷ xs) k i rest e = go (action_kind x) refl e
         → KindAt slot (x ∷ xs) k i rest
     inside m j is at true fine e =
         let same = ok-same ((m, j), xs) ((k, i), rest) e in
-        let hit = chosen (is_word x.0.kind) (kind_of x.1) k (is ∙ ap (λ p. Some p.0.0) same) in
+        let hit = if_some (is_word x.0.kind) (kind_of x.1) k (is ∙ ap (λ p. Some p.0.0) same) in
         record {
           x = x;
           whole = ap (λ p. x ∷ p.1) same;
-          fits = (word_kind x.0.kind hit.0, kind_is x.1 k hit.1);
+          fits = (word_is x.0.kind hit.0, kind_is x.1 k hit.1);
           slot_is = at ∙ ap (λ p. Some p.0.1) same;
           suits_it = ap (λ p. suits p.0.0 p.0.1) (sym same) ∙ fine;
         }
@@ -289,10 +264,10 @@ kind_read slot (x ∷ xs) k i rest e = go (action_kind x) refl e
     go (Some m) is e = slots m is slot refl e
 
 pub in_range_is : (limit n : ℕ) → 1 ≤ n → n < limit → is_in_range limit n ≡ true
-in_range_is limit n some low = rw (is_le 1 n some, is_lt n limit low) refl
+in_range_is limit n some low = rw (le-leb 1 n some, lt-ltb n limit low) refl
 
 pub range_is : (limit n : ℕ) → is_in_range limit n ≡ true → (1 ≤ n) × (n < limit)
-range_is limit n e = let parts = and_parts (nat_le 1 n) (nat_lt n limit) e in (le_is 1 n parts.0, lt_is n limit parts.1)
+range_is limit n e = let parts = and_parts (nat_le 1 n) (nat_lt n limit) e in (leb-true 1 n parts.0, ltb-true n limit parts.1)
 
 -- a kind that was read is of a slot with an instruction
 pub slot_read : (slot : Option Instr) (xs : List Lexeme) (k : Kind) (i : Instr) (rest : List Lexeme)
@@ -321,8 +296,8 @@ xor_read limit (x ∷ xs) n rest e = go (number x) refl e
           x = x;
           whole = ap (λ p. x ∷ p.1) same;
           fits = number_fits x n (is ∙ ap (λ p. Some p.0) same);
-          some = le_is 1 n parts.0;
-          low = lt_is n limit parts.1;
+          some = leb-true 1 n parts.0;
+          low = ltb-true n limit parts.1;
         }
     inside m is false range e = absurd (err≢ok _ (n, rest) e)
 
@@ -332,7 +307,7 @@ xor_read limit (x ∷ xs) n rest e = go (number x) refl e
 
 pub xor_reads : (limit n : ℕ) (y : Lexeme) (rest : List Lexeme) → Fits (a_number n) y → 1 ≤ n → n < limit
     → xor limit (y ∷ rest) ≡ Ok (n, rest)
-xor_reads limit n y rest f some low = rw (fits_number y n f, is_le 1 n some, is_lt n limit low) refl
+xor_reads limit n y rest f some low = rw (fits_number y n f, le-leb 1 n some, lt-ltb n limit low) refl
 
 pub numbered_is : (f : ℕ → Action) (r : Reading ℕ) (a : Action) (rest : List Lexeme) → with_number f r ≡ Ok (a, rest)
     → (n : ℕ) × (f n ≡ a) × (r ≡ Ok (n, rest))

@@ -8,7 +8,7 @@ use Rattle.tm_world.specs.Place.{byte_of}
 use Rattle.tm_runs.proofs.Bytes.{byte-shift}
 
 -- what is xored twice is as before
-xor-twice : (a x : ℕ) → bit_xor (bit_xor a x) x ≡ a
+pub xor-twice : (a x : ℕ) → bit_xor (bit_xor a x) x ≡ a
 xor-twice a x = xor_assoc a x x ∙ (ap (bit_xor a) (xor_self x) ∙ xor_zero_r a)
 
 xor-same : (a b x : ℕ) → bit_xor a x ≡ bit_xor b x → a ≡ b

@@ -26,6 +26,7 @@ use Rattle.tm_memory.proofs.Nothing.{same-access, same-read, same-state}
 use Rattle.tm_guest.specs.Memory.{LoadsExactly, owed_of}
 use Rattle.tm_guest.specs.Making.{FitsOp, IsMade}
 use Rattle.tm_guest.proofs.Acts.{fitting, low-fits, row-made}
+use Rattle.tm_guest.proofs.Bytes.{xor-twice}
 
 -- ---- widths
 
@@ -170,14 +171,11 @@ shape-changed ch op (Gives value) hart rd n read wide fits w l = tt
 shape-changed ch op (Branches taken) hart rd n read wide fits w l = tt
 shape-changed ch op (Jumps link target) hart rd n read wide fits w l = tt
 
-xored-back : (value x : ℕ) → bit_xor (bit_xor value x) x ≡ value
-xored-back value x = xor_assoc value x x ∙ (ap (bit_xor value) (xor_self x) ∙ xor_zero_r value)
-
 reads-changed : (ch : Change) (r : Region) (e : Effect) (hart : Hart) (rd n value : ℕ) → LoadsExactly r e value
     → Reads (owed_of r) (unloaded ch (after e hart rd n (bit_xor value ch.loaded)).1)
 unfolding after
 reads-changed ch r (Loads addr width with_sign) hart rd n value l =
-    subst (λ (v : ℕ). Reads (owed_of r) (Read addr width v)) (sym (xored-back value ch.loaded)) l.1
+    subst (λ (v : ℕ). Reads (owed_of r) (Read addr width v)) (sym (xor-twice value ch.loaded)) l.1
 reads-changed ch r (Gives given) hart rd n value l = tt
 reads-changed ch r (Stores addr width stored) hart rd n value l = tt
 reads-changed ch r (Branches taken) hart rd n value l = tt

@@ -18,6 +18,7 @@ use Rattle.tm_world.specs.Kinds.{IsPossible}
 use Rattle.tm_world.specs.Work.{HasNext}
 use Rattle.tm_guest.specs.declared.decoded.Decoded.{Decoded}
 use Rattle.tm_guest.specs.Fields.{IsDecoded, AreDecoded, IsRow}
+use Rattle.tm_base.proofs.ListLemmas.{same-value}
 
 -- the word at a program counter is one of the text
 record Stands (p : Program) (pc w : ℕ) : Type 0 where
@@ -46,9 +47,6 @@ pub record Finds (p : Program) (hart : Hart) (decodes : List Decoded) : Type 0 w
   pub few : (hart.pc - text_base) / 4 < length decodes
   pub row : (d : Decoded) → IsRow p hart (get_or decodes ((hart.pc - text_base) / 4) d)
 
-same-row : (o : Option (Hart × Access)) (x y : Hart × Access) → o ≡ Some x → o ≡ Some y → x ≡ y
-same-row o x y p q = cc
-
 -- The decoded row of a word with a next step is its row.
 is-row : (p : Program) (hart : Hart) (w : ℕ) (i : Instr) (at : Decoded) → word_at p hart.pc ≡ Some w
     → instr_of w ≡ Some i → IsDecoded w at
@@ -66,7 +64,7 @@ is-row p hart w i at there known decoded next =
       made = λ read. ap (λ (x : ℕ). row_word hart x read) decoded.word ∙ by-instr read;
       possible = λ read.
           let (after, access, made, possible) = next read in
-          let same = same-row (row_word hart w read) (after, access) (row hart at.instr read) made (by-instr read) in
+          let same = same-value (row_word hart w read) (after, access) (row hart at.instr read) made (by-instr read) in
           subst (λ (r : Hart × Access). IsPossible r.1) same possible;
     }
 

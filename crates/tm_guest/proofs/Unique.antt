@@ -24,6 +24,7 @@ use Rattle.tm_guest.proofs.Bytes.{same-xored}
 use Rattle.tm_memory.proofs.NoLines.{opened}
 use Rattle.tm_memory.proofs.Nothing.{same-access, same-read}
 use Rattle.tm_world.proofs.Replaying.{steps-more}
+use Rattle.tm_base.proofs.ListLemmas.{same-value}
 
 module _ (p : Program) (past : List Step) where
   -- ---- what an instruction does in memory, by what memory holds
@@ -101,12 +102,6 @@ module _ (p : Program) (past : List Step) where
 
   -- ---- one next step
 
-  same-instr : (o : Option Instr) (i j : Instr) → o ≡ Some i → o ≡ Some j → i ≡ j
-  same-instr o i j d e = cc
-
-  same-word : (o : Option ℕ) (v w : ℕ) → o ≡ Some v → o ≡ Some w → v ≡ w
-  same-word o v w d e = cc
-
   is-made : (change : Change) (before : Hart) (i : Instr) (a : Access) (next : Hart)
       → row before i (read_value a) ≡ (next, a) → HasShape a → Reads (plain_owed p past) (unloaded change a)
       → IsMade change (effect_at before i) before i.rd (low 64 i.imm) a
@@ -120,10 +115,10 @@ module _ (p : Program) (past : List Step) where
   clean-one : (change : Change) (before : Hart) (s t : Step) (k : Known change before s) (l : Known change before t)
       → k.clean ≡ l.clean
   clean-one change before s t k l =
-      let word = same-word (word_at p before.pc) s.event.word t.event.word k.word l.word in
+      let word = same-value (word_at p before.pc) s.event.word t.event.word k.word l.word in
       let (i, at, made) = row-decoded before s.event.word (read_value k.clean) k.next k.clean k.made in
       let (j, by, done) = row-decoded before t.event.word (read_value l.clean) l.next l.clean l.made in
-      let same = same-instr (instr_of t.event.word) i j (ap instr_of (sym word) ∙ at) by in
+      let same = same-value (instr_of t.event.word) i j (ap instr_of (sym word) ∙ at) by in
       one-access change (effect_at before j) before j.rd (low 64 j.imm) k.clean l.clean
       (is-made change before j k.clean k.next (ap (λ (x : Instr). row before x (read_value k.clean)) (sym same) ∙ made)
       k.shape k.reads) (is-made change before j l.clean l.next done l.shape l.reads)
@@ -135,7 +130,7 @@ module _ (p : Program) (past : List Step) where
       → Known change before s → Known change before t → s.event ≡ t.event
   one h change before s t m n k l =
       same-event s.event t.event (m ∙ sym n) (k.place ∙ sym l.place)
-      (same-word (word_at p before.pc) s.event.word t.event.word k.word l.word)
+      (same-value (word_at p before.pc) s.event.word t.event.word k.word l.word)
       (k.is ∙ (ap (access_by change) (clean-one change before s t k l) ∙ sym l.is))
 
 -- ---- at a guest

@@ -12,11 +12,12 @@ use Rattle.tm_base.proofs.ListLemmas.{any-no-number}
 use Rattle.tm_world.specs.Lists.{those}
 use Rattle.tm_world.specs.Place.{harts, case_count, is_text, is_table, is_flag, is_verdict, is_private, image_byte}
 use Rattle.tm_world.specs.Place.{byte_of}
-use Rattle.tm_world.specs.Writers.{may_write, may_write_window, writers}
+use Rattle.tm_world.specs.Writers.{may_write, may_write_window, may_write_running, case_of_phase, writers}
 use Rattle.tm_runs.specs.World.{Sizes}
 use Rattle.tm_plan_map.proofs.Within.{within-parts, within-false}
 use Rattle.tm_legal.specs.Tame.{Formed}
 use Rattle.tm_legal.proofs.Formed.{formed-sizes}
+use Rattle.tm_plan_cases.specs.Collected.{collector}
 
 -- ---- lists of harts and cases
 
@@ -116,16 +117,26 @@ private-writers p q h b formed l e =
     those-one (λ g. may_write p q g b) (harts p) 0 h (omega arith) (omega arith) may
     (λ g _ y n. others-not p q h g b formed (omega arith) (omega arith) n e)
 
--- the image holds 0 there
-pub private-zero : (p : Program) (h b : ℕ) → Formed p → h < harts p → is_private h b ≡ true → image_byte p b ≡ 0
-unfolding text_base tables_base
-private-zero p h b formed l e =
-    let limit = (formed-sizes formed).harts in
-    let place = private-place h b (omega arith) e in
+-- behind text and tables the image holds 0
+pub image-zero : (p : Program) (b : ℕ) → Formed p → flag_at 0 ≤ b → image_byte p b ≡ 0
+unfolding text_base tables_base flag_at
+image-zero p b formed l =
     let x : is_text p b ≡ false =
-    within-false text_base (4 * length p.text) b (inr (omega (arith, place, (formed-sizes formed).text))) in
+    within-false text_base (4 * length p.text) b (inr (omega (arith, (formed-sizes formed).text))) in
     let y : is_table p b ≡ false =
-    within-false tables_base (length p.tables) b (inr (omega (arith, place, (formed-sizes formed).tables))) in
+    within-false tables_base (length p.tables) b (inr (omega (arith, (formed-sizes formed).tables))) in
     ap (λ (c : Bool). if c then byte_of (slice_index p.text ((b - text_base) / 4)) ((b - text_base) % 4)
     else (if is_table p b then slice_index p.tables (b - tables_base) else 0)) x
     ∙ ap (λ (c : Bool). if c then slice_index p.tables (b - tables_base) else 0) y
+
+pub private-zero : (p : Program) (h b : ℕ) → Formed p → h < harts p → is_private h b ≡ true → image_byte p b ≡ 0
+unfolding flag_at
+private-zero p h b formed l e =
+    let limit = (formed-sizes formed).harts in
+    let place = private-place h b (omega arith) e in
+    image-zero p b formed (omega (arith, place))
+
+-- in an even phase a window byte is its collector's
+pub even-may : (p : Program) (q h b : ℕ) → q % 2 ≡ 0 → may_write_window p q h b ≡ (collector p.cases b == h)
+even-may p q h b e = ap (λ (t : Bool). if t then collector p.cases b == h
+    else may_write_running p (case_of_phase p q) h b) (eq-eqb (q % 2) 0 e)

@@ -67,6 +67,14 @@ single-last p h b (s ∷ past) =
           (ap (λ (l : List Step). or_else (last_write b l) (single p h b (s ∷ past) (suc q))) none ∙ here)
     ]
 
+-- what its only writer reads back
+pub single-owed : (p : Program) (past : List Step) (h b : ℕ) → ((n : ℕ) → writers p n b ≡ h ∷ [])
+    → or_else (wrote p past (phase_of p past h) b h) (settled p past (phase_of p past h) b)
+    ≡ Some (unwrap_or (last_write b (own h past)) (image_byte p b))
+single-owed p past h b one =
+    let q = phase_of p past h in
+    ap (or_else (wrote p past q b h)) (settled-single p h b past q one) ∙ single-last p h b (own h past)
+
 -- ---- what is owed
 
 -- nobody but h
@@ -83,9 +91,9 @@ private-owed : (p : Program) (past : List Step) (h b : ℕ) → ((n : ℕ) → w
 private-owed p past h b one =
     let q = phase_of p past h in
     owed-alone p past h q b (h ∷ []) (one q) (another-self h)
-    ∙ (ap (or_else (wrote p past q b h)) (settled-single p h b past q one) ∙ single-last p h b (own h past))
+    ∙ single-owed p past h b one
 
-settled-image : (p : Program) (b : ℕ) (past : List Step) (q : ℕ) → ((n : ℕ) → writers p n b ≡ [])
+pub settled-image : (p : Program) (b : ℕ) (past : List Step) (q : ℕ) → ((n : ℕ) → writers p n b ≡ [])
     → settled p past q b ≡ Some (image_byte p b)
 settled-image p b past zero none = refl
 settled-image p b past (suc q) none = ap (settle (wrote p past q b) (settled p past q b)) (none q) ∙ settled-image p b

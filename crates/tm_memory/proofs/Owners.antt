@@ -22,7 +22,7 @@ use Rattle.tm_world.specs.Writers.{may_write, may_write_window, may_write_runnin
 use Rattle.tm_plan_map.proofs.Within.{within-parts, within-false}
 use Rattle.tm_legal.specs.Tame.{Formed}
 use Rattle.tm_legal.proofs.Streams.{declared-window}
-use Rattle.tm_legal.proofs.Areas.{those-one, private-writers, may-spares, image-place}
+use Rattle.tm_legal.proofs.Areas.{those-one, private-writers, may-spares, image-place, even-may, image-zero}
 use Rattle.tm_legal.proofs.Formed.{formed-sizes}
 
 -- ---- lists of harts
@@ -138,19 +138,12 @@ flag-owner p q h g b formed l m e t = elim (cases_eq g h) [
 pub flag-mine : (p : Program) (q h b : ℕ) → is_flag h b ≡ true → may_write p q h b ≡ true
 flag-mine p q h b e = or_left (is_flag h b) _ e
 
--- the image holds 0 there
 pub flag-zero : (p : Program) (h b : ℕ) → Formed p → h < harts p → is_flag h b ≡ true → image_byte p b ≡ 0
-unfolding text_base tables_base
+unfolding flag_at
 flag-zero p h b formed l e =
     let limit = (formed-sizes formed).harts in
     let place = flag-place h b (omega arith) e in
-    let x : is_text p b ≡ false =
-    within-false text_base (4 * length p.text) b (inr (omega (arith, place, (formed-sizes formed).text))) in
-    let y : is_table p b ≡ false =
-    within-false tables_base (length p.tables) b (inr (omega (arith, place, (formed-sizes formed).tables))) in
-    ap (λ (c : Bool). if c then byte_of (slice_index p.text ((b - text_base) / 4)) ((b - text_base) % 4)
-    else (if is_table p b then slice_index p.tables (b - tables_base) else 0)) x
-    ∙ ap (λ (c : Bool). if c then slice_index p.tables (b - tables_base) else 0) y
+    image-zero p b formed (omega (arith, place))
 
 -- ---- private areas
 
@@ -233,10 +226,6 @@ window-may p q h b formed l e =
     ∙ (ap (λ (t : Bool). t || (is_private h b || (is_window b && may_write_window p q h b))) v
     ∙ (ap (λ (t : Bool). t || (is_window b && may_write_window p q h b)) w
     ∙ ap (λ (t : Bool). t && may_write_window p q h b) e))
-
-even-may : (p : Program) (q h b : ℕ) → q % 2 ≡ 0 → may_write_window p q h b ≡ (collector p.cases b == h)
-even-may p q h b e = ap (λ (t : Bool). if t then collector p.cases b == h
-    else may_write_running p (case_of_phase p q) h b) (eq-eqb (q % 2) 0 e)
 
 pub collector-less : (p : Program) (b : ℕ) → Formed p → collector p.cases b < harts p
 unfolding collector

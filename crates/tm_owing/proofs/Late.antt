@@ -8,7 +8,7 @@ use Rattle.tm_plan_cases.specs.Shaped.{IsProgram}
 use Rattle.tm_plan_cases.specs.Collected.{collector}
 use Rattle.tm_plan_map.specs.Map.{flag_at, verdict_at, private_at, private_size, within}
 use Rattle.tm_base.proofs.ListLemmas.{any-no-number}
-use Rattle.tm_legal.proofs.Areas.{those-one, those-none}
+use Rattle.tm_legal.proofs.Areas.{those-one, those-none, even-may}
 use Rattle.tm_plan_map.proofs.Within.{within-false}
 use Rattle.tm_world.specs.Place.{harts, case_count, passes, round_count, is_flag, is_verdict, is_private, is_window}
 use Rattle.tm_world.specs.Writers.{may_write, may_write_window, may_write_running, case_of_phase, writers}
@@ -30,10 +30,6 @@ window-may p q h b shaped l e =
     ∙ (ap (λ (t : Bool). t || (is_private h b || (is_window b && may_write_window p q h b))) v
     ∙ (ap (λ (t : Bool). t || (is_window b && may_write_window p q h b)) w
     ∙ ap (λ (t : Bool). t && may_write_window p q h b) e))
-
-even-may : (p : Program) (q h b : ℕ) → q % 2 ≡ 0 → may_write_window p q h b ≡ (collector p.cases b == h)
-even-may p q h b e = ap (λ (t : Bool). if t then collector p.cases b == h
-    else may_write_running p (case_of_phase p q) h b) (eq-eqb (q % 2) 0 e)
 
 late-may : (p : Program) (q h b : ℕ) → (q % 2 ≡ 0 → ⊥) → round_count p * passes p ≤ q / 2
     → may_write_window p q h b ≡ false

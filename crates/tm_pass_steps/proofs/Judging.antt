@@ -44,18 +44,16 @@ use Rattle.tm_pass_steps.specs.Finding.{HasMasks}
 use Rattle.tm_pass_steps.specs.Judging.{CompareSite, CaseIsJudged, compare_cost, mark_behind}
 use Rattle.tm_pass_steps.proofs.Entering.{each-to}
 use Rattle.tm_pass_steps.proofs.Found.{comparison-finds}
+use Rattle.std.proofs.lemmas.Option.{same_Some}
 
 below-windows : (h : ℕ) → h < 16 → private_at h + private_size ≤ 2162688000
 unfolding private_at private_size
 below-windows h l = omega arith
 
-some-same : {a b : CaseMask} → Some a ≡ Some b → a ≡ b
-some-same e = cc
-
 mask-at : (P : CaseMask → Type 0) (xs : List CaseMask) → All P xs → (k : ℕ) (x : CaseMask) → slice_get xs k ≡ Some x
     → P x
 mask-at P [] h k x e = cc
-mask-at P (y ∷ ys) h zero x e = subst P (some-same e) (h 0 y (omega arith))
+mask-at P (y ∷ ys) h zero x e = subst P (same_Some y x e) (h 0 y (omega arith))
 mask-at P (y ∷ ys) h (suc k) x e = mask-at P ys (λ j d l. h (suc j) d (omega arith)) k x e
 
 module _ (p : Program) (formed : Formed p) (fit : MasksFit p.cases p.masks) (h : ℕ) (number : h < harts p)

@@ -46,7 +46,7 @@ use Rattle.tm_pass_way.specs.Calm.{Clear, Steady, HopsTo, IsBelow, Recalls}
 use Rattle.tm_pass_way.proofs.Calm.{phase-stays, now-stays, verdict-low, flag-low}
 use Rattle.tm_plan_owned.proofs.Collected.{owned-above}
 use Rattle.tm_runs.proofs.Ahead.{world-low}
-use Rattle.tm_pass_way.proofs.Lift.{none-either}
+use Rattle.tm_pass_way.proofs.Lift.{none-either, none-and}
 use Rattle.tm_pass_way.proofs.Barrier.{Signals, barrier-fact, writes-none, flags-below}
 use Rattle.tm_pass_way.proofs.Steady.{paces, steady-exit}
 use Rattle.tm_pass_way.proofs.Hopping.{hop-part}
@@ -90,12 +90,8 @@ module _ (p : Program) (formed : Formed p) (fit : MasksFit p.cases p.masks) (h :
   left-one d r e past i =
       ap (λ (b : Bool). or_else (left_in p h d r past) (if (phase_in exit past == r) && (b && not (inside p h d e.next))
       then Some e.regs else None)) i
-      ∙ (ap (λ (x : Option Table). or_else (left_in p h d r past) x) (by (phase_in exit past == r)) ∙ or_else-none
+      ∙ (ap (λ (x : Option Table). or_else (left_in p h d r past) x) (none-and (phase_in exit past == r) e.regs) ∙ or_else-none
       (left_in p h d r past))
-    where
-      by : (b : Bool) → ◌≡◌ {A = Option Table} (if b && false then Some e.regs else None) None
-      by true = refl
-      by false = refl
 
   read-one : (r b : ℕ) (e : Entry) (past : List Entry) → windows_base ≤ b → Uses IsBelow (Signals h) e.access
       → read_in p h r b (e ∷ past) ≡ read_in p h r b past

@@ -28,7 +28,7 @@ use Rattle.tm_runs.specs.Phases.{phase_in, now_in, signals_in}
 use Rattle.tm_pass_way.specs.Facts.{Fact, Told, Gathered}
 use Rattle.tm_pass_way.specs.Parts.{Hold, Ready, Leads}
 use Rattle.tm_pass_way.specs.Calm.{Clear, Steady, LeavesTo, IsBelow}
-use Rattle.tm_pass_way.proofs.Lift.{told-drop, none-either}
+use Rattle.tm_pass_way.proofs.Lift.{told-drop, none-either, none-and}
 use Rattle.tm_pass_way.proofs.Steady.{steady-more}
 
 module _ (p : Program) (formed : Formed p) (fit : MasksFit p.cases p.masks) (h : ℕ) (number : h < harts p) (limit : ℕ
@@ -78,12 +78,8 @@ module _ (p : Program) (formed : Formed p) (fit : MasksFit p.cases p.masks) (h :
   left-through d r l (e ∷ es) past each =
       ap (λ (b : Bool). or_else (left_in p h d r (es ++ past)) (if (phase_in exit (es ++ past) == r)
       && (b && not (inside p h d e.next)) then Some e.regs else None)) (outside d e l each.0)
-      ∙ (ap (λ (x : Option Table). or_else (left_in p h d r (es ++ past)) x) (by (phase_in exit (es ++ past) == r)) ∙
+      ∙ (ap (λ (x : Option Table). or_else (left_in p h d r (es ++ past)) x) (none-and (phase_in exit (es ++ past) == r) e.regs) ∙
       (or_else-none (left_in p h d r (es ++ past)) ∙ left-through d r l es past each.1))
-    where
-      by : (b : Bool) → ◌≡◌ {A = Option Table} (if b && false then Some e.regs else None) None
-      by true = refl
-      by false = refl
 
   pub read-through : (W : ℕ → Type 0) → ((x : Access) → A x → Uses IsBelow W x) → (r b : ℕ) → windows_base ≤ b
       → (es past : List Entry) → Each Acts es → read_in p h r b (es ++ past) ≡ read_in p h r b past

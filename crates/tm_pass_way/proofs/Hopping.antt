@@ -28,7 +28,7 @@ use Rattle.tm_pass_way.specs.Calm.{Clear, Steady, HopsTo, Recalls}
 use Rattle.tm_runs.proofs.Ahead.{Small, takes_told, world-low}
 use Rattle.tm_pass_way.proofs.Calm.{Still, steady-part, steady-one, now-stays}
 use Rattle.tm_plan_owned.proofs.Collected.{owned-above}
-use Rattle.tm_pass_way.proofs.Lift.{told-drop, left-same, read-same, got-low, none-either, gathered-more}
+use Rattle.tm_pass_way.proofs.Lift.{told-drop, left-same, read-same, got-low, none-either, gathered-more, none-and}
 use Rattle.tm_pass_way.proofs.Gathered.{gathered-one}
 
 module _ (p : Program) (formed : Formed p) (fit : MasksFit p.cases p.masks) (h : ℕ) (number : h < harts p) (limit : ℕ
@@ -86,7 +86,7 @@ module _ (p : Program) (formed : Formed p) (fit : MasksFit p.cases p.masks) (h :
           (if (phase_in exit (a.entries ++ s.log) == r) && (b && not (inside p h d a.last.next))
           then Some a.last.regs else None)) (outside d l)
           ∙ (ap (λ (o : Option Table). or_else (left_in p h d r (a.entries ++ s.log)) o)
-          (none-and (phase_in exit (a.entries ++ s.log) == r)) ∙
+          (none-and (phase_in exit (a.entries ++ s.log) == r) a.last.regs) ∙
           (or_else-none (left_in p h d r (a.entries ++ s.log)) ∙ left-same p formed fit h number limit lo hi clear d r l
           a.entries s.log a.each)));
       read = λ r j i l m.
@@ -100,10 +100,6 @@ module _ (p : Program) (formed : Formed p) (fit : MasksFit p.cases p.masks) (h :
           (or_else-none (read_in p h r b (a.entries ++ s.log)) ∙ read-same p formed fit h number limit lo hi clear r b
           high a.entries s.log a.each)));
     }
-      where
-        none-and : (b : Bool) → ◌≡◌ {A = Option Table} (if b && false then Some a.last.regs else None) None
-        none-and true = refl
-        none-and false = refl
 
     there : Small (world_of p h) t → Ready p h place q c (o + n) ms t
     there small =

@@ -66,6 +66,10 @@ pub none-either : {A : Type 0} (b : Bool) → ◌≡◌ {A = Option A} (if b the
 none-either true = refl
 none-either false = refl
 
+pub none-and : {A : Type 0} (b : Bool) (x : A) → ◌≡◌ {A = Option A} (if b && false then Some x else None) None
+none-and true x = refl
+none-and false x = refl
+
 pub got-low : (h : ℕ) (x : Access) (b : ℕ) → windows_base ≤ b → IsCalm h x → got x b ≡ None
 got-low h Quiet b l u = refl
 got-low h (Write addr width v) b l u = refl

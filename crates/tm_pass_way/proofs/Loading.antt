@@ -27,7 +27,7 @@ use Rattle.tm_pass_way.specs.Calm.{Clear, StreamClear, Steady, LoadsInto}
 use Rattle.tm_runs.proofs.Ahead.{Small, takes_told, world-low}
 use Rattle.tm_pass_way.proofs.Calm.{Mild, not-reports, not-signals, steady-part}
 use Rattle.tm_plan_owned.proofs.Collected.{owned-above}
-use Rattle.tm_pass_way.proofs.Lift.{told-drop, left-same, read-same, got-low, none-either}
+use Rattle.tm_pass_way.proofs.Lift.{told-drop, left-same, read-same, got-low, none-either, none-and}
 use Rattle.tm_pass_way.proofs.Steady.{steady-more}
 use Rattle.tm_pass_way.proofs.Special.{entering-fact}
 use Rattle.tm_pass_way.proofs.Fronts.{front-then, pass-front}
@@ -114,7 +114,7 @@ module _ (p : Program) (formed : Formed p) (fit : MasksFit p.cases p.masks) (h :
           (if (phase_in (exit_of p h) (a.entries ++ s.log) == r) && (b && not (inside p h d a.last.next))
           then Some a.last.regs else None)) (outside d l)
           ∙ (ap (λ (o : Option Table). or_else (left_in p h d r (a.entries ++ s.log)) o)
-          (none-and (phase_in (exit_of p h) (a.entries ++ s.log) == r)) ∙
+          (none-and (phase_in (exit_of p h) (a.entries ++ s.log) == r) a.last.regs) ∙
           (or_else-none (left_in p h d r (a.entries ++ s.log)) ∙ left-same p formed fit h number limit lo
           (start_of p h c - 4) clear d r l a.entries s.log a.each)));
       read = λ r j i l m.
@@ -130,10 +130,6 @@ module _ (p : Program) (formed : Formed p) (fit : MasksFit p.cases p.masks) (h :
           (start_of p h c - 4) clear r b high a.entries s.log a.each)));
       memos = a.memos;
     }
-      where
-        none-and : (b : Bool) → ◌≡◌ {A = Option Table} (if b && false then Some a.last.regs else None) None
-        none-and true = refl
-        none-and false = refl
 
     there : Small (world_of p h) t → Hold p h (start_of p h c) q c n (ms ++ Enter c ∷ []) t
     there small =

@@ -21,7 +21,7 @@ use Rattle.tm_world.specs.Whole.{Course}
 use Rattle.tm_world.proofs.Prefix.{earlier, Legal-earlier, own-append}
 use Rattle.tm_plan_map.proofs.Within.{within-parts, within-false}
 use Rattle.tm_legal.specs.Tame.{Formed}
-use Rattle.tm_legal.proofs.Own.{own-here, own-there}
+use Rattle.tm_legal.proofs.Own.{own-here, own-there, reads-same}
 use Rattle.tm_legal.proofs.Phases.{in_phase-here, in_phase-there}
 use Rattle.tm_legal.proofs.Areas.{private-writers}
 use Rattle.tm_memory.proofs.Accesses.{still-flags}
@@ -211,15 +211,9 @@ module _ (p : Program) (formed : Formed p) (h : ℕ) (number : h < harts p) (s :
         → Reads (legal_owed p without (hart_of t) (phase_of p without (hart_of t))) (access_of t)
     reads-without t n r =
         subst (λ (q : ℕ). Reads (legal_owed p without (hart_of t) q) (access_of t)) (phase-same (hart_of t) n)
-        (alike (legal_owed p with-it (hart_of t) (phase_of p with-it (hart_of t)))
+        (reads-same (legal_owed p with-it (hart_of t) (phase_of p with-it (hart_of t)))
         (legal_owed p without (hart_of t) (phase_of p with-it (hart_of t))) (access_of t)
         (owed-same (hart_of t) (phase_of p with-it (hart_of t))) r)
-      where
-        alike : (f g : ℕ → Option ℕ) (a : Access) → ((b : ℕ) → f b ≡ g b) → Reads f a → Reads g a
-        alike f g Quiet e r = tt
-        alike f g (Write addr width value) e r = tt
-        alike f g (Read addr width value) e r = λ i l. subst (λ (z : Option ℕ). IfSome z (λ b. byte_of value i ≡ b))
-            (e (addr + i)) (r i l)
 
   -- ---- the other harts' steps
 

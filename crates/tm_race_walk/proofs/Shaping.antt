@@ -20,6 +20,7 @@ use Rattle.tm_plan_cases.specs.Shaped.{IsPlaced, IsShapedSlot, IsShapedStream, I
 use Rattle.tm_plan_map.proofs.Within.{within-parts, within-true}
 use Rattle.tm_plane.specs.Plane.{IsNear}
 use Rattle.tm_race_walk.specs.Slots.{IsLoad, IsStore, IsStoreWord, IsTracked}
+use Rattle.tm_plan_map.proofs.Widths.{one-width}
 
 -- ---- widths
 
@@ -42,22 +43,11 @@ store-wide Sw h = inr (inr (inl refl))
 store-wide Sd h = inr (inr (inr refl))
 store-wide _ h = absurd (h refl)
 
--- an op is no load or no store
-one-kind : (op : Op) → (load_width op ≡ 0) ⊎ (store_width op ≡ 0)
-one-kind Lb = inr refl
-one-kind Lh = inr refl
-one-kind Lw = inr refl
-one-kind Ld = inr refl
-one-kind Lbu = inr refl
-one-kind Lhu = inr refl
-one-kind Lwu = inr refl
-one-kind _ = inl refl
-
 load-sum : (op : Op) → load_width op ≢ 0 → load_width op + store_width op ≡ load_width op
-load-sum op n = elim (one-kind op) [ inl z ↦ absurd (n z) | inr z ↦ omega arith ]
+load-sum op n = elim (one-width op) [ inl z ↦ absurd (n z) | inr z ↦ omega arith ]
 
 pub store-sum : (op : Op) → store_width op ≢ 0 → load_width op + store_width op ≡ store_width op
-store-sum op n = elim (one-kind op) [ inl z ↦ omega arith | inr z ↦ absurd (n z) ]
+store-sum op n = elim (one-width op) [ inl z ↦ omega arith | inr z ↦ absurd (n z) ]
 
 pub accesses : (op : Op) (n : ℕ) → n ≢ 0 → load_width op + store_width op ≡ n → is_access op ≡ true
 accesses op n some e = lt-ltb 0 (load_width op + store_width op) (let p : 0 < n = grind arith in omega arith)

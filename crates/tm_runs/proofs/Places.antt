@@ -2,7 +2,7 @@
 use Rattle.std.proofs.Common.{◌≡◌, ℕ, zero, suc, ◌+◌, ◌-◌, ◌*◌, ◌/◌, ◌%◌, ◌^◌, ◌<◌, ◌≤◌, List, [], ◌∷◌, length, Bool}
 use Rattle.std.proofs.Common.{true, false, ◌&&◌, ◌||◌, ◌==◌, None, Some, ◌⊎◌, inl, inr, refl, ap, ◌∙◌, subst, arith}
 use Rattle.std.specs.Prelude.{slice_get, slice_index, if◌then◌else◌}
-use Rattle.std.proofs.lemmas.Bool.{and_parts, or_cases, or_left, or_right}
+use Rattle.std.proofs.lemmas.Bool.{and_parts, or_cases, or_left, or_right, false_from_ne_true}
 use Rattle.std.proofs.lemmas.Bool.Decides.{nat_tests}
 use Rattle.tm_plan_cases.specs.declared.program.Program.{Program}
 use Rattle.tm_plan_map.specs.Map.{guest_base, guest_end, text_base, tables_base, private_at, private_size}
@@ -56,11 +56,8 @@ unfolding private_at
 fixed-open p h a i s e l = let q = fixed-place p a s e in within-false _ private_size (a + i) (inl (omega arith))
 
 pub private-free : (p : Program) (h a : ℕ) → Sizes p → h < 16 → is_private_dword h a ≡ true → is_fixed_dword p a ≡ false
-private-free p h a s l e = by (is_fixed_dword p a) refl
-  where
-    by : (b : Bool) → is_fixed_dword p a ≡ b → is_fixed_dword p a ≡ false
-    by true q = let f = fixed-place p a s q in let g = private-place h a e l in absurd (omega (arith, f, g))
-    by false q = q
+private-free p h a s l e = false_from_ne_true (is_fixed_dword p a)
+    (λ q. let f = fixed-place p a s q in let g = private-place h a e l in omega (arith, f, g))
 
 -- no byte of a private dword is in a window
 pub private-window : (h a i : ℕ) → h < 16 → is_private_dword h a ≡ true → i < 8 → is_window (a + i) ≡ true → ⊥

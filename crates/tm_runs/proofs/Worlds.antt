@@ -3,7 +3,7 @@ use Rattle.std.proofs.Common.{◌≡◌, ◌≢◌, ℕ, ◌+◌, ◌-◌, ◌*�
 use Rattle.std.proofs.Common.{◌||◌, ◌==◌, Option, None, Some, inr, refl, ap, ◌∙◌, arith, eq-eqb, ne_eqb}
 use Rattle.std.specs.Prelude.{slice_get, slice_index, if◌then◌else◌}
 use Rattle.std.proofs.lemmas.Bool.Decides.{nat_tests}
-use Rattle.std.proofs.lemmas.Bool.{or_right, and_from}
+use Rattle.std.proofs.lemmas.Bool.{or_right, and_from, false_from_ne_true}
 use Rattle.tm_table.specs.declared.instr.Instr.{Instr}
 use Rattle.tm_plan_cases.specs.declared.program.Program.{Program}
 use Rattle.tm_plan_map.specs.Map.{text_base, tables_base, private_at, private_size}
@@ -93,11 +93,7 @@ own-fixed p h a e = or_right (is_private_dword h a) (is_fixed_dword p a) e
 
 -- flags, verdicts, private areas and windows stand behind text and tables
 pub not-fixed : (p : Program) (a : ℕ) → Sizes p → 0x80C00000 ≤ a → is_fixed_dword p a ≡ false
-not-fixed p a s l = by (is_fixed_dword p a) refl
-  where
-    by : (b : Bool) → is_fixed_dword p a ≡ b → is_fixed_dword p a ≡ false
-    by true e = let q = fixed-place p a s e in absurd (omega arith)
-    by false e = e
+not-fixed p a s l = false_from_ne_true (is_fixed_dword p a) (λ e. let q = fixed-place p a s e in omega arith)
 
 -- the image's dword, by its bytes
 pub image-dword : (p : Program) (a v : ℕ) → Sizes p → v < 2 ^ 64

@@ -22,6 +22,7 @@ use Rattle.tm_tmpl_line.specs.declared.words.Whom.{Whom}
 use Rattle.tm_tmpl_line.specs.declared.words.Whom.TheVariants as whose
 use Rattle.tm_tmpl_line.specs.Readings.{kind, whom, asm}
 use Rattle.tm_tmpl_line.specs.Pieces.{Piece, fixed, a_name, a_number, asm_line, the_end, want_of, kind_word, Fits}
+use Rattle.tm_lex.proofs.Kinds.{word_is, raw_is, end_is, if_some}
 
 -- a reader of one token, the pieces that it reads, and one that some token stands for
 pub record Reads (A : Type 0) (w : Want) (read : Lexeme → Option A) (piece : A → Piece) : Type 0 where
@@ -38,28 +39,9 @@ token_of k bytes = (record { kind = k; at = record { line = 1; col = 1 }; from =
 
 -- ---- tests
 
-if_some : {A : Type 0} (b : Bool) (o : Option A) (a : A) → cond b o None ≡ Some a → (b ≡ true) × (o ≡ Some a)
-if_some true o a h = (refl, h)
-if_some false o a h = absurd (cc)
-
 if_not : {A : Type 0} (b : Bool) (o : Option A) (a : A) → cond (not b) None o ≡ Some a → (b ≡ true) × (o ≡ Some a)
 if_not true o a h = (refl, h)
 if_not false o a h = absurd (cc)
-
-word_is : (k : TokenKind) → is_word k ≡ true → k ≡ Word
-word_is Word h = refl
-word_is Raw h = absurd (true≢false (sym h))
-word_is LineEnd h = absurd (true≢false (sym h))
-
-raw_is : (k : TokenKind) → is_raw k ≡ true → k ≡ Raw
-raw_is Word h = absurd (true≢false (sym h))
-raw_is Raw h = refl
-raw_is LineEnd h = absurd (true≢false (sym h))
-
-end_is : (k : TokenKind) → is_line_end k ≡ true → k ≡ LineEnd
-end_is Word h = absurd (true≢false (sym h))
-end_is Raw h = absurd (true≢false (sym h))
-end_is LineEnd h = refl
 
 -- one of several words, each with its value
 one_word : {A : Type 0} (w v : List ℕ) (a b : A) (o : Option A) → cond (bytes_eq w v) (Some a) o ≡ Some b

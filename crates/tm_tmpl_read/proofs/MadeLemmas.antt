@@ -12,6 +12,7 @@ use Rattle.tm_tmpl_types.specs.declared.template.WindowDecl.{WindowDecl}
 use Rattle.tm_tmpl_line.specs.Readings.{template, passes, At}
 use Rattle.tm_tmpl_read.specs.Grammar.{Parts, put_all, no_parts, end_of}
 use Rattle.tm_tmpl_read.specs.Steps.{windows_at, slots_at, bodies_at, cases_at}
+use Rattle.tm_lex.proofs.Spans.{order_end}
 
 put-slots : (ds : List SlotDecl) (ss : List At) (r : Parts)
     → put_all (slots_at ds ++ ss) r ≡ record (put_all ss r) { slots_left = ds ++ (put_all ss r).slots_left }
@@ -82,13 +83,3 @@ made-is text name n p q ws cs =
     let inner = put-cases cs [] (no_parts text) refl refl in
     let outer = put-windows ws (cases_at cs ++ []) (no_parts text) in
     rw (outer.0, outer.1, inner.same_windows, inner.cases, append-nil ws, append-nil cs)
-
--- tokens in order lie within their text
-order-end : (i n : ℕ) (ts : List Token) → AreInOrder i n ts → i ≤ n
-order-end i n [] h = h
-order-end i n (t ∷ ts) h = let more = order-end t.to n ts h.2 in omega (arith, h.0, h.1)
-
-pub within : (text : List ℕ) (i : ℕ) (ts : List Token) → AreInOrder i (length text) ts → All (IsSpan text) ts
-within text i [] h k d below = absurd (omega arith)
-within text i (t ∷ ts) h zero d below = (h.1, order-end t.to (length text) ts h.2)
-within text i (t ∷ ts) h (suc k) d below = within text t.to ts h.2 k d (omega arith)

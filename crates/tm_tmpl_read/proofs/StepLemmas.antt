@@ -306,11 +306,6 @@ cases-more [] c = append-nil _
 cases-more (a ∷ cs) c =
     ap (λ ss. case_at a ++ ss) (cases-more cs c) ∙ sym (append_assoc (case_at a) (cases_at cs) (case_at c))
 
--- a call that didn't fail
-pub was-ok : {T E : Type 0} (r : Result T E) (P : Type 0) → is_err r ≡ false → OnOk r P → P
-was-ok (Ok x) P fine h = h
-was-ok (Err e) P fine h = absurd (true≢false fine)
-
 -- one part more was read
 module _ {A : Type 0} (whole : Result (List At) TmplFault) (ats : A → List At) (all : List A → List At)
     (all_more : (xs : List A) (x : A) → all (xs ++ x ∷ []) ≡ all xs ++ ats x) where

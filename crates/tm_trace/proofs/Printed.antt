@@ -15,32 +15,22 @@ use Rattle.tm_base.proofs.PrintLemmas.{rest_digits, rest_digits-start, rest_digi
 use Rattle.tm_base.proofs.PrintLemmas.{digit_less, decimal_reads_back}
 use Rattle.tm_trace.specs.declared.fields.TheConstants.{DECIMAL_END}
 use Rattle.tm_trace.specs.Fields.{is_decimal, are_plain, decimal_field, is_hex, hex_from, hex_field}
+use Rattle.std.proofs.lemmas.Bool.{and_parts}
+use Rattle.std.proofs.Math.Seq.{take-append_seam, drop-append_seam}
 
 -- ---- lists
-
-front_taken : (xs ys : List ℕ) → take (length xs) (xs ++ ys) ≡ xs
-front_taken [] ys = refl
-front_taken (x ∷ xs) ys = ap (λ t. x ∷ t) (front_taken xs ys)
-
-front_dropped : (xs ys : List ℕ) → drop (length xs) (xs ++ ys) ≡ ys
-front_dropped [] ys = refl
-front_dropped (x ∷ xs) ys = front_dropped xs ys
-
-pub both_true : (a b : Bool) → (a && b) ≡ true → (a ≡ true) × (b ≡ true)
-both_true true b e = (refl, e)
-both_true false b e = absurd (true≢false (sym e))
 
 all_both : (p : ℕ → Bool) (xs ys : List ℕ) → list_all p xs ≡ true → list_all p ys ≡ true → list_all p (xs ++ ys) ≡ true
 all_both p [] ys a b = b
 all_both p (x ∷ xs) ys a b =
-    let parts = both_true (p x) (list_all p xs) a in
+    let parts = and_parts (p x) (list_all p xs) a in
     ap (λ t. t && list_all p (xs ++ ys)) parts.0 ∙ all_both p xs ys parts.1 b
 
 all_prefix : (p : ℕ → Bool) (xs : List ℕ) (c : ℕ) (ys : List ℕ) → list_all p xs ≡ true → p c ≡ false
     → prefix_len p (xs ++ c ∷ ys) ≡ length xs
 all_prefix p [] c ys a stop = rw stop refl
 all_prefix p (x ∷ xs) c ys a stop =
-    let parts = both_true (p x) (list_all p xs) a in
+    let parts = and_parts (p x) (list_all p xs) a in
     let rest = all_prefix p xs c ys parts.1 stop in
     rw parts.0 (omega (arith, rest))
 
@@ -134,8 +124,8 @@ decimal_back n c rest low stop =
     let test : nat_lt n DECIMAL_END ≡ true = grind (arith, nat_tests, low) in
     rw (
       len,
-      front_taken (decimal n) (c ∷ rest),
-      front_dropped (decimal n) (c ∷ rest),
+      take-append_seam (decimal n) (c ∷ rest),
+      drop-append_seam (decimal n) (c ∷ rest),
       p.plain,
       decimal_reads_back n (omega (arith, low)),
       test,
@@ -209,9 +199,9 @@ unfolding hex_field
 hex_back k v rest low =
     let long = hex_long k v in
     let front : take k (hex_text k v ++ rest) ≡ hex_text k v =
-    ap (λ (n : ℕ). take n (hex_text k v ++ rest)) (sym long) ∙ front_taken (hex_text k v) rest in
+    ap (λ (n : ℕ). take n (hex_text k v ++ rest)) (sym long) ∙ take-append_seam (hex_text k v) rest in
     let behind : drop k (hex_text k v ++ rest) ≡ rest =
-    ap (λ (n : ℕ). drop n (hex_text k v ++ rest)) (sym long) ∙ front_dropped (hex_text k v) rest in
+    ap (λ (n : ℕ). drop n (hex_text k v ++ rest)) (sym long) ∙ drop-append_seam (hex_text k v) rest in
     let sum = length-append (hex_text k v) rest in
     let room : nat_le k (length (hex_text k v ++ rest)) ≡ true = grind (arith, nat_tests, sum, long) in
     let value : hex_from 0 (hex_text k v) ≡ v =

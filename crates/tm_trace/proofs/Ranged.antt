@@ -17,7 +17,7 @@ use Rattle.tm_trace.specs.Traced.{IsPlaced, HasPlace, IsTraced, IsTrace}
 use Rattle.tm_trace.specs.Fields.{Field, line_field}
 use Rattle.tm_trace.specs.Reading.{Reading, is_width, is_placed, has_place, is_in_range, access_of, event_of}
 use Rattle.tm_trace.specs.Reading.{event_reading, next_event, more, then_more, events_from, is_head}
-use Rattle.tm_trace.proofs.Printed.{both_true}
+use Rattle.std.proofs.lemmas.Bool.{ltb-true, and_parts}
 
 -- ---- the ranges of an event
 
@@ -27,17 +27,14 @@ width_of n h = grind (arith, nat_tests)
 zero_of : (a : ℕ) → (a == 0) ≡ true → a ≡ 0
 zero_of a h = grind (arith, nat_tests)
 
-lt_of : (a b : ℕ) → nat_lt a b ≡ true → a < b
-lt_of a b h = grind (arith, nat_tests)
-
 placed : (p : Place) → is_placed p ≡ true → IsPlaced p.addr p.width p.value
 placed p h =
-    let wide = both_true (is_width p.width) (p.addr % p.width == 0 && nat_lt p.value (256 ^ p.width)) h in
-    let rest = both_true (p.addr % p.width == 0) (nat_lt p.value (256 ^ p.width)) wide.1 in
+    let wide = and_parts (is_width p.width) (p.addr % p.width == 0 && nat_lt p.value (256 ^ p.width)) h in
+    let rest = and_parts (p.addr % p.width == 0) (nat_lt p.value (256 ^ p.width)) wide.1 in
     record {
       wide = width_of p.width wide.0;
       aligned = zero_of (p.addr % p.width) rest.0;
-      fits = lt_of p.value (256 ^ p.width) rest.1;
+      fits = ltb-true p.value (256 ^ p.width) rest.1;
     }
 
 touched : (t : Touch) → has_place t ≡ true → HasPlace (access_of t)
@@ -47,8 +44,8 @@ touched (Writes p) h = placed p h
 
 traced : (n : ℕ) (l : Line) → is_in_range n l ≡ true → IsTraced n (event_of l)
 traced n l h =
-    let parts = both_true (nat_lt l.hart n) (has_place l.touch) h in
-    record { hart = lt_of l.hart n parts.0; access = touched l.touch parts.1 }
+    let parts = and_parts (nat_lt l.hart n) (has_place l.touch) h in
+    record { hart = ltb-true l.hart n parts.0; access = touched l.touch parts.1 }
 
 -- ---- events
 

@@ -24,6 +24,7 @@ use Rattle.tm_trace.specs.Reading.{behind_head, trace_of}
 use Rattle.tm_trace.specs.Laws.{HasAddress, IsTyped, ReadsBack}
 use Rattle.tm_trace.proofs.Printed.{decimal_back}
 use Rattle.tm_trace.proofs.Back.{IsSmall, IsRanged, touch_of, line_of, line_back}
+use Rattle.std.proofs.lemmas.Bool.{lt-ltb}
 
 -- ---- an event's ranges
 
@@ -45,14 +46,11 @@ value_low n v (inr (inl e)) low = let l = rw e at low in omega (arith, l)
 value_low n v (inr (inr (inl e))) low = let l = rw e at low in omega (arith, l)
 value_low n v (inr (inr (inr e))) low = let l = rw e at low in omega (arith, l)
 
-lt_is : (a b : ℕ) → a < b → nat_lt a b ≡ true
-lt_is a b l = grind (arith, nat_tests)
-
 zero_is : (a : ℕ) → a ≡ 0 → (a == 0) ≡ true
 zero_is a e = rw e refl
 
 place_in_range : (a w v : ℕ) → IsPlaced a w v → is_placed (record { addr = a; width = w; value = v }) ≡ true
-place_in_range a w v p = rw (width_is w p.wide, zero_is (a % w) p.aligned, lt_is v (256 ^ w) p.fits) refl
+place_in_range a w v p = rw (width_is w p.wide, zero_is (a % w) p.aligned, lt-ltb v (256 ^ w) p.fits) refl
 
 touch_in_range : (a : Access) → HasPlace a → has_place (touch_of a) ≡ true
 touch_in_range access.Quiet p = refl
@@ -85,7 +83,7 @@ event_back n line e rest few t y =
       access = small e.access t.access y.access;
     } in
     let within : is_in_range n (line_of e) ≡ true =
-    rw (lt_is e.hart n t.hart, touch_in_range e.access t.access) refl in
+    rw (lt-ltb e.hart n t.hart, touch_in_range e.access t.access) refl in
     ap (event_reading n line (event_text e ++ rest)) (line_back e rest ranged)
     ∙ (ap (λ b. cond {A = Reading Event} b (Ok (event_of (line_of e), rest)) (Err (OutOfRange line))) within
     ∙ ap (λ (a : Access). Ok (record { hart = e.hart; pc = e.pc; word = e.word; access = a }, rest))

@@ -17,10 +17,11 @@ use Rattle.tm_words.specs.Form.{Part, is_among, dashed, all_spelled, ending, beh
 use Rattle.tm_words.specs.Form.{options_in, is_part_of}
 use Rattle.tm_words.specs.Form.Part.{a_name, apart, joined}
 use Rattle.tm_words.specs.Parser.{has_fit_value, is_clean, are_fit}
-use Rattle.tm_words.proofs.Plain.{both, not_false, false_or_true, lacks}
+use Rattle.tm_words.proofs.Plain.{not_false, false_or_true, lacks}
 use Rattle.tm_words.proofs.Rules.{are_good, good_among, no_equals}
 use Rattle.tm_words.proofs.Uses.{Use, names_used, options_used, are_options}
 use Rattle.tm_words.proofs.Uses.Use.{named, valued}
+use Rattle.std.proofs.lemmas.Bool.{and_parts}
 
 -- ---- a word with two dashes
 
@@ -92,10 +93,10 @@ clean_word w fit = elim (false_or_true (starts_with nat_eq w (45 ∷ 45 ∷ []))
   where
     begins : (t : List ℕ) → starts_with nat_eq t (45 ∷ 45 ∷ []) ≡ true → t ≡ 45 ∷ 45 ∷ drop 2 t
     begins [] e = absurd (true≢false (sym e))
-    begins (x ∷ []) e = absurd (true≢false (sym (both (nat_eq 45 x) false e).1))
+    begins (x ∷ []) e = absurd (true≢false (sym (and_parts (nat_eq 45 x) false e).1))
     begins (x ∷ y ∷ t) e =
-        let first = both (nat_eq 45 x) (nat_eq 45 y && true) e in
-        let second = both (nat_eq 45 y) true first.1 in
+        let first = and_parts (nat_eq 45 x) (nat_eq 45 y && true) e in
+        let second = and_parts (nat_eq 45 y) true first.1 in
         let is_x : x ≡ 45 = let h = first.0 in grind (arith, nat_tests) in
         let is_y : y ≡ 45 = let h = second.0 in grind (arith, nat_tests) in
         ap₂ (λ a b. a ∷ b ∷ t) is_x is_y
@@ -137,13 +138,13 @@ options_of_uses (joined o v ∷ ps) rest = ap (λ m. (o, v) ∷ m) (options_of_u
 pub fit_options : (os : List Text) (parts : List Part) → list_all (is_part_of os) parts ≡ true
     → are_options os (options_in parts) ≡ true
 fit_options os [] e = refl
-fit_options os (a_name n ∷ ps) e = fit_options os ps (both (is_name n) _ e).1
+fit_options os (a_name n ∷ ps) e = fit_options os ps (and_parts (is_name n) _ e).1
 fit_options os (apart o v ∷ ps) e =
-    let parts = both (is_among os o && is_name v) (list_all (is_part_of os) ps) e in
-    ap₂ (λ a b. a && b) (both (is_among os o) (is_name v) parts.0).0 (fit_options os ps parts.1)
+    let parts = and_parts (is_among os o && is_name v) (list_all (is_part_of os) ps) e in
+    ap₂ (λ a b. a && b) (and_parts (is_among os o) (is_name v) parts.0).0 (fit_options os ps parts.1)
 fit_options os (joined o v ∷ ps) e =
-    let parts = both (is_among os o && is_name v) (list_all (is_part_of os) ps) e in
-    ap₂ (λ a b. a && b) (both (is_among os o) (is_name v) parts.0).0 (fit_options os ps parts.1)
+    let parts = and_parts (is_among os o && is_name v) (list_all (is_part_of os) ps) e in
+    ap₂ (λ a b. a && b) (and_parts (is_among os o) (is_name v) parts.0).0 (fit_options os ps parts.1)
 
 -- ---- words that spell parts are fit
 
@@ -159,13 +160,13 @@ not_dashes (x ∷ y ∷ t) e =
 names_fit : (ns : List Text) → list_all is_name ns ≡ true → are_fit true ns ≡ true
 names_fit [] e = refl
 names_fit (n ∷ ns) e =
-    let parts = both (is_name n) (list_all is_name ns) e in
+    let parts = and_parts (is_name n) (list_all is_name ns) e in
     ap₂ (λ a b. a && b) parts.0 (names_fit ns parts.1)
 
 pub fit_names : (ns : List Text) → are_fit true ns ≡ true → list_all is_name ns ≡ true
 fit_names [] e = refl
 fit_names (n ∷ ns) e =
-    let parts = both (is_name n) (are_fit true ns) e in
+    let parts = and_parts (is_name n) (are_fit true ns) e in
     ap₂ (λ a b. a && b) parts.0 (fit_names ns parts.1)
 
 fit_next : (w : Text) (ws : List Text) → is_clean w ≡ true → bytes_eq w (45 ∷ 45 ∷ []) ≡ false → are_fit false ws ≡ true
@@ -179,25 +180,25 @@ module _ (os : List Text) (good : are_good os ≡ true) where
   parts_fit [] None e names = refl
   parts_fit [] (Some ns) e names = names_fit ns names
   parts_fit (a_name n ∷ ps) rest e names =
-      let parts = both (is_name n) (list_all (is_part_of os) ps) e in
+      let parts = and_parts (is_name n) (list_all (is_part_of os) ps) e in
       let clean = not_dashes n parts.0 in
       fit_next n (all_spelled ps ++ ending rest) clean.0 clean.1 (parts_fit ps rest parts.1 names)
   parts_fit (apart [] v ∷ ps) rest e names =
-      let parts = both (is_among os [] && is_name v) (list_all (is_part_of os) ps) e in
-      absurd (true≢false (sym (good_among os [] good (both (is_among os []) (is_name v) parts.0).0)))
+      let parts = and_parts (is_among os [] && is_name v) (list_all (is_part_of os) ps) e in
+      absurd (true≢false (sym (good_among os [] good (and_parts (is_among os []) (is_name v) parts.0).0)))
   parts_fit (apart (x ∷ xs) v ∷ ps) rest e names =
-      let parts = both (is_among os (x ∷ xs) && is_name v) (list_all (is_part_of os) ps) e in
-      let fine = both (is_among os (x ∷ xs)) (is_name v) parts.0 in
+      let parts = and_parts (is_among os (x ∷ xs) && is_name v) (list_all (is_part_of os) ps) e in
+      let fine = and_parts (is_among os (x ∷ xs)) (is_name v) parts.0 in
       let clean = not_dashes v fine.1 in
       fit_next (dashed (x ∷ xs)) (v ∷ (all_spelled ps ++ ending rest)) (no_value_fits (x ∷ xs) (no_equals (x ∷ xs)
       (good_among os (x ∷ xs) good fine.0))) refl
       (fit_next v (all_spelled ps ++ ending rest) clean.0 clean.1 (parts_fit ps rest parts.1 names))
   parts_fit (joined [] v ∷ ps) rest e names =
-      let parts = both (is_among os [] && is_name v) (list_all (is_part_of os) ps) e in
-      absurd (true≢false (sym (good_among os [] good (both (is_among os []) (is_name v) parts.0).0)))
+      let parts = and_parts (is_among os [] && is_name v) (list_all (is_part_of os) ps) e in
+      absurd (true≢false (sym (good_among os [] good (and_parts (is_among os []) (is_name v) parts.0).0)))
   parts_fit (joined (x ∷ xs) v ∷ ps) rest e names =
-      let parts = both (is_among os (x ∷ xs) && is_name v) (list_all (is_part_of os) ps) e in
-      let fine = both (is_among os (x ∷ xs)) (is_name v) parts.0 in
+      let parts = and_parts (is_among os (x ∷ xs) && is_name v) (list_all (is_part_of os) ps) e in
+      let fine = and_parts (is_among os (x ∷ xs)) (is_name v) parts.0 in
       fit_next (dashed (x ∷ xs) ++ 61 ∷ v) (all_spelled ps ++ ending rest) (name_value_fits (x ∷ xs) v (no_equals (x ∷
       xs) (good_among os (x ∷ xs) good fine.0)) fine.1) refl
       (parts_fit ps rest parts.1 names)

@@ -8,12 +8,9 @@ use Rattle.std.proofs.lemmas.Slice.Eq.{bytes_eq-Decides}
 use Rattle.std.proofs.lemmas.Bool.Decides.{nat_tests}
 use Rattle.clap.specs.Kinds.{Kinds, or_else}
 use Rattle.clap.proofs.CutLemmas.{Lacks}
+use Rattle.std.proofs.lemmas.Bool.{and_parts}
 
 -- ---- truth values
-
-pub both : (a b : Bool) → (a && b) ≡ true → (a ≡ true) × (b ≡ true)
-both true b e = (refl, e)
-both false b e = absurd (true≢false (sym e))
 
 pub and-false : (b : Bool) → (b && false) ≡ false
 and-false true = refl
@@ -86,4 +83,4 @@ nil-or_else [] b = refl
 nil-or_else (k ∷ ks) b = refl
 
 pub both_nil : (a b : Kinds) → is_nil (or_else a b) ≡ true → (is_nil a ≡ true) × (is_nil b ≡ true)
-both_nil a b e = both (is_nil a) (is_nil b) (sym (nil-or_else a b) ∙ e)
+both_nil a b e = and_parts (is_nil a) (is_nil b) (sym (nil-or_else a b) ∙ e)

@@ -12,7 +12,8 @@ use Rattle.clap.specs.Faults.{defaults_fault}
 use Rattle.clap.specs.Takes.{is_given}
 use Rattle.tm_words.specs.Form.{is_among}
 use Rattle.tm_words.specs.Parser.{names_rule, option_rule}
-use Rattle.tm_words.proofs.Plain.{same_text, or-false, both, not_false}
+use Rattle.tm_words.proofs.Plain.{same_text, or-false, not_false}
+use Rattle.std.proofs.lemmas.Bool.{and_parts}
 
 -- ---- what building makes of the arguments
 
@@ -90,7 +91,7 @@ no_short (o ∷ os) x = no_short os x
 pub good_among : (os : List Text) (o : Text) → are_good os ≡ true → is_among os o ≡ true → is_good o ≡ true
 good_among [] o good e = absurd (true≢false (sym e))
 good_among (x ∷ os) o good e =
-    let parts = both (is_good x) (are_good os) good in
+    let parts = and_parts (is_good x) (are_good os) good in
     go (bytes_eq x o) (same_text x o) parts.0 (good_among os o parts.1) e
   where
     go : (b : Bool) → (b ≡ true → x ≡ o) → is_good x ≡ true → (is_among os o ≡ true → is_good o ≡ true)
@@ -101,12 +102,12 @@ good_among (x ∷ os) o good e =
 pub not_names : (o : Text) → is_good o ≡ true → bytes_eq (codes "names") o ≡ false
 not_names [] e = absurd (true≢false (sym e))
 not_names (b ∷ bs) e =
-    not_false (bytes_eq (codes "names") (b ∷ bs)) (both (not (list_any (λ x. x == 61) (b ∷ bs))) _ e).1
+    not_false (bytes_eq (codes "names") (b ∷ bs)) (and_parts (not (list_any (λ x. x == 61) (b ∷ bs))) _ e).1
 
 pub no_equals : (o : Text) → is_good o ≡ true → list_any (λ x. x == 61) o ≡ false
 no_equals [] e = refl
 no_equals (b ∷ bs) e =
-    not_false (list_any (λ x. x == 61) (b ∷ bs)) (both (not (list_any (λ x. x == 61) (b ∷ bs))) _ e).0
+    not_false (list_any (λ x. x == 61) (b ∷ bs)) (and_parts (not (list_any (λ x. x == 61) (b ∷ bs))) _ e).0
 
 pub id_is : (os : List Text) (o : Text) → are_good os ≡ true → is_among os o ≡ true
     → arg_by_id (rules_of os) o ≡ Some (opt o)

@@ -14,7 +14,7 @@ use Rattle.tm_words.specs.Form.{Part, is_among, all_spelled, ending}
 use Rattle.tm_words.specs.Form.{is_part_of}
 use Rattle.tm_words.specs.Form.Part.{a_name, apart, joined}
 use Rattle.tm_words.specs.Parser.{has_fit_value, is_clean, are_fit}
-use Rattle.tm_words.proofs.Plain.{both, both_nil, is_nil, false_or_true, lacks, or_else-assoc, or_else-nil}
+use Rattle.tm_words.proofs.Plain.{both_nil, is_nil, false_or_true, lacks, or_else-assoc, or_else-nil}
 use Rattle.tm_words.proofs.Rules.{rules_of, built_shape, are_good, good_among, no_equals}
 use Rattle.tm_words.proofs.Uses.{Use, settle, clash, settle_all, clash_all}
 use Rattle.tm_words.proofs.Uses.Use.{nothing, named, valued}
@@ -24,6 +24,7 @@ use Rattle.tm_words.proofs.Parts.Behind.{alone, with_value}
 use Rattle.tm_words.proofs.Parts.Word.{plain, dashes}
 use Rattle.tm_words.proofs.Walking as walking
 use Rattle.tm_words.proofs.Walking.{between, trailing, awaiting, stuck, is_use_of}
+use Rattle.std.proofs.lemmas.Bool.{and_parts}
 
 -- ---- the parse of words
 
@@ -99,17 +100,17 @@ module _ (os : List Text) (good : are_good os ≡ true) (name : Text) where
       (walking.ends_walked os good name rows u b)
       ∙ behind_faults ns rows u b ok
   parts_faults (a_name n ∷ ps) rest rows u b ok fit =
-      let parts = both (is_name n) (list_all (is_part_of os) ps) fit in
+      let parts = and_parts (is_name n) (list_all (is_part_of os) ps) fit in
       total_by (between rows u b) (between (settle rows u) (named n) true) n (all_spelled ps ++ ending rest) (clash rows
       u)
       (walking.name_fault os good name rows u b n ok parts.0) (walking.name_walked os good name rows u b n ok parts.0)
       ∙ ap (or_else (clash rows u)) (parts_faults ps rest (settle rows u) (named n) true refl parts.1)
   parts_faults (apart [] v ∷ ps) rest rows u b ok fit =
-      no_empty (both (is_among os []) (is_name v) (both (is_among os [] && is_name v) (list_all (is_part_of os) ps)
+      no_empty (and_parts (is_among os []) (is_name v) (and_parts (is_among os [] && is_name v) (list_all (is_part_of os) ps)
       fit).0).0
   parts_faults (apart (x ∷ xs) v ∷ ps) rest rows u b ok fit =
-      let parts = both (is_among os (x ∷ xs) && is_name v) (list_all (is_part_of os) ps) fit in
-      let fine = both (is_among os (x ∷ xs)) (is_name v) parts.0 in
+      let parts = and_parts (is_among os (x ∷ xs) && is_name v) (list_all (is_part_of os) ps) fit in
+      let fine = and_parts (is_among os (x ∷ xs)) (is_name v) parts.0 in
       total_by (between rows u b) (awaiting (settle rows u) (x ∷ xs)) (45 ∷ 45 ∷ x ∷ xs) (v ∷ (all_spelled ps ++ ending
       rest)) (clash rows u)
       (walking.bare_turn os good name x xs (x ∷ xs) fine.0 rows u b ok (cut_alone (x ∷ xs) fine.0))
@@ -121,11 +122,11 @@ module _ (os : List Text) (good : are_good os ≡ true) (name : Text) where
       (settle rows u) (x ∷ xs) v fine.0 fine.1)
       ∙ parts_faults ps rest (settle rows u) (valued (x ∷ xs) v) false fine.0 parts.1)
   parts_faults (joined [] v ∷ ps) rest rows u b ok fit =
-      no_empty (both (is_among os []) (is_name v) (both (is_among os [] && is_name v) (list_all (is_part_of os) ps)
+      no_empty (and_parts (is_among os []) (is_name v) (and_parts (is_among os [] && is_name v) (list_all (is_part_of os) ps)
       fit).0).0
   parts_faults (joined (x ∷ xs) v ∷ ps) rest rows u b ok fit =
-      let parts = both (is_among os (x ∷ xs) && is_name v) (list_all (is_part_of os) ps) fit in
-      let fine = both (is_among os (x ∷ xs)) (is_name v) parts.0 in
+      let parts = and_parts (is_among os (x ∷ xs) && is_name v) (list_all (is_part_of os) ps) fit in
+      let fine = and_parts (is_among os (x ∷ xs)) (is_name v) parts.0 in
       total_by (between rows u b) (between (settle (settle rows u) (valued (x ∷ xs) v)) nothing false) (45 ∷ 45 ∷ x ∷
       (xs ++ 61 ∷ v)) (all_spelled ps ++ ending rest)
       (or_else (clash rows u) (clash (settle rows u) (valued (x ∷ xs) v)))
@@ -144,26 +145,26 @@ module _ (os : List Text) (good : are_good os ≡ true) (name : Text) where
   parts_rows [] (Some ns) rows u b ok fit =
       ap (λ w. end_rows w ns) (walking.ends_walked os good name rows u b) ∙ behind_rows ns rows u b ok
   parts_rows (a_name n ∷ ps) rest rows u b ok fit =
-      let parts = both (is_name n) (list_all (is_part_of os) ps) fit in
+      let parts = and_parts (is_name n) (list_all (is_part_of os) ps) fit in
       ap (λ w. end_rows w (all_spelled ps ++ ending rest)) (walking.name_walked os good name rows u b n ok parts.0)
       ∙ parts_rows ps rest (settle rows u) (named n) true refl parts.1
   parts_rows (apart [] v ∷ ps) rest rows u b ok fit =
-      no_empty (both (is_among os []) (is_name v) (both (is_among os [] && is_name v) (list_all (is_part_of os) ps)
+      no_empty (and_parts (is_among os []) (is_name v) (and_parts (is_among os [] && is_name v) (list_all (is_part_of os) ps)
       fit).0).0
   parts_rows (apart (x ∷ xs) v ∷ ps) rest rows u b ok fit =
-      let parts = both (is_among os (x ∷ xs) && is_name v) (list_all (is_part_of os) ps) fit in
-      let fine = both (is_among os (x ∷ xs)) (is_name v) parts.0 in
+      let parts = and_parts (is_among os (x ∷ xs) && is_name v) (list_all (is_part_of os) ps) fit in
+      let fine = and_parts (is_among os (x ∷ xs)) (is_name v) parts.0 in
       ap (λ w. end_rows w (v ∷ (all_spelled ps ++ ending rest))) (walking.bare_walked os good name x xs (x ∷ xs) fine.0
       rows u b ok (cut_alone (x ∷ xs) fine.0))
       ∙ ap (λ w. end_rows w (all_spelled ps ++ ending rest)) (walking.value_walked os good name (settle rows u) (x ∷ xs)
       v fine.0 fine.1)
       ∙ parts_rows ps rest (settle rows u) (valued (x ∷ xs) v) false fine.0 parts.1
   parts_rows (joined [] v ∷ ps) rest rows u b ok fit =
-      no_empty (both (is_among os []) (is_name v) (both (is_among os [] && is_name v) (list_all (is_part_of os) ps)
+      no_empty (and_parts (is_among os []) (is_name v) (and_parts (is_among os [] && is_name v) (list_all (is_part_of os) ps)
       fit).0).0
   parts_rows (joined (x ∷ xs) v ∷ ps) rest rows u b ok fit =
-      let parts = both (is_among os (x ∷ xs) && is_name v) (list_all (is_part_of os) ps) fit in
-      let fine = both (is_among os (x ∷ xs)) (is_name v) parts.0 in
+      let parts = and_parts (is_among os (x ∷ xs) && is_name v) (list_all (is_part_of os) ps) fit in
+      let fine = and_parts (is_among os (x ∷ xs)) (is_name v) parts.0 in
       ap (λ w. end_rows w (all_spelled ps ++ ending rest)) (walking.joined_walked os good name x (xs ++ 61 ∷ v) (x ∷ xs)
       fine.0 rows u b v ok (cut_joined (x ∷ xs) v fine.0))
       ∙ parts_rows ps rest (settle (settle rows u) (valued (x ∷ xs) v)) nothing false refl parts.1
@@ -209,7 +210,7 @@ module _ (os : List Text) (good : are_good os ≡ true) (name : Text) where
 
   fit_parts : (w : Text) (ws : List Text) → are_fit false (w ∷ ws) ≡ true
       → (is_clean w ≡ true) × (are_fit (bytes_eq w (45 ∷ 45 ∷ [])) ws ≡ true)
-  fit_parts w ws e = both (is_clean w) (are_fit (bytes_eq w (45 ∷ 45 ∷ [])) ws) e
+  fit_parts w ws e = and_parts (is_clean w) (are_fit (bytes_eq w (45 ∷ 45 ∷ [])) ws) e
 
   -- behind a word that isn't `--`
   fit_rest : (w : Text) (ws : List Text) → are_fit false (w ∷ ws) ≡ true → bytes_eq w (45 ∷ 45 ∷ []) ≡ false

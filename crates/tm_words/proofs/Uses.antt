@@ -14,8 +14,9 @@ use Rattle.clap.specs.declared.parser.matches.ValueSource.{ValueSource}
 use Rattle.clap.specs.declared.error.kind.ErrorKind.TheVariants as kind
 use Rattle.tm_words.specs.Form.{Given, is_among, come_once, value_of}
 use Rattle.tm_words.specs.Parser.{names_found}
-use Rattle.tm_words.proofs.Plain.{same_text, text_is, swapped, is_nil, both}
+use Rattle.tm_words.proofs.Plain.{same_text, text_is, swapped, is_nil}
 use Rattle.tm_words.proofs.Rules.{name_arg, opt, are_good, good_among, not_names}
+use Rattle.std.proofs.lemmas.Bool.{and_parts}
 
 -- ---- the values of an id
 
@@ -218,7 +219,7 @@ once_is os (nothing ∷ us) rows before good known fit = once_is os us rows befo
 once_is os (named n ∷ us) rows before good known fit =
     once_is os us (settle rows (named n)) before good (known_name os n rows before good known) fit
 once_is os (valued o v ∷ us) rows before good known fit =
-    let parts = both (is_among os o) (are_options os (options_used us)) fit in
+    let parts = and_parts (is_among os o) (are_options os (options_used us)) fit in
     ap (λ b. is_nil (or_else (cond b (kind.ArgumentConflict ∷ []) []) (clash_all (settle rows (valued o v)) us))) (known
     o parts.0)
     ∙ go (is_among before o) (λ new. once_is os us (settle rows (valued o v)) (o ∷ before) good (known_option os o v
@@ -266,7 +267,7 @@ names_are os (named n ∷ us) rows good fit fine =
     n rows)
     ∙ append_assoc (names_found rows) (n ∷ []) (names_used us)
 names_are os (valued o v ∷ us) rows good fit fine =
-    let parts = both (is_among os o) (are_options os (options_used us)) fit in
+    let parts = and_parts (is_among os o) (are_options os (options_used us)) fit in
     let first = new_of os o v us rows fine in
     names_are os us (settle rows (valued o v)) good parts.1 first.1
     ∙ ap (λ ns. ns ++ names_used us) (names_same o v rows first.0 (not_names o (good_among os o good parts.0)))
@@ -324,6 +325,6 @@ values_are os (named n ∷ us) rows good fit fine o among =
     ∙ ap (λ v. value_or v (value_of o (options_used us))) (first_by_all o (settle rows (named n)) ∙ ap first_value
     (name_rows n rows o (not_names o (good_among os o good among))) ∙ sym (first_by_all o rows))
 values_are os (valued p v ∷ us) rows good fit fine o among =
-    let parts = both (is_among os p) (are_options os (options_used us)) fit in
+    let parts = and_parts (is_among os p) (are_options os (options_used us)) fit in
     let first = new_of os p v us rows fine in
     values_are os us (settle rows (valued p v)) good parts.1 first.1 o among ∙ value_step p v us rows o first.0

@@ -20,9 +20,11 @@ use Rattle.tm_words.specs.Parser.{parser_of, are_fit, names_found, Holds, IsRead
 use Rattle.tm_words.specs.Parser.{if_asked, IsOrNoMemory}
 use Rattle.tm_words.specs.declared.command.WordsFault.{WordsFault}
 use Rattle.tm_words.specs.declared.command.WordsFault.TheVariants.{NoMemory, Refused}
-use Rattle.tm_words.proofs.Plain.{both, same_text, false_or_true, is_nil, nil_is}
+use Rattle.tm_words.proofs.Plain.{same_text, false_or_true, is_nil, nil_is}
 use Rattle.tm_words.proofs.Rules.{built_shape, are_good}
 use Rattle.tm_words.proofs.Found.{is_read, is_unspelled, found}
+use Rattle.std.proofs.lemmas.Bool.{and_parts}
+use Rattle.std.proofs.lemmas.Option.{same_Some}
 
 -- ---- the parsers
 
@@ -62,7 +64,7 @@ read_ok : (v : Verb) (words : List Text) (m : ArgMatches) → are_fit false word
     → IsRead (options_of v) words (rows_of (found_of m))
 read_ok v words m fit fine matches =
     is_read (options_of v) (good v) (verb_word v) (parser v) (built_of v) (bare v) words (rows_of (found_of m))
-    (matches (both (is_simple (parser v)) _ (simple v)).0).0 fit fine
+    (matches (and_parts (is_simple (parser v)) _ (simple v)).0).0 fit fine
 
 pub found_in : (v : Verb) (app : App) (words : List Text) (r : Result ArgMatches WordsFault) → app ≡ parser v
     → IfOk r (λ m. are_fit false words ≡ true)
@@ -114,9 +116,6 @@ abbrev some_or : {A : Type 0} → A → Option A → A
 some_or a (Some b) = b
 some_or a None = a
 
-some-same : {A : Type 0} (a b : A) → Some a ≡ Some b → a ≡ b
-some-same a b same = ap (some_or a) same
-
 abbrev is_refused : WordsFault → Bool
 is_refused Refused = true
 is_refused NoMemory = false
@@ -164,7 +163,7 @@ said_refused v words rows (Err NoMemory) read h = λ other. absurd (other refl)
 
 choice : {A : Type 0} (b : Bool) (first : A) (o : Option A) (a : A) → cond b (Some first) o ≡ Some a
     → ((b ≡ true) × (first ≡ a)) ⊎ (o ≡ Some a)
-choice true first o a e = inl (refl, some-same first a e)
+choice true first o a e = inl (refl, same_Some first a e)
 choice false first o a e = inr e
 
 word_of : (w : Text) (first v : Verb) → bytes_eq w (verb_word first) ≡ true → first ≡ v → w ≡ verb_word v
@@ -205,7 +204,7 @@ pub form_refused : (w : Text) (ws : List Text) (v : Verb) (r : Result Command Wo
     → IsForm (w ∷ ws) c → ⊥)
 form_refused w ws v (Ok c) e h = tt
 form_refused w ws v (Err x) e h = λ other c f.
-    h other c (subst (λ t. SpellsBehind t ws c) (some-same f.0 v (sym (is_named w f.0 f.1) ∙ e)) f.2)
+    h other c (subst (λ t. SpellsBehind t ws c) (same_Some f.0 v (sym (is_named w f.0 f.1) ∙ e)) f.2)
 
 pub form_none : (w : Text) (ws : List Text) → verb_named w ≡ None → (c : Command) → IsForm (w ∷ ws) c → ⊥
 form_none w ws e c f = some≢none f.0 (sym (is_named w f.0 f.1) ∙ e)
@@ -217,13 +216,13 @@ one_behind v ws c d p q =
     let rows = matches_of (parser v) ws in
     let holds = λ (names : List Text) (given : List Given) (sp : Spell (options_of v) ws names given).
     found (options_of v) (good v) (verb_word v) (parser v) (built_of v) (bare v) ws names given sp rows refl in
-    some-same c d (sym p.asks ∙ sym (asked_is v rows p.names p.given (holds p.names p.given p.spell)) ∙ asked_is v rows
+    same_Some c d (sym p.asks ∙ sym (asked_is v rows p.names p.given (holds p.names p.given p.spell)) ∙ asked_is v rows
     q.names q.given (holds q.names q.given q.spell) ∙ q.asks)
 
 pub one_command : (words : List Text) (c d : Command) → IsForm words c → IsForm words d → c ≡ d
 one_command [] c d p q = absurd p
 one_command (w ∷ ws) c d p q =
-    let same = some-same q.0 p.0 (sym (is_named w q.0 q.1) ∙ is_named w p.0 p.1) in
+    let same = same_Some q.0 p.0 (sym (is_named w q.0 q.1) ∙ is_named w p.0 p.1) in
     one_behind p.0 ws c d p.2 (subst (λ t. SpellsBehind t ws d) same q.2)
 
 -- ---- which may be asked for
@@ -317,7 +316,7 @@ told_words (w ∷ ws) = by (verb_named w) refl
         → ((c : Command) × IsForm (w ∷ ws) c) ⊎ ((c : Command) → IsForm (w ∷ ws) c → ⊥)
     behind v is (inl h) = inl (h.0, (v, named_is w v is, h.1))
     behind v is (inr n) =
-        inr (λ c f. n c (subst (λ t. SpellsBehind t ws c) (some-same f.0 v (sym (is_named w f.0 f.1) ∙ is)) f.2))
+        inr (λ c f. n c (subst (λ t. SpellsBehind t ws c) (same_Some f.0 v (sym (is_named w f.0 f.1) ∙ is)) f.2))
 
     by : (o : Option Verb) → verb_named w ≡ o → ((c : Command) × IsForm (w ∷ ws) c) ⊎ ((c : Command) → IsForm (w ∷ ws) c
         → ⊥)

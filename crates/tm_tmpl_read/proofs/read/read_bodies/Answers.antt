@@ -1,7 +1,8 @@
 use Rattle.std.proofs.Common.{◌∙◌, sym, arith}
 use Rattle.tm_tmpl_read.specs.Steps.{body_next, body_at, bodies_at}
-use Rattle.tm_tmpl_read.proofs.StepLemmas.{one-more, was-ok, bodies-more}
+use Rattle.tm_tmpl_read.proofs.StepLemmas.{one-more, bodies-more}
 use Rattle.tm_tmpl_read.proofs.read.read_bodies.Goals as goal
+use Rattle.tm_base.proofs.ListLemmas.{was-ok}
 
 pub loop-bodies-preserved : goal.loop-bodies-preserved
 loop-bodies-preserved c =

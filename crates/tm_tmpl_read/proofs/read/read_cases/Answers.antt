@@ -1,7 +1,8 @@
 use Rattle.std.proofs.Common.{◌∙◌, sym, arith}
 use Rattle.tm_tmpl_read.specs.Steps.{case_next, case_at, cases_at}
-use Rattle.tm_tmpl_read.proofs.StepLemmas.{one-more, was-ok, cases-more}
+use Rattle.tm_tmpl_read.proofs.StepLemmas.{one-more, cases-more}
 use Rattle.tm_tmpl_read.proofs.read.read_cases.Goals as goal
+use Rattle.tm_base.proofs.ListLemmas.{was-ok}
 
 pub loop-cases-preserved : goal.loop-cases-preserved
 loop-cases-preserved c =

@@ -1,8 +1,9 @@
 use Rattle.std.proofs.Common.{◌∙◌, sym, arith, ◌∷◌, []}
 use Rattle.tm_tmpl_read.specs.Grammar.{slots}
 use Rattle.tm_tmpl_read.specs.Steps.{follows, slot_at, slots_at}
-use Rattle.tm_tmpl_read.proofs.StepLemmas.{one-more, was-ok, slots-more}
+use Rattle.tm_tmpl_read.proofs.StepLemmas.{one-more, slots-more}
 use Rattle.tm_tmpl_read.proofs.read.read_slots.Goals as goal
+use Rattle.tm_base.proofs.ListLemmas.{was-ok}
 
 pub loop-slots-preserved : goal.loop-slots-preserved
 loop-slots-preserved c =

@@ -1,8 +1,9 @@
 use Rattle.std.proofs.Common.{◌∙◌, sym, arith, ◌∷◌, []}
 use Rattle.tm_tmpl_read.specs.Grammar.{windows}
 use Rattle.tm_tmpl_read.specs.Steps.{follows, window_at, windows_at}
-use Rattle.tm_tmpl_read.proofs.StepLemmas.{one-more, was-ok, windows-more}
+use Rattle.tm_tmpl_read.proofs.StepLemmas.{one-more, windows-more}
 use Rattle.tm_tmpl_read.proofs.read.read_windows.Goals as goal
+use Rattle.tm_base.proofs.ListLemmas.{was-ok}
 
 pub loop-windows-preserved : goal.loop-windows-preserved
 loop-windows-preserved c =

@@ -4,7 +4,7 @@ use Rattle.tm_lex.specs.Tiling.{AreInOrder}
 use Rattle.tm_lex.specs.declared.token.Token.{Token}
 use Rattle.tm_lex.specs.Lines.{IsSpan}
 
-order_end : (i n : ℕ) (ts : List Token) → AreInOrder i n ts → i ≤ n
+pub order_end : (i n : ℕ) (ts : List Token) → AreInOrder i n ts → i ≤ n
 order_end i n [] h = h
 order_end i n (t ∷ ts) h = let more = order_end t.to n ts h.2 in omega (arith, h.0, h.1)
 
