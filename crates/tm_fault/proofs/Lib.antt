@@ -2,7 +2,6 @@ pub mod Reading
 pub mod Tokens
 pub mod Lines
 pub mod Shaped
-pub mod Spans
 pub mod Ends
 pub mod Places
 pub mod Failing

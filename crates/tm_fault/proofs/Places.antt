@@ -26,7 +26,7 @@ use Rattle.tm_fault.proofs.Tokens.{index_read, pass_read, kind_is, kind_read}
 use Rattle.tm_fault.proofs.Tokens.{word_at, xor_read, star_fits, in_range_is, range_is}
 use Rattle.std.proofs.lemmas.Bool.{ltb-true, lt-ltb}
 use Rattle.std.proofs.lemmas.Option.{same_Some, none-some}
-use Rattle.tm_lex.proofs.Kinds.{word_is, if_some}
+use Rattle.tm_lex.proofs.KindLemmas.{word_is, if_some}
 
 -- ---- one token
 

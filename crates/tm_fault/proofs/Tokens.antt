@@ -27,7 +27,7 @@ use Rattle.tm_fault.specs.Spelled.Piece.{fixed, a_number, the_end}
 use Rattle.tm_fault.proofs.Reading.{err≢ok, ok-same, bound}
 use Rattle.tm_fault.proofs.Reading.{one_read, Got}
 use Rattle.std.proofs.lemmas.Option.{same_Some, none-some}
-use Rattle.tm_lex.proofs.Kinds.{word_is, end_is, if_some}
+use Rattle.tm_lex.proofs.KindLemmas.{word_is, end_is, if_some}
 
 -- ---- single tokens
 

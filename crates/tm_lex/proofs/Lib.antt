@@ -1,6 +1,8 @@
 pub mod FaultLemmas
+pub mod KindLemmas
+pub mod LineLemmas
 pub mod OrderLemmas
 pub mod Rows
+pub mod SpanLemmas
 pub mod TilingLemmas
 pub mod WordLemmas
-pub mod LineLemmas

@@ -22,7 +22,7 @@ use Rattle.tm_tmpl_line.specs.declared.words.Whom.{Whom}
 use Rattle.tm_tmpl_line.specs.declared.words.Whom.TheVariants as whose
 use Rattle.tm_tmpl_line.specs.Readings.{kind, whom, asm}
 use Rattle.tm_tmpl_line.specs.Pieces.{Piece, fixed, a_name, a_number, asm_line, the_end, want_of, kind_word, Fits}
-use Rattle.tm_lex.proofs.Kinds.{word_is, raw_is, end_is, if_some}
+use Rattle.tm_lex.proofs.KindLemmas.{word_is, raw_is, end_is, if_some}
 
 -- a reader of one token, the pieces that it reads, and one that some token stands for
 pub record Reads (A : Type 0) (w : Want) (read : Lexeme → Option A) (piece : A → Piece) : Type 0 where

@@ -12,7 +12,7 @@ use Rattle.tm_tmpl_types.specs.declared.template.WindowDecl.{WindowDecl}
 use Rattle.tm_tmpl_line.specs.Readings.{template, passes, At}
 use Rattle.tm_tmpl_read.specs.Grammar.{Parts, put_all, no_parts, end_of}
 use Rattle.tm_tmpl_read.specs.Steps.{windows_at, slots_at, bodies_at, cases_at}
-use Rattle.tm_lex.proofs.Spans.{order_end}
+use Rattle.tm_lex.proofs.SpanLemmas.{order_end}
 
 put-slots : (ds : List SlotDecl) (ss : List At) (r : Parts)
     → put_all (slots_at ds ++ ss) r ≡ record (put_all ss r) { slots_left = ds ++ (put_all ss r).slots_left }

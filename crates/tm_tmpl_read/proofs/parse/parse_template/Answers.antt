@@ -3,7 +3,7 @@ use Rattle.tm_tmpl_read.specs.Grammar.{template_of}
 use Rattle.tm_tmpl_read.specs.Steps.{follows}
 use Rattle.tm_tmpl_read.proofs.LawLemmas.{spelled-result, left-result, only-result, writable-result, stated-result}
 use Rattle.tm_tmpl_read.proofs.parse.parse_template.Goals as goal
-use Rattle.tm_lex.proofs.Spans.{within}
+use Rattle.tm_lex.proofs.SpanLemmas.{within}
 
 pub read_tokens-requires-clause-spans : goal.read_tokens-requires-clause-spans
 read_tokens-requires-clause-spans c = rw c.as_slice.ensures (within c.args.text.now 0 _ c.in-Ok.ensures.in_order)
