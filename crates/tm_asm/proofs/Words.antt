@@ -10,15 +10,13 @@ use Rattle.std.proofs.lemmas.Bool.Decides.{leb_tells}
 use Rattle.std.proofs.lemmas.List.{take_more}
 use Rattle.tm_table.specs.declared.instr.Op.{Op}
 use Rattle.tm_table.specs.declared.instr.Op.TheVariants.{Jal, Beq, Bne, Blt, Bge, Bltu, Bgeu}
-use Rattle.tm_table.specs.declared.instr.Instr.{Instr}
 use Rattle.tm_table.specs.Ops.{is_branch}
-use Rattle.tm_table.specs.Words.{low, Fits, From, word_of, words_of}
+use Rattle.tm_table.specs.Words.{low, Fits, From}
 use Rattle.tm_asm.specs.declared.code.Item.{Item}
-use Rattle.tm_asm.specs.declared.code.Item.TheVariants.{Plain, Branch, Jump}
 use Rattle.tm_asm.specs.declared.fault.CodeFault.{CodeFault}
 use Rattle.tm_asm.specs.declared.fault.CodeFault.TheVariants.{FarBranch, NoMemory}
 use Rattle.tm_asm.specs.Sheet.{Sheet, IsFar, IsFarAt, IsFirstFar, IsGood, AllGood, HasPlace, AllPlaced}
-use Rattle.tm_asm.specs.Sheet.{instrs, resolved, reaches, branch_reaches, jump_reaches, distance, place_of}
+use Rattle.tm_asm.specs.Sheet.{words_in, worded, reaches, branch_reaches, jump_reaches, distance, branching, jumping}
 
 good_more : (xs : List Item) (x : Item) → AllGood xs → IsGood x → AllGood (xs ++ x ∷ [])
 good_more [] x h g = (g, tt)
@@ -46,28 +44,22 @@ get_at [] k d lt = absurd (omega arith)
 get_at (x ∷ xs) zero d lt = refl
 get_at (x ∷ xs) (suc k) d lt = get_at xs k d (omega arith)
 
-pub instrs-append : (ps : List (Option ℕ)) (at : ℕ) (xs ys : List Item) → instrs ps at (xs ++ ys)
-    ≡ instrs ps at xs ++ instrs ps (at + length xs) ys
-instrs-append ps at [] ys = let e : at ≡ at + 0 = omega arith in ap (λ (n : ℕ). instrs ps n ys) e
-instrs-append ps at (x ∷ xs) ys =
+pub words-append : (ps : List (Option ℕ)) (at : ℕ) (xs ys : List Item) → words_in ps at (xs ++ ys)
+    ≡ words_in ps at xs ++ words_in ps (at + length xs) ys
+words-append ps at [] ys = let e : at ≡ at + 0 = omega arith in ap (λ (n : ℕ). words_in ps n ys) e
+words-append ps at (x ∷ xs) ys =
     let e : at + 1 + length xs ≡ at + suc (length xs) = omega arith in
-    ap (λ (l : List Instr). resolved ps at x ∷ l) (instrs-append ps (at + 1) xs ys ∙ ap
-    (λ (n : ℕ). instrs ps (at + 1) xs ++ instrs ps n ys) e)
-
-words-append : (is js : List Instr) → words_of (is ++ js) ≡ words_of is ++ words_of js
-words-append [] js = refl
-words-append (i ∷ is) js = ap (λ (l : List ℕ). word_of i ∷ l) (words-append is js)
+    ap (λ (l : List ℕ). worded ps at x ∷ l) (words-append ps (at + 1) xs ys ∙ ap
+    (λ (n : ℕ). words_in ps (at + 1) xs ++ words_in ps n ys) e)
 
 -- the words up to one more
 pub words-more : (ps : List (Option ℕ)) (xs : List Item) (k : ℕ) (d : Item) → k < length xs
-    → words_of (instrs ps 0 (take (k + 1) xs)) ≡ words_of (instrs ps 0 (take k xs))
-    ++ word_of (resolved ps k (get_or xs k d)) ∷ []
+    → words_in ps 0 (take (k + 1) xs) ≡ words_in ps 0 (take k xs) ++ worded ps k (get_or xs k d) ∷ []
 words-more ps xs k d lt =
     let size : 0 + length (take k xs) ≡ k = omega (arith, length-take-le k xs (omega arith)) in
     rw (
       take_more xs k d lt,
-      instrs-append ps 0 (take k xs) (get_or xs k d ∷ []),
-      words-append (instrs ps 0 (take k xs)) (instrs ps (0 + length (take k xs)) (get_or xs k d ∷ [])),
+      words-append ps 0 (take k xs) (get_or xs k d ∷ []),
       size,
     )
 
@@ -122,12 +114,14 @@ fits_jump : (rd : ℕ) (z : ℤ) → rd < 32 → From (negsuc 1048575) (pos 1048
 unfolding Fits
 fits_jump rd z h f e = (h, refl, refl, f, e)
 
-pub fits_resolved : (ps : List (Option ℕ)) (at : ℕ) (x : Item) → IsGood x → reaches ps at x ≡ true
-    → Fits (resolved ps at x)
-fits_resolved ps at (Plain i) g h = g
-fits_resolved ps at (Branch op rs1 rs2 label) g h = let f = branch_fine at (place_of ps label) h in
-    fits_branch op rs1 rs2 _ g.0 g.1 g.2 f.0 f.1
-fits_resolved ps at (Jump rd label) g h = let f = jump_fine at (place_of ps label) h in fits_jump rd _ g f.0 f.1
+-- a branch and a jump that reach
+pub branch-fits : (op : Op) (rs1 rs2 from to : ℕ) → is_branch op ≡ true → rs1 < 32 → rs2 < 32
+    → branch_reaches (distance from to) ≡ true → Fits (branching op rs1 rs2 (distance from to))
+branch-fits op rs1 rs2 from to b h k w = let f = branch_fine from to w in fits_branch op rs1 rs2 _ b h k f.0 f.1
+
+pub jump-fits : (rd from to : ℕ) → rd < 32 → jump_reaches (distance from to) ≡ true
+    → Fits (jumping rd (distance from to))
+jump-fits rd from to h w = let f = jump_fine from to w in fits_jump rd _ h f.0 f.1
 
 -- ---- finishing
 

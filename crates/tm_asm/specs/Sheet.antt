@@ -5,11 +5,11 @@ use Rattle.tm_table.specs.declared.instr.Op.{Op}
 use Rattle.tm_table.specs.declared.instr.Op.TheVariants.{Jal}
 use Rattle.tm_table.specs.declared.instr.Instr.{Instr}
 use Rattle.tm_table.specs.Ops.{is_branch}
-use Rattle.tm_table.specs.Words.{Fits}
+use Rattle.tm_table.specs.Words.{Fits, word_of}
 use Rattle.tm_asm.specs.declared.code.Item.{Item}
 use Rattle.tm_asm.specs.declared.fault.CodeFault.{CodeFault}
 use Rattle.tm_asm.specs.declared.fault.CodeFault.TheVariants.{FarBranch, NoMemory}
-use Rattle.tm_asm.specs.declared.code.Item.TheVariants.{Plain, Branch, Jump}
+use Rattle.tm_asm.specs.declared.code.Item.TheVariants.{Plain, Branch, Jump, Word}
 
 -- the words put so far, and the places of the labels that have one, in words from the first
 pub record Sheet : Type 0 where
@@ -38,16 +38,17 @@ branching op rs1 rs2 offset = record { op = op; rd = 0; rs1 = rs1; rs2 = rs2; im
 abbrev pub jumping : ℕ → ℤ → Instr
 jumping rd offset = record { op = Jal; rd = rd; rs1 = 0; rs2 = 0; imm = offset }
 
--- the instruction at a place, where the labels have these places
-abbrev pub resolved : List (Option ℕ) → ℕ → Item → Instr
-resolved ps at (Plain i) = i
-resolved ps at (Branch op rs1 rs2 label) = branching op rs1 rs2 (distance at (place_of ps label))
-resolved ps at (Jump rd label) = jumping rd (distance at (place_of ps label))
+-- the word at a place, where the labels have these places
+abbrev pub worded : List (Option ℕ) → ℕ → Item → ℕ
+worded ps at (Plain i) = word_of i
+worded ps at (Branch op rs1 rs2 label) = word_of (branching op rs1 rs2 (distance at (place_of ps label)))
+worded ps at (Jump rd label) = word_of (jumping rd (distance at (place_of ps label)))
+worded ps at (Word w) = w
 
--- the instructions of words from a place on
-abbrev pub instrs : List (Option ℕ) → ℕ → List Item → List Instr
-instrs ps at [] = []
-instrs ps at (x ∷ xs) = resolved ps at x ∷ instrs ps (at + 1) xs
+-- the words from a place on
+abbrev pub words_in : List (Option ℕ) → ℕ → List Item → List ℕ
+words_in ps at [] = []
+words_in ps at (x ∷ xs) = worded ps at x ∷ words_in ps (at + 1) xs
 
 -- ---- what may be put
 
@@ -56,6 +57,7 @@ abbrev pub IsGood : Item → Type 0
 IsGood (Plain i) = Fits i
 IsGood (Branch op rs1 rs2 label) = (is_branch op ≡ true) × (rs1 < 32) × (rs2 < 32)
 IsGood (Jump rd label) = rd < 32
+IsGood (Word w) = Unit {0}
 
 -- all of them
 abbrev pub AllGood : List Item → Type 0
@@ -67,6 +69,7 @@ abbrev pub HasPlace : List (Option ℕ) → Item → Type 0
 HasPlace ps (Plain i) = Unit {0}
 HasPlace ps (Branch op rs1 rs2 label) = (p : ℕ) × (slice_get ps label ≡ Some (Some p))
 HasPlace ps (Jump rd label) = (p : ℕ) × (slice_get ps label ≡ Some (Some p))
+HasPlace ps (Word w) = Unit {0}
 
 -- every label that a branch or jump uses has its place
 abbrev pub AllPlaced : List (Option ℕ) → List Item → Type 0
@@ -88,12 +91,14 @@ abbrev pub reaches : List (Option ℕ) → ℕ → Item → Bool
 reaches ps at (Plain i) = true
 reaches ps at (Branch op rs1 rs2 label) = branch_reaches (distance at (place_of ps label))
 reaches ps at (Jump rd label) = jump_reaches (distance at (place_of ps label))
+reaches ps at (Word w) = true
 
 -- the word leads to this place
 abbrev pub LeadsTo : List (Option ℕ) → Item → ℕ → Type 0
 LeadsTo ps (Plain i) to = ⊥
 LeadsTo ps (Branch op rs1 rs2 label) to = place_of ps label ≡ to
 LeadsTo ps (Jump rd label) to = place_of ps label ≡ to
+LeadsTo ps (Word w) to = ⊥
 
 -- Each word of code reaches its label.
 abbrev pub AllReach : Sheet → Type 0

@@ -2,11 +2,13 @@
 ghost use Rattle.std.specs.Prelude.{◌≡◌, ℕ, ◌<◌, ◌≤◌, ◌↔◌, List, [], ◌∷◌, ◌++◌, length, true, false, Option, Some};
 ghost use Rattle.std.specs.Prelude.{None, IfOk, IfErr, IfSome, IsSome, OnOk, OnErr, slice_get, slice_set};
 ghost use Rattle.tm_table.specs.Ops.{is_branch};
-ghost use Rattle.tm_table.specs.Words.{Fits, words_of};
+ghost use Rattle.tm_table.specs.Words.{Fits};
 ghost use Rattle.tm_asm.specs.Sheet.{Sheet, AllGood, AllPlaced, AllReach, IsFar, IsFarAt, HasPlace, IsWithin};
-ghost use Rattle.tm_asm.specs.Sheet.{instrs, distance, reaches, resolved};
+ghost use Rattle.tm_asm.specs.Sheet.{words_in, worded, IsGood, distance, branching, jumping, reaches};
+ghost use Rattle.tm_asm.specs.Sheet.{branch_reaches, jump_reaches};
 ghost use Rattle.tm_asm.specs.Sheet.{place_of as own_place_of};
-ghost use Rattle.tm_asm.specs.declared.code.Item.TheVariants.{Plain, Branch, Jump};
+ghost use Rattle.tm_asm.specs.declared.code.Item.TheVariants.{Plain, Branch, Jump, Word};
+ghost use Rattle.tm_asm.specs.declared.fault.CodeFault.TheVariants.{FarBranch};
 
 use crate::fault::CodeFault;
 use std::alloc::Global;
@@ -21,12 +23,13 @@ pub struct Label {
     pub number: u64,
 }
 
-/// A word to come: an instruction, or a branch or jump to a label by its number.
+/// A word to come: an instruction, a branch or jump to a label by its number, or a word as it is.
 #[derive(Clone, Copy)]
 pub enum Item {
     Plain(Instr),
     Branch(Op, u8, u8, u64),
     Jump(u8, u64),
+    Word(u32),
 }
 
 /// Words with labels. A contract sees the words to come, and the places of the labels that have one.
@@ -72,6 +75,17 @@ impl Code {
         ensures err { OnErr result (self.new ≡ self.old) }
     {
         self.items.push(Item::Plain(i)).map_err(|_| NoMemory)
+    }
+
+    /// Appends a word as it is, or changes nothing.
+    pub fn put_word(&mut self, word: u32) -> Result<(), NoMemory>
+        ensures ok { OnOk result (self.new ≡ record {
+          items = self.old.items ++ Word word ∷ [];
+          places = self.old.places;
+        }) }
+        ensures err { OnErr result (self.new ≡ self.old) }
+    {
+        self.items.push(Item::Word(word)).map_err(|_| NoMemory)
     }
 
     /// A new label without a place; or nothing changes.
@@ -128,18 +142,19 @@ impl Code {
             .push(Item::Jump(rd, to.number))
             .map_err(|_| NoMemory)
     }
+
     /// The words, with each branch and jump reaching its label's place; or the first that can't reach it, which
     /// is one whose offset is outside -4096 to 4094, or -1048576 to 1048574 for a jump.
     pub fn finish(self) -> Result<Words, CodeFault>
         requires { AllPlaced self.places self.items }
-        ensures words { IfOk result (λ words. words ≡ words_of (instrs self.places 0 self.items)) }
+        ensures words { IfOk result (λ words. words ≡ words_in self.places 0 self.items) }
         ensures near { OnOk result (AllReach self) }
         ensures far { IfErr result (IsFar self) }
     {
         let mut words = Words::new(*self.items.allocator());
         for (at, item) in self.items.iter().enumerate() {
-            let i = resolve(*item, at as u64, self.places.as_slice())?;
-            if words.push(encode(i)).is_err() {
+            let word = word_at(*item, at as u64, self.places.as_slice())?;
+            if words.push(word).is_err() {
                 return Err(CodeFault::NoMemory);
             }
         }
@@ -147,41 +162,61 @@ impl Code {
     }
 }
 
-/// The instruction of a word at a place, where it reaches its label.
-fn resolve(item: Item, at: u64, places: &[Option<u64>]) -> Result<Instr, CodeFault>
-    requires { HasPlace places.now item }
-    ensures ok { IfOk result (λ i. i ≡ resolved places.now at item) }
+/// The word at a place, where it reaches its label.
+fn word_at(item: Item, at: u64, places: &[Option<u64>]) -> Result<u32, CodeFault>
+    requires placed { HasPlace places.now item }
+    requires good { IsGood item }
+    ensures ok { IfOk result (λ word. word ≡ worded places.now at item) }
     ensures near { OnOk result (reaches places.now at item ≡ true) }
     ensures far { IfErr result (IsFarAt places.now at item) }
 {
     match item {
-        Item::Plain(i) => Ok(i),
+        Item::Plain(i) => Ok(encode(i)),
         Item::Branch(op, rs1, rs2, label) => {
-            let to = place_of(places, label);
-            match offset(at, to, 1024) {
-                Some(imm) => Ok(Instr {
-                    op,
-                    rd: 0,
-                    rs1,
-                    rs2,
-                    imm,
-                }),
-                None => Err(CodeFault::FarBranch { from: at, to }),
-            }
+            let i = branch_to(op, rs1, rs2, at, place_of(places, label))?;
+            Ok(encode(i))
         }
         Item::Jump(rd, label) => {
-            let to = place_of(places, label);
-            match offset(at, to, 262_144) {
-                Some(imm) => Ok(Instr {
-                    op: Op::Jal,
-                    rd,
-                    rs1: 0,
-                    rs2: 0,
-                    imm,
-                }),
-                None => Err(CodeFault::FarBranch { from: at, to }),
-            }
+            let i = jump_to(rd, at, place_of(places, label))?;
+            Ok(encode(i))
         }
+        Item::Word(word) => Ok(word),
+    }
+}
+
+/// The branch from a word to another, where it reaches it.
+fn branch_to(op: Op, rs1: u8, rs2: u8, at: u64, to: u64) -> Result<Instr, CodeFault>
+    ensures ok { IfOk result (λ i. i ≡ branching op rs1 rs2 (distance at to)) }
+    ensures near { OnOk result (branch_reaches (distance at to) ≡ true) }
+    ensures far { IfErr result (λ e. (e ≡ FarBranch at to) × (branch_reaches (distance at to) ≡ false)) }
+{
+    match offset(at, to, 1024) {
+        Some(imm) => Ok(Instr {
+            op,
+            rd: 0,
+            rs1,
+            rs2,
+            imm,
+        }),
+        None => Err(CodeFault::FarBranch { from: at, to }),
+    }
+}
+
+/// The jump from a word to another, with its link in `rd`, where it reaches it.
+fn jump_to(rd: u8, at: u64, to: u64) -> Result<Instr, CodeFault>
+    ensures ok { IfOk result (λ i. i ≡ jumping rd (distance at to)) }
+    ensures near { OnOk result (jump_reaches (distance at to) ≡ true) }
+    ensures far { IfErr result (λ e. (e ≡ FarBranch at to) × (jump_reaches (distance at to) ≡ false)) }
+{
+    match offset(at, to, 262_144) {
+        Some(imm) => Ok(Instr {
+            op: Op::Jal,
+            rd,
+            rs1: 0,
+            rs2: 0,
+            imm,
+        }),
+        None => Err(CodeFault::FarBranch { from: at, to }),
     }
 }
 

@@ -1,8 +1,8 @@
 -- The words of plain code.
 use Rattle.std.proofs.Common.{◌≡◌, ℕ, ◌+◌, List, [], ◌∷◌, length, Option, refl, sym, ap, ◌∙◌, subst, arith}
 use Rattle.tm_table.specs.declared.instr.Instr.{Instr}
-use Rattle.tm_table.specs.Words.{words_of}
-use Rattle.tm_asm.specs.Sheet.{Sheet, AllPlaced, instrs, plain, puts}
+use Rattle.tm_table.specs.Words.{word_of, words_of}
+use Rattle.tm_asm.specs.Sheet.{Sheet, AllPlaced, words_in, plain, puts}
 use Rattle.tm_asm.proofs.Append.{length-puts}
 use Rattle.tm_pass_code.specs.Plain.{blank, IsPlain}
 
@@ -16,16 +16,16 @@ unfolding puts
 all_placed s h = subst (λ (x : Sheet). AllPlaced x.places x.items) (sym h.1) (plain-placed [] h.0)
 
 -- plain instructions are laid as they stand, whatever the labels
-plain-instrs : (ps : List (Option ℕ)) (at : ℕ) (is : List Instr) → instrs ps at (plain is) ≡ is
+plain-instrs : (ps : List (Option ℕ)) (at : ℕ) (is : List Instr) → words_in ps at (plain is) ≡ words_of is
 plain-instrs ps at [] = refl
-plain-instrs ps at (i ∷ is) = ap (λ (l : List Instr). i ∷ l) (plain-instrs ps (at + 1) is)
+plain-instrs ps at (i ∷ is) = ap (λ (l : List ℕ). word_of i ∷ l) (plain-instrs ps (at + 1) is)
 
 -- the words that plain code becomes
 pub plain-words : (s : Sheet) (is : List Instr) → s ≡ puts blank is
-    → words_of (instrs s.places 0 s.items) ≡ words_of is
+    → words_in s.places 0 s.items ≡ words_of is
 unfolding puts
 plain-words s is e =
-    ap (λ (x : Sheet). words_of (instrs x.places 0 x.items)) e ∙ ap words_of (plain-instrs [] 0 is)
+    ap (λ (x : Sheet). words_in x.places 0 x.items) e ∙ plain-instrs [] 0 is
 
 -- how many words there are
 pub plain-length : (s : Sheet) (is : List Instr) → s ≡ puts blank is → length s.items ≡ length is

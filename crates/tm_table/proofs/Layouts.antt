@@ -1,6 +1,6 @@
 -- Each layout reads back what it writes, both ways.
 use Rattle.std.proofs.Common.{◌≡◌, ℕ, ◌+◌, ◌-◌, ◌*◌, ◌/◌, ◌%◌, ◌^◌, ◌<◌, ℤ, pos, negsuc, ◌≤ℤ◌, arith, refl, ap, sym}
-use Rattle.std.proofs.Common.{◌∙◌, Bool, true, ◌&&◌, ◌==◌, nat_lt, pow_pos, mod-eq_of_lt}
+use Rattle.std.proofs.Common.{◌∙◌, true, ◌&&◌, ◌==◌, nat_lt, pow_pos, mod-eq_of_lt}
 use Rattle.std.proofs.lemmas.Int.{ints}
 use Rattle.std.proofs.lemmas.Bool.{and_parts, eqb-true, ltb-true}
 use Rattle.tm_table.specs.declared.instr.Op.{Op}

@@ -6,4 +6,5 @@ pub mod Layouts
 pub mod Decoding
 pub mod Steps
 pub mod Bounds
+pub mod AddWords
 pub mod Worked

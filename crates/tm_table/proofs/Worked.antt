@@ -6,6 +6,8 @@ use Rattle.tm_table.specs.declared.state.Access.TheVariants.{Quiet, Read, Write}
 use Rattle.tm_table.specs.State.{Hart}
 use Rattle.tm_table.specs.Words.{split, decoded, word_of}
 use Rattle.tm_table.specs.Row.{put, effect, after, row, row_word}
+use Rattle.tm_table.specs.declared.add.Add.{Add}
+use Rattle.tm_table.specs.Adds.{add_of, add_word, sum_after, hart_after}
 
 -- ---- words
 
@@ -379,3 +381,40 @@ remuw_by_0 = refl
 mulw : row_word (hart 4096 5 65536 32768) 41091771 0 ≡ Some (hart 4100 18446744071562067968 65536 32768, Quiet)
 unfolding decoded put effect after row row_word
 mulw = refl
+
+-- ---- adds to memory
+
+-- amoadd.d x5, x6, (x28)
+abbrev amoadd : Add
+amoadd = record { rd = 5; rs1 = 28; rs2 = 6 }
+
+amoadd_word : (add_word amoadd ≡ 0x006E32AF) × (add_of 0x006E32AF ≡ Some amoadd)
+unfolding add_word add_of
+amoadd_word = (refl, refl)
+
+-- amoadd.d.rl x5, x6, (x28), with bit 25 set: no add of this table
+amoadd_release : add_of 0x026E32AF ≡ None
+unfolding add_of
+amoadd_release = refl
+
+-- amoadd.w x5, x6, (x28): no add of this table
+amoadd_w : add_of 0x006E22AF ≡ None
+unfolding add_of
+amoadd_w = refl
+
+-- amoadd.d x5, x6, (x28), modulo 2 ^ 64
+amoadd_wraps : (sum_after (hart 4096 5 2 7) amoadd 18446744073709551615 ≡ 1)
+    × (hart_after (hart 4096 5 2 7) amoadd 18446744073709551615 ≡ hart 4100 18446744073709551615 2 7)
+unfolding put
+amoadd_wraps = (refl, refl)
+
+-- amoadd.d x0, x6, (x28), which leaves x0
+amoadd_x0 : hart_after (hart 4096 5 2 7) (record { rd = 0; rs1 = 28; rs2 = 6 }) 3 ≡ hart 4100 5 2 7
+unfolding put
+amoadd_x0 = refl
+
+-- amoadd.d x6, x6, (x28), which adds what x6 was before
+amoadd_same : (sum_after (hart 4096 5 2 7) (record { rd = 6; rs1 = 28; rs2 = 6 }) 3 ≡ 5)
+    × (hart_after (hart 4096 5 2 7) (record { rd = 6; rs1 = 28; rs2 = 6 }) 3 ≡ hart 4100 5 3 7)
+unfolding put
+amoadd_same = (refl, refl)

@@ -3,3 +3,4 @@ pub mod Words
 pub mod State
 pub mod Row
 pub mod Ops
+pub mod Adds

@@ -1,6 +1,7 @@
 //! The instruction table of RV64I: the words of instructions and back, and their steps.
 #![tactic(auto)]
 
+mod add;
 mod coding;
 mod instr;
 mod numbers;
@@ -8,6 +9,7 @@ mod state;
 mod step;
 mod table;
 
+pub use add::{Add, decode_add, encode_add, exec_add};
 pub use coding::{decode, encode, fits};
 pub use instr::{Instr, Op};
 pub use state::{Access, Cpu};
