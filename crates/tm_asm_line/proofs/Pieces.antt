@@ -71,7 +71,8 @@ filled [] i acc = acc
 filled (Mark m ∷ ps) i acc = filled ps i acc
 filled (Take o ∷ ps) i acc = filled ps i (with_operand o i acc)
 
-pub text_ends : (ps : List Piece) (i : Instr) → Fine ps i → follows ps ≡ true → ends is_delimiter (pieces_text ps i) ≡ true
+pub text_ends : (ps : List Piece) (i : Instr) → Fine ps i → follows ps ≡ true → ends is_delimiter (pieces_text ps i) ≡
+    true
 unfolding pieces_text mark_text
 text_ends [] i h f = refl
 text_ends (Mark m ∷ ps) i h f = h.0
@@ -96,7 +97,8 @@ take_here text rest o a i acc h behind here =
     rw (found, taken-some o text a acc (operand_text o i) one.some, back)
 
 -- a mark where it stands
-pub mark_here : (text rest : List ℕ) (m a : ℕ) (acc : Instr) → drop a text ≡ m ∷ rest → piece_reading text (Mark m) a acc
+pub mark_here : (text rest : List ℕ) (m a : ℕ) (acc : Instr) → drop a text ≡ m ∷ rest → piece_reading text (Mark m) a
+    acc
     ≡ Ok (a + 1, acc)
 unfolding piece_reading
 mark_here text rest m a acc here =

@@ -1,13 +1,14 @@
 // A real file is written whole: its bytes go into a new file beside it, which takes its name.
 //
-// So an old file stays as it is until all bytes are written, and where one of the steps fails it stays for good; the new
-// file is then removed. What is left:
+// So an old file stays as it is until all bytes are written, and where one of the steps fails it stays for good; the
+// new file is then removed. What is left:
 // - What is no plain file (a device, a pipe, a link, a folder) is opened and written in place, as it has to be.
 // - So is a file in whose folder no new file may be made, or whose name leaves no room for a longer one. Where such a
 //   write fails in its midst, what the file held before is lost.
 // - The new file has the old one's permissions, or those of any new file. It has no others of the old one's attributes:
 //   it belongs to whoever writes it, and a second name of the old file (a hard link) keeps the old bytes.
-// - A process that is killed between the steps leaves the new file behind. That bytes are on the disk is not waited for.
+// - A process that is killed between the steps leaves the new file behind. That bytes are on the disk is not waited
+//   for.
 use std::alloc::Global;
 use std::fs::{self, File, OpenFile, OpenOptions, Permissions};
 use std::io::{self, ErrorKind, Write};

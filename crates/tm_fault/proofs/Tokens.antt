@@ -267,7 +267,8 @@ pub in_range_is : (limit n : ℕ) → 1 ≤ n → n < limit → is_in_range limi
 in_range_is limit n some low = rw (le-leb 1 n some, lt-ltb n limit low) refl
 
 pub range_is : (limit n : ℕ) → is_in_range limit n ≡ true → (1 ≤ n) × (n < limit)
-range_is limit n e = let parts = and_parts (nat_le 1 n) (nat_lt n limit) e in (leb-true 1 n parts.0, ltb-true n limit parts.1)
+range_is limit n e = let parts = and_parts (nat_le 1 n) (nat_lt n limit) e in
+    (leb-true 1 n parts.0, ltb-true n limit parts.1)
 
 -- a kind that was read is of a slot with an instruction
 pub slot_read : (slot : Option Instr) (xs : List Lexeme) (k : Kind) (i : Instr) (rest : List Lexeme)

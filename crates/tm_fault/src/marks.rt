@@ -48,8 +48,8 @@ fn bits_of(pass: Option<u32>) -> u8
     }
 }
 
-/// The table of marks, a byte for each hart, case, slot and kind of action, and in it a bit for each pass. Contracts see
-/// the list of bytes.
+/// The table of marks, a byte for each hart, case, slot and kind of action, and in it a bit for each pass. Contracts
+/// see the list of bytes.
 #[derive(Drop)]
 pub struct Marks {
     entries: Vec<u8>,

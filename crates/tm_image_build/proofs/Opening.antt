@@ -58,9 +58,11 @@ in_range_parts a topo template seed ruled small = record {
 
 -- ---- the file is read as its parts
 
-pub reads : (a : Admitted) (topo template : List ℕ) (seed : ℕ) → IsRuled a → seed < 2 ^ 64 → length topo ≤ TOPOLOGY_BYTES
+pub reads : (a : Admitted) (topo template : List ℕ) (seed : ℕ) → IsRuled a → seed < 2 ^ 64 → length topo ≤
+    TOPOLOGY_BYTES
     → length template ≤ TEMPLATE_BYTES
-    → elf_of (image_file (program_for a seed) topo template seed) ≡ Ok (parts_of (program_for a seed) topo template seed)
+    → elf_of (image_file (program_for a seed) topo template seed) ≡ Ok
+    (parts_of (program_for a seed) topo template seed)
 unfolding image_file
 reads a topo template seed ruled small short few =
     let p = program_for a seed in

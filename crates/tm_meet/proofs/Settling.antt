@@ -75,7 +75,8 @@ later-none p q n b h (s ∷ past) u l =
       ]
     ]
 
-pub settle-none : (f : ℕ → Option ℕ) (x : Option ℕ) (v : ℕ) (ws : List ℕ) → ((h : ℕ) → f h ≡ None) → settle f x ws ≡ Some v
+pub settle-none : (f : ℕ → Option ℕ) (x : Option ℕ) (v : ℕ) (ws : List ℕ) → ((h : ℕ) → f h ≡ None) → settle f x ws ≡
+    Some v
     → x ≡ Some v
 settle-none f x v [] n e = e
 settle-none f x v (h ∷ []) n e = sym (ap (λ (o : Option ℕ). or_else o x) (n h)) ∙ e

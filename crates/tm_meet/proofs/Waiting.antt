@@ -116,7 +116,8 @@ behind p steps t h w q =
     omega (arith, w.behind)
 
 -- From a hart that waits on to one that is behind it: at last to one that doesn't wait.
-pub someone : (p : Program) (steps : List Step) → AllKeep p steps → (n h : ℕ) → h < harts p → phase_of p steps h ≤ n → (g : ℕ)
+pub someone : (p : Program) (steps : List Step) → AllKeep p steps → (n h : ℕ) → h < harts p → phase_of p steps h ≤ n →
+    (g : ℕ)
     × (g < harts p) × (phase_of p steps g ≤ phase_of p steps h) × (Waits p steps g → ⊥)
 someone p steps t zero h l few = elim (waits-or p steps h) [
   | inr free ↦ (h, l, le_refl _, free)

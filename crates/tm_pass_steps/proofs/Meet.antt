@@ -90,7 +90,8 @@ module _ (p : Program) (formed : Formed p) (fit : MasksFit p.cases p.masks) (h :
   left-one d r e past i =
       ap (λ (b : Bool). or_else (left_in p h d r past) (if (phase_in exit past == r) && (b && not (inside p h d e.next))
       then Some e.regs else None)) i
-      ∙ (ap (λ (x : Option Table). or_else (left_in p h d r past) x) (none-and (phase_in exit past == r) e.regs) ∙ or_else-none
+      ∙ (ap (λ (x : Option Table). or_else (left_in p h d r past) x) (none-and (phase_in exit past == r) e.regs) ∙
+      or_else-none
       (left_in p h d r past))
 
   read-one : (r b : ℕ) (e : Entry) (past : List Entry) → windows_base ≤ b → Uses IsBelow (Signals h) e.access

@@ -78,7 +78,8 @@ module _ (p : Program) (formed : Formed p) (fit : MasksFit p.cases p.masks) (h :
   left-through d r l (e ∷ es) past each =
       ap (λ (b : Bool). or_else (left_in p h d r (es ++ past)) (if (phase_in exit (es ++ past) == r)
       && (b && not (inside p h d e.next)) then Some e.regs else None)) (outside d e l each.0)
-      ∙ (ap (λ (x : Option Table). or_else (left_in p h d r (es ++ past)) x) (none-and (phase_in exit (es ++ past) == r) e.regs) ∙
+      ∙ (ap (λ (x : Option Table). or_else (left_in p h d r (es ++ past)) x)
+      (none-and (phase_in exit (es ++ past) == r) e.regs) ∙
       (or_else-none (left_in p h d r (es ++ past)) ∙ left-through d r l es past each.1))
 
   pub read-through : (W : ℕ → Type 0) → ((x : Access) → A x → Uses IsBelow W x) → (r b : ℕ) → windows_base ≤ b

@@ -160,7 +160,8 @@ forward-passes n len (negsuc k) few above below whole ahead end =
     let d : n + (2 ^ 64 - 1 - k) / 4 ≤ len = rw same at end in
     absurd (omega arith)
 
-target-passes : (s : Sharing) (h len n : ℕ) (i : Instr) → len ≤ MOST_SLOTS → IsRuledEmit s h len n i → target_fault n len i
+target-passes : (s : Sharing) (h len n : ℕ) (i : Instr) → len ≤ MOST_SLOTS → IsRuledEmit s h len n i → target_fault n
+    len i
     ≡ None
 unfolding slot_target
 target-passes s h len n i few m = elim (cases_Bool (is_jump i.op)) [

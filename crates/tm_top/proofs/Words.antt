@@ -1,5 +1,6 @@
 -- What words ask for, and how a call ended whose words ask for nothing or couldn't be read.
-use Rattle.std.proofs.Common.{◌≡◌, ◌≢◌, ◌∙◌, ℕ, zero, suc, Bool, List, [], ◌∷◌, ◌++◌, take, Option, None, Some, Ok, refl, sym, ap}
+use Rattle.std.proofs.Common.{◌≡◌, ◌≢◌, ◌∙◌, ℕ, zero, suc, Bool, List, [], ◌∷◌, ◌++◌, take, Option, None, Some, Ok}
+use Rattle.std.proofs.Common.{refl, sym, ap}
 use Rattle.tm_words.specs.declared.command.Command.{Command}
 use Rattle.tm_words.specs.declared.command.WordsFault.{WordsFault}
 use Rattle.tm_words.specs.declared.command.WordsFault.TheVariants.{Refused, NoMemory}

@@ -99,7 +99,8 @@ command_stop (stop.Failed by) c name desk input none first (role_is, inr (told, 
 command_stop stop.NoMemory c name desk input none first h = tt
 
 -- a listing stops
-pub list_stop : (s : Stop) (name : List ℕ) (desk : DeskChange) → OpenStop s name desk → InputStop s (commands.List name) desk
+pub list_stop : (s : Stop) (name : List ℕ) (desk : DeskChange) → OpenStop s name desk → InputStop s
+    (commands.List name) desk
 unfolding first_fault
 list_stop s name desk h = command_stop s (commands.List name) name desk refl refl (λ fault is. rw is refl) h
 

@@ -32,7 +32,8 @@ write_stopped stop.NoMemory c role desk out faults its later h accepted silent =
 
 -- where printing stops a command, all that comes before it is done, and a front of its text was printed
 pub print_stopped : (s : Stop) (c : Command) (desk : DeskChange) (out : SinkChange) (ending : Ending)
-    → IsReady c desk ending → TookFront out ending.text → PutStop s roles.Output out.faults out.faults_after → Stopped s c desk out
+    → IsReady c desk ending → TookFront out ending.text → PutStop s roles.Output out.faults out.faults_after → Stopped
+    s c desk out
 print_stopped (stop.Refused role fault) c desk out ending ready printed h = absurd h
 print_stopped (stop.Failed role) c desk out ending ready printed (role_is, rose) =
     at_print role_is rose (record { ending = ending; ready = ready; printed = printed })

@@ -1,5 +1,6 @@
 -- The run of an image, and where it stops.
-use Rattle.std.proofs.Common.{◌≡◌, ◌≤◌, ◌∙◌, ℕ, List, Option, None, Some, true, false, Bool, IsTrue, ap, refl, sym, subst, arith}
+use Rattle.std.proofs.Common.{◌≡◌, ◌≤◌, ◌∙◌, ℕ, List, Option, None, Some, true, false, Bool, IsTrue, ap, refl, sym}
+use Rattle.std.proofs.Common.{subst, arith}
 use Rattle.tm_desk.specs.Causes.{Files, OthersStay}
 use Rattle.tm_plan_cases.specs.declared.program.Program.{Program}
 use Rattle.tm_plan_cases.specs.declared.event.Event.{Event}

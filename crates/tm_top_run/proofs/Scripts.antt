@@ -1,5 +1,6 @@
 -- The script that a run asks for, and its fault.
-use Rattle.std.proofs.Common.{◌≡◌, ◌≤◌, ◌<◌, ◌∙◌, ap, sym, refl, ℕ, List, [], Option, None, Some, Bool, IsTrue, length, inl}
+use Rattle.std.proofs.Common.{◌≡◌, ◌≤◌, ◌<◌, ◌∙◌, ap, sym, refl, ℕ, List, [], Option, None, Some, Bool, IsTrue}
+use Rattle.std.proofs.Common.{length, inl}
 use Rattle.std.proofs.Common.{inr, arith}
 use Rattle.std.specs.Prelude.{IsSomeAnd}
 use Rattle.tm_desk.specs.Causes.{Files}
@@ -85,7 +86,13 @@ pub no_script : (p : Program) (cases : Cases) (tells : Bool) (held : Files) (lin
     → IsScriptRead None cases tells held lines
 no_script p cases tells held lines none = rw none (record {
   script = refl;
-  accepted = (sound-budget (record { cases = cases; masks = p.masks; text = p.text; tables = p.tables; marks = p.marks })).none;
+  accepted = (sound-budget (record {
+    cases = cases;
+    masks = p.masks;
+    text = p.text;
+    tables = p.tables;
+    marks = p.marks;
+  })).none;
   no_fault = λ told. refl;
 })
 
@@ -121,7 +128,8 @@ pub script_stop : (s : Stop) (r : Run) (program : Program) (seed : ℕ) (desk : 
       faults = faults;
       faults_after = desk.faults_after;
     }) → InputStop s (commands.Run r) desk
-script_stop (stop.Refused by fault) r program seed desk faults middle its same later (role_is, given, status, line, is) =
+script_stop (stop.Refused by fault) r program seed desk faults middle its same later (role_is, given, status, line, is)
+    =
     rw role_is (record {
       read = given;
       status = status;

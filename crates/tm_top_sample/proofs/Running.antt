@@ -31,7 +31,8 @@ summed_whole n p g events text over halted is said =
 
 pub summary_of : (n : ℕ) (p : Program) (g : Guested) (events : List Event) (text its_text : List ℕ)
     (status its_status : ℕ) → IsOver p g → g.faults ≡ [] → g.limit ≡ DEFAULT_EVENTS
-    → IsRoundOrder p [] DEFAULT_EVENTS g.journal → IsRunUnder p g.faults g.limit events → events ≡ g.journal → text ≡ its_text → status ≡ its_status
+    → IsRoundOrder p [] DEFAULT_EVENTS g.journal → IsRunUnder p g.faults g.limit events → events ≡ g.journal → text ≡
+    its_text → status ≡ its_status
     → IsSummed n g its_text its_status → IsSummary n p events text status
 summary_of n p g events text its_text status its_status over none limit order made same text_is status_is told =
     let whole : g ≡ guest_of p [] DEFAULT_EVENTS events = as_guest p g over

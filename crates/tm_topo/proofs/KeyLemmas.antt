@@ -1,4 +1,5 @@
-use Rattle.std.proofs.Common.{◌≡◌, ℕ, Bool, not, List, [], ◌∷◌, map, Option, Some, None, option_map, String, Global, string_bytes, Bor, refl, sym, ap, ◌∙◌, Less}
+use Rattle.std.proofs.Common.{◌≡◌, ℕ, Bool, not, List, [], ◌∷◌, map, Option, Some, None, option_map, String, Global}
+use Rattle.std.proofs.Common.{string_bytes, Bor, refl, sym, ap, ◌∙◌, Less}
 use Rattle.std.proofs.Common.{inl, inr}
 use Rattle.std.specs.Prelude.{filter, find}
 use Rattle.std.specs.List.{AllByRecursion}
@@ -10,10 +11,12 @@ use Rattle.toml.specs.View.{members_view}
 use Rattle.toml.proofs.Views.{Entry}
 use Rattle.toml.specs.Data.{Data, Members, get_member, as_integer}
 use Rattle.tm_topo.specs.declared.system.TopoKey.{TopoKey}
-use Rattle.tm_topo.specs.Reading.{keys_of, lesser, least, is_known, unknown_key, key_text, number_at, of_value, default_of}
+use Rattle.tm_topo.specs.Reading.{keys_of, lesser, least, is_known, unknown_key, key_text, number_at, of_value}
+use Rattle.tm_topo.specs.Reading.{default_of}
 
 -- a text below each of some others is no greater than the first of them that passes
-first_is_lesser : (q : List ℕ → Bool) (k : String Global) (ks : List (String Global)) → AllByRecursion (λ y. string_cmp k y ≡ Less) ks
+first_is_lesser : (q : List ℕ → Bool) (k : String Global) (ks : List (String Global)) → AllByRecursion
+    (λ y. string_cmp k y ≡ Less) ks
     → lesser (string_bytes k) (option_map string_bytes (find (λ s. q (string_bytes s)) ks)) ≡ string_bytes k
 first_is_lesser q k [] above = refl
 first_is_lesser q k (y ∷ ys) above =
@@ -37,24 +40,29 @@ keys_of-view : (es : List Entry) → keys_of (members_view es) ≡ map string_by
 keys_of-view [] = refl
 keys_of-view (e ∷ es) = ap (λ ks. string_bytes e.0 ∷ ks) (keys_of-view es)
 
-bytes_of_ref : (r : Option (Bor (String Global))) → option_map (λ k. string_bytes k.now) r ≡ option_map string_bytes (option_map (λ k. k.now) r)
+bytes_of_ref : (r : Option (Bor (String Global))) → option_map (λ k. string_bytes k.now) r ≡ option_map string_bytes
+    (option_map (λ k. k.now) r)
 bytes_of_ref None = refl
 bytes_of_ref (Some k) = refl
 
 -- the first unknown key of a table is the least
-pub unknown_key-found : (es : List Entry) (r : Option (Bor (String Global))) → IsStrictlySortedBy string_cmp (entry_keys es)
+pub unknown_key-found : (es : List Entry) (r : Option (Bor (String Global))) → IsStrictlySortedBy string_cmp
+    (entry_keys es)
     → option_map (λ k. k.now) r ≡ find (λ k. not (is_known (string_bytes k))) (entry_keys es)
     → option_map (λ k. string_bytes k.now) r ≡ unknown_key (members_view es)
 unfolding unknown_key
 unknown_key-found es r sorted found =
     bytes_of_ref r ∙ ap (option_map string_bytes) found
-    ∙ sym (ap (λ ks. least (filter (λ k. not (is_known k)) ks)) (keys_of-view es) ∙ least_is_first (λ k. not (is_known k)) (entry_keys es) sorted)
+    ∙ sym (ap (λ ks. least (filter (λ k. not (is_known k)) ks)) (keys_of-view es) ∙ least_is_first
+    (λ k. not (is_known k)) (entry_keys es) sorted)
 
 -- what stands at a key
-pub number_at-found : (key : TopoKey) (ms : Members) (name : List ℕ) (d : Data) → name ≡ key_text key → Some d ≡ get_member name ms → number_at key ms ≡ of_value key (as_integer d)
+pub number_at-found : (key : TopoKey) (ms : Members) (name : List ℕ) (d : Data) → name ≡ key_text key → Some d ≡
+    get_member name ms → number_at key ms ≡ of_value key (as_integer d)
 unfolding number_at
 number_at-found key ms name d same found = rw (← same, ← found)
 
-pub number_at-missing : (key : TopoKey) (ms : Members) (name : List ℕ) → name ≡ key_text key → None ≡ get_member name ms → number_at key ms ≡ default_of key
+pub number_at-missing : (key : TopoKey) (ms : Members) (name : List ℕ) → name ≡ key_text key → None ≡ get_member name
+    ms → number_at key ms ≡ default_of key
 unfolding number_at
 number_at-missing key ms name same found = rw (← same, ← found)

@@ -1,5 +1,6 @@
 -- What is read of a text lies within the limits.
-use Rattle.std.proofs.Common.{◌≡◌, ℕ, ◌*◌, ◌≤◌, Bool, ◌&&◌, true, false, nat_le, if◌then◌else◌, ℤ, pos, negsuc, Option, Some}
+use Rattle.std.proofs.Common.{◌≡◌, ℕ, ◌*◌, ◌≤◌, Bool, ◌&&◌, true, false, nat_le, if◌then◌else◌, ℤ, pos, negsuc}
+use Rattle.std.proofs.Common.{Option, Some}
 use Rattle.std.proofs.Common.{None, Result, Ok, Err, IfOk, IsTrue, refl, sym, List}
 use Rattle.std.proofs.lemmas.Bool.{and_parts, leb-true}
 use Rattle.toml.specs.Data.{Data, Members, as_integer, get_member}

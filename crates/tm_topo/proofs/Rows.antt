@@ -3,10 +3,12 @@ use Rattle.std.proofs.Common.{◌≡◌, Ok, Err, codes, negsuc, pos, refl, ◌�
 use Rattle.std.specs.Str.{is_utf8, chars}
 use Rattle.toml.proofs.OnLiterals.{toml_on_literals}
 use Rattle.tm_topo.specs.declared.system.TopoKey.TheVariants.{Cores, Line, Bias}
-use Rattle.tm_topo.specs.declared.system.TopoFault.TheVariants.{NotToml, UnknownKey, Missing, WrongKind, OutOfRange, TooManyHarts}
+use Rattle.tm_topo.specs.declared.system.TopoFault.TheVariants.{NotToml, UnknownKey, Missing, WrongKind, OutOfRange}
+use Rattle.tm_topo.specs.declared.system.TopoFault.TheVariants.{TooManyHarts}
 use Rattle.tm_topo.specs.Reading.{topology_of, document, unknown_key, number_at, numbers_in}
 
-plain : topology_of (codes "cores = 2\nthreads = 1\nline = 64\n") ≡ Ok (record { cores = 2; threads = 1; line = 64; bias = 40 })
+plain : topology_of (codes "cores = 2\nthreads = 1\nline = 64\n") ≡ Ok
+    (record { cores = 2; threads = 1; line = 64; bias = 40 })
 unfolding toml_on_literals is_utf8 chars topology_of document unknown_key number_at numbers_in
 plain = refl
 

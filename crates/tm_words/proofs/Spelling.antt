@@ -106,7 +106,8 @@ module _ (os : List Text) (good : are_good os ≡ true) (name : Text) where
       (walking.name_fault os good name rows u b n ok parts.0) (walking.name_walked os good name rows u b n ok parts.0)
       ∙ ap (or_else (clash rows u)) (parts_faults ps rest (settle rows u) (named n) true refl parts.1)
   parts_faults (apart [] v ∷ ps) rest rows u b ok fit =
-      no_empty (and_parts (is_among os []) (is_name v) (and_parts (is_among os [] && is_name v) (list_all (is_part_of os) ps)
+      no_empty (and_parts (is_among os []) (is_name v) (and_parts (is_among os [] && is_name v)
+      (list_all (is_part_of os) ps)
       fit).0).0
   parts_faults (apart (x ∷ xs) v ∷ ps) rest rows u b ok fit =
       let parts = and_parts (is_among os (x ∷ xs) && is_name v) (list_all (is_part_of os) ps) fit in
@@ -122,7 +123,8 @@ module _ (os : List Text) (good : are_good os ≡ true) (name : Text) where
       (settle rows u) (x ∷ xs) v fine.0 fine.1)
       ∙ parts_faults ps rest (settle rows u) (valued (x ∷ xs) v) false fine.0 parts.1)
   parts_faults (joined [] v ∷ ps) rest rows u b ok fit =
-      no_empty (and_parts (is_among os []) (is_name v) (and_parts (is_among os [] && is_name v) (list_all (is_part_of os) ps)
+      no_empty (and_parts (is_among os []) (is_name v) (and_parts (is_among os [] && is_name v)
+      (list_all (is_part_of os) ps)
       fit).0).0
   parts_faults (joined (x ∷ xs) v ∷ ps) rest rows u b ok fit =
       let parts = and_parts (is_among os (x ∷ xs) && is_name v) (list_all (is_part_of os) ps) fit in
@@ -149,7 +151,8 @@ module _ (os : List Text) (good : are_good os ≡ true) (name : Text) where
       ap (λ w. end_rows w (all_spelled ps ++ ending rest)) (walking.name_walked os good name rows u b n ok parts.0)
       ∙ parts_rows ps rest (settle rows u) (named n) true refl parts.1
   parts_rows (apart [] v ∷ ps) rest rows u b ok fit =
-      no_empty (and_parts (is_among os []) (is_name v) (and_parts (is_among os [] && is_name v) (list_all (is_part_of os) ps)
+      no_empty (and_parts (is_among os []) (is_name v) (and_parts (is_among os [] && is_name v)
+      (list_all (is_part_of os) ps)
       fit).0).0
   parts_rows (apart (x ∷ xs) v ∷ ps) rest rows u b ok fit =
       let parts = and_parts (is_among os (x ∷ xs) && is_name v) (list_all (is_part_of os) ps) fit in
@@ -160,7 +163,8 @@ module _ (os : List Text) (good : are_good os ≡ true) (name : Text) where
       v fine.0 fine.1)
       ∙ parts_rows ps rest (settle rows u) (valued (x ∷ xs) v) false fine.0 parts.1
   parts_rows (joined [] v ∷ ps) rest rows u b ok fit =
-      no_empty (and_parts (is_among os []) (is_name v) (and_parts (is_among os [] && is_name v) (list_all (is_part_of os) ps)
+      no_empty (and_parts (is_among os []) (is_name v) (and_parts (is_among os [] && is_name v)
+      (list_all (is_part_of os) ps)
       fit).0).0
   parts_rows (joined (x ∷ xs) v ∷ ps) rest rows u b ok fit =
       let parts = and_parts (is_among os (x ∷ xs) && is_name v) (list_all (is_part_of os) ps) fit in

@@ -10,7 +10,8 @@ returns-then-not-is_access c =
 
 pub is_placed-requires-clause-few : goal.is_placed-requires-clause-few
 is_placed-requires-clause-few c =
-    ((sound-of c.args.p.now).windows _ c.in-Some.window (standing-read c.args.p.now.shape _ ∙ c.in-Some.is)).window.shaped.few
+    ((sound-of c.args.p.now).windows _ c.in-Some.window (standing-read c.args.p.now.shape _ ∙
+    c.in-Some.is)).window.shaped.few
 
 pub returns-in-None : goal.returns-in-None
 returns-in-None c =

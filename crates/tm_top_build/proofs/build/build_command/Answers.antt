@@ -19,7 +19,12 @@ returns-clause-stopped g c =
     (desk_change g.D.Desk.tells g.D.Desk.held g.D.Desk.faults c.args.desk.now c.write_output.new.desk)
     (sink_change g.O.Sink.tells g.O.Sink.taken g.O.Sink.faults c.args.out.now c.print_text.new.out)
     (record { text = c.in-Ok.made.line; status = 0; journal = None }) (
-      (record { file = c.in-Ok.made.file; image = c.in-Ok.ensures.ok; written = rw c.as_str.ensures at c.in-Ok-write_output.ensures.written }),
+      (record {
+        file = c.in-Ok.made.file;
+        image = c.in-Ok.ensures.ok;
+        written = rw c.as_str.ensures at
+            c.in-Ok-write_output.ensures.written;
+      }),
       (refl, refl),
     )
     c.in-Err-print_text.ensures.front c.in-Err-print_text.ensures.cause

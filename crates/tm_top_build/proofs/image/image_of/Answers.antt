@@ -6,7 +6,8 @@ use Rattle.tm_top_build.proofs.image.image_of.Goals as goal
 
 pub returns-in-Err-Input-clause-err : goal.returns-in-Err-Input-clause-err
 returns-in-Err-Input-clause-err c =
-    let told = rw (c.in-Err-Input.field-0-is, c.as_slice.ensures, c.as_slice-2.ensures) at c.in-Err-Input.ensures.err in (
+    let told = rw (c.in-Err-Input.field-0-is, c.as_slice.ensures, c.as_slice-2.ensures) at c.in-Err-Input.ensures.err
+    in (
       c.in-Err-Input.fault,
       image_refused c.args.topo.now c.args.template.now c.args.seed c.in-Err-Input.fault told.1,
       refl,

@@ -29,7 +29,8 @@ returns-in-Ok-finish-clause-done g c =
     (sink_change g.O.Sink.tells g.O.Sink.taken g.O.Sink.faults c.args.out.now c.finish.new.out)
     c.in-Ok.ensures.on
     (run_as r program lines events told.text outcome.status (events_in outcome.journal)
-    (subst (λ (s : ℕ). IsToldOf program lines r.events events told.text s) (sym ended.status) c.in-Ok-simulate.ensures.told)
+    (subst (λ (s : ℕ). IsToldOf program lines r.events events told.text s) (sym ended.status)
+    c.in-Ok-simulate.ensures.told)
     (in_round c.args.run.now.threads program lines c.args.run.now.events events c.requires.order
     c.in-Ok-simulate.ensures.order) ended.journal)
     ended.finished

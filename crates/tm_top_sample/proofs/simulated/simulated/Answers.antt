@@ -24,7 +24,8 @@ returns c =
     let its = c.in_ok-guest.ensures in
     let kept = c.of.result in
     let room = subst (λ (n : ℕ). budget_of p.cases ≤ n) (sym its.limit) c.requires.room in
-    let order = subst (λ (ls : List FaultLine). IsRoundOrder p ls DEFAULT_EVENTS g.journal) c.nothing.ensures its.order in
+    let order = subst (λ (ls : List FaultLine). IsRoundOrder p ls DEFAULT_EVENTS g.journal) c.nothing.ensures its.order
+    in
     summary_of c.args.n p g kept.journal.events kept.text c.in_ok-text.text kept.status 0 its.over
     (its.script ∙ c.nothing.ensures) its.limit order
     c.of.ensures.simulated c.of.ensures.journal c.of.ensures.text c.of.ensures.status

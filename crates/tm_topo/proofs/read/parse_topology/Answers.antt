@@ -12,7 +12,8 @@ pub returns-in-Err-clause-err : goal.returns-in-Err-clause-err
 unfolding topology_of document
 returns-in-Err-clause-err c _ =
     elim (cases_Bool (is_utf8 c.args.text.now)) [
-      | inl valid ↦ let none : parse_document c.args.text.now ≡ None = c.in-Err.ensures.refused (λ e. false≢true (c.if-is_memory.ensures.1 e)) (IsUtf8-from_is_utf8 _ valid) in rw (valid, none)
+      | inl valid ↦ let none : parse_document c.args.text.now ≡ None = c.in-Err.ensures.refused
+          (λ e. false≢true (c.if-is_memory.ensures.1 e)) (IsUtf8-from_is_utf8 _ valid) in rw (valid, none)
       | inr broken ↦ rw broken
     ]
 
