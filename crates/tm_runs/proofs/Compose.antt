@@ -1,10 +1,12 @@
 -- The laws by which runs compose.
 use Rattle.std.proofs.Common.{◌≡◌, ℕ, zero, suc, ◌+◌, ◌<◌, ◌≤◌, Some, ◌⊎◌, inl, inr, arith, suc-add, List, []}
-use Rattle.std.proofs.Common.{◌∷◌, length}
+use Rattle.std.proofs.Common.{◌∷◌, length, sym, subst}
 use Rattle.std.proofs.lemmas.Bool.{cases_lt}
 use Rattle.tm_table.specs.declared.state.Access.{Access}
+use Rattle.tm_table.specs.declared.state.Access.TheVariants.{Quiet}
 use Rattle.tm_runs.specs.Machine.{World, State, Entry, Strays}
 use Rattle.tm_runs.specs.Runs.{Takes, Now, Step, Upto, Unwatched, Came, Went, Strayed, KeepsUntil, Newest, Does, Within}
+use Rattle.tm_runs.specs.Runs.{IsQuiet}
 
 -- more steps are allowed
 pub takes_more : {w : World} {G Q : State → Type 0} {n : ℕ} {s : State} (k : ℕ) → n ≤ k → Takes w G Q n s
