@@ -474,7 +474,7 @@ module _ (w : World) (lo hi : ℕ) (A : Access → Type 0) (quiet : A Quiet) (ta
         let most = at_front w.text s.pc front (line_turn dwords b far) code in
         takes_more {n = 11 + suc (lines * (12 * dwords + 4))} (12 + lines * (12 * dwords + 4)) (omega arith)
         (takes_then {n = 11} {k = suc (lines * (12 * dwords + 4))}
-        (takes_map (quiet_within lo hi quiet) (λ t c. c)
+        (takes_map (quiet_within lo hi A quiet) (λ t c. c)
         (constant_takes w lo hi 3 masks (omega arith) s x (omega (arith, len))
         (omega arith) (at_front w.text s.pc (constant 3 masks) (addi 4 0 lines ∷ []) most))) (λ t c.
         let pc : t.pc ≡ s.pc + 44 = c.pc in

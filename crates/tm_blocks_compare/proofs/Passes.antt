@@ -250,7 +250,7 @@ module _ (w : World) (lo hi : ℕ) (table : Table) (stop M : ℕ) (cases : Cases
   unfolding pass_head
   head_take p k t pl kl nine x y at =
       let tail : List Instr = slli 2 9 13 ∷ add 2 2 1 ∷ addi 8 0 0 ∷ [] in
-      takes_then {n = 11} {k = 3} (takes_map (quiet_within lo hi tt) (λ u g. g)
+      takes_then {n = 11} {k = 3} (takes_map (quiet_within lo hi (Peeks w) tt) (λ u g. g)
       (constant_takes w lo hi 1 p (omega arith) t x (omega arith) (omega arith)
       (at_front w.text t.pc (constant 1 p) tail at))) (λ u c.
       let pc : u.pc ≡ t.pc + 44 = c.pc in

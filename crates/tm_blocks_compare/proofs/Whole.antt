@@ -194,7 +194,7 @@ compare_all_runs cases h p mask bytes cell w s shaped mine small c at =
     let passes : 1 + suc m ≡ cases.passes = omega (arith, shaped.passes) in
     let V = verdict_of_all s.mem cases h p mask bytes in
     let few-p = few-steps cases h shaped mine in
-    let quiet = quiet_within lo hi {A = Peeks w} tt in
+    let quiet = quiet_within lo hi (Peeks w) tt in
     let P = 14 + (332 + (12 + line_count cases h 0 * (12 * (cases.line / 8) + 4)
     + (12 + line_count cases h 1 * (12 * (cases.line / 8) + 4)
     + (12 + line_count cases h 2 * (12 * (cases.line / 8) + 4))))) + 3 in

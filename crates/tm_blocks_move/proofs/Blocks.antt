@@ -159,7 +159,7 @@ module _ (cases : Cases) (h from : ℕ) (s : AreShaped cases) (mine : h < cases.
         let whole : (half + half) * c ≡ a * c = ap (λ (x : ℕ). x * c) twice in
         let len : length (first ++ lines) ≡ 11 + length lines =
         length-append first lines ∙ ap (λ (k : ℕ). k + length lines) (length-constant 2 (windows_base + d)) in
-        takes_then (takes_map (quiet_within lo hi tt) (λ u g. g)
+        takes_then (takes_map (quiet_within lo hi A tt) (λ u g. g)
         (constant_takes w lo hi 2 (windows_base + d) (omega arith) t x
         (omega (arith, len)) (omega (arith, far.place)) (at_front w.text t.pc first lines at))) (λ u g.
         let pc = g.pc in

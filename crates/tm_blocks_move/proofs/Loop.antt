@@ -226,7 +226,7 @@ module _ (w : World) (lo hi : ℕ) (A : Access → Type 0) (quiet : A Quiet) whe
         (length-constant 1 from) in
         takes_more {n = 11 + suc (lines * (2 * n + 6))} (12 + lines * (2 * n + 6)) (omega arith)
         (takes_then {n = 11} {k = suc (lines * (2 * n + 6))}
-        (takes_map (quiet_within lo hi quiet) (λ t c. c) (constant_takes w lo hi 1 from (omega arith) s (omega arith)
+        (takes_map (quiet_within lo hi A quiet) (λ t c. c) (constant_takes w lo hi 1 from (omega arith) s (omega arith)
         (omega arith) (omega arith) (at_front w.text s.pc (constant 1 from) (addi 4 0 lines ∷ []) most))) (λ t c.
         let pc : t.pc ≡ s.pc + 44 = c.pc in
         let here = at_next w.text s.pc t.pc (constant 1 from) (addi 4 0 lines ∷ []) 11 (length-constant 1 from) pc most

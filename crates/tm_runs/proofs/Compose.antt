@@ -127,6 +127,6 @@ pub within_map : (lo hi lo' hi' : ℕ) {A B : Access → Type 0} → lo' ≤ lo 
 within_map lo hi lo' hi' p q f t = newest_map lo hi lo' hi' p q f t.log
 
 -- a quiet step is one of any kind that has quiet steps
-pub quiet_within : (lo hi : ℕ) {A : Access → Type 0} → A Quiet → (t : State) → Within lo hi IsQuiet t → Within lo hi A t
-quiet_within lo hi {A = A} quiet t h =
+pub quiet_within : (lo hi : ℕ) (A : Access → Type 0) → A Quiet → (t : State) → Within lo hi IsQuiet t → Within lo hi A t
+quiet_within lo hi A quiet t h =
     within_map lo hi lo hi (omega arith) (omega arith) (λ x e. subst A (sym e) quiet) t h
