@@ -505,5 +505,5 @@ PROGRAMS = {
     "tm_cases_scripts": (["scripts", "traces"], SCRIPTS),
     "tm_cases_elf": (["elf"], ELF),
     "tm_cases_desks": (["desks"], DESKS),
-    "tm_cases_commands": (["texts", "commands", "runs", "tests", "words", "faults"], COMMANDS),
+    "tm_cases_commands": (["texts", "commands", "runs", "tests", "words", "faults", "judged"], COMMANDS),
 }

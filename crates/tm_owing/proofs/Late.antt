@@ -16,7 +16,7 @@ use Rattle.tm_owing.specs.May.{is_many}
 use Rattle.tm_owing.proofs.Putting.{window-place}
 
 -- what a byte of the windows may be written by
-window-may : (p : Program) (q h b : ℕ) → IsProgram p → h < 8 → is_window b ≡ true
+pub window-may : (p : Program) (q h b : ℕ) → IsProgram p → h < 8 → is_window b ≡ true
     → may_write p q h b ≡ may_write_window p q h b
 unfolding flag_at verdict_at private_at private_size
 window-may p q h b shaped l e =
@@ -31,7 +31,7 @@ window-may p q h b shaped l e =
     ∙ (ap (λ (t : Bool). t || (is_window b && may_write_window p q h b)) w
     ∙ ap (λ (t : Bool). t && may_write_window p q h b) e))
 
-even-may : (p : Program) (q h b : ℕ) → q % 2 ≡ 0 → may_write_window p q h b ≡ (collector p.cases b == h)
+pub even-may : (p : Program) (q h b : ℕ) → q % 2 ≡ 0 → may_write_window p q h b ≡ (collector p.cases b == h)
 even-may p q h b e = ap (λ (t : Bool). if t then collector p.cases b == h
     else may_write_running p (case_of_phase p q) h b) (eq-eqb (q % 2) 0 e)
 
