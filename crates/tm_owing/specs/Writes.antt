@@ -6,14 +6,22 @@ use Rattle.std.specs.Ordering.{nat_cmp}
 use Rattle.tm_owing.specs.declared.writes.Latest.{Latest}
 use Rattle.tm_owing.specs.declared.writes.Writes.{Writes}
 
--- the last write of a byte: by its place in an area that begins at from, or as a map has it
-abbrev pub held_at : ℕ → List (Option Latest) → BTreeMap ℕ Latest → ℕ → Option Latest
-held_at from near far b =
-    if nat_le from b && nat_lt (b - from) (length near) then slice_index_or near (b - from) None else get nat_cmp far b
+-- the place of a byte in an area of n bytes that begins at from, if it lies there
+unfoldable pub place_of : (from n b : ℕ) → Option ℕ
+place_of from n b = if nat_le from b && nat_lt (b - from) n then Some (b - from) else None
 
--- what is kept of it
+-- what a list has at a place, and what is said without one
+abbrev pub at_place : List (Option Latest) → Option Latest → Option ℕ → Option Latest
+at_place near far None = far
+at_place near far (Some i) = slice_index_or near i None
+
+-- the last write of a byte: by its place in the area, and else as the map has it
 unfoldable pub last_at : Writes → ℕ → Option Latest
-last_at w = held_at w.from w.near.items w.far
+last_at w b = at_place w.near.items (get nat_cmp w.far b) (place_of w.from (length w.near.items) b)
+
+-- a list that has no write
+abbrev pub HasNothing : List (Option Latest) → Type 0
+HasNothing near = (k : ℕ) → slice_index_or near k None ≡ None
 
 -- a map with one entry more
 abbrev pub IsPut : {X : Type 0} → ℕ → X → BTreeMap ℕ X → BTreeMap ℕ X → Type 0

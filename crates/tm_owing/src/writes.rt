@@ -1,6 +1,8 @@
 // The last write of each byte by one hart.
-ghost use Rattle.std.specs.Prelude.{◌≡◌, ◌==◌, ℕ, None, Some, IfOk, OnOk, if◌then◌else◌};
-ghost use Rattle.tm_owing.specs.Writes.{IsPut, last_at};
+ghost use Rattle.std.specs.Prelude.{◌≡◌, ◌==◌, ◌<◌, ℕ, None, Some, IfOk, IfSome, OnOk, if◌then◌else◌};
+ghost use Rattle.std.specs.BTreeMap.{get};
+ghost use Rattle.std.specs.Ordering.{nat_cmp};
+ghost use Rattle.tm_owing.specs.Writes.{HasNothing, IsPut, last_at, place_of as place_in};
 
 use std::alloc::Global;
 use std::collections::BTreeMap;
@@ -28,14 +30,11 @@ impl Writes {
     pub fn none(alloc: Global, from: u64) -> Result<Writes, NoMemory>
         ensures { IfOk result (λ w. (b : ℕ) → last_at w b ≡ None) }
     {
-        let near = match vec![in alloc; None; PRIVATE_BYTES as usize] {
-            Ok(near) => near,
-            Err(_) => return Err(NoMemory),
-        };
+        let near = nothing_near(alloc)?;
         Ok(Writes {
             from,
             near,
-            far: BTreeMap::new(alloc),
+            far: nothing_far(alloc),
         })
     }
 
@@ -43,14 +42,10 @@ impl Writes {
     pub fn last(&self, b: u64) -> Option<Latest>
         ensures { result ≡ last_at self.now b }
     {
-        if b < self.from {
-            return self.far.get(&b).copied();
+        match place_of(self.from, self.near.len(), b) {
+            Some(place) => self.near[place],
+            None => far_of(&self.far, b),
         }
-        let place = b - self.from;
-        if place >= self.near.len() as u64 {
-            return self.far.get(&b).copied();
-        }
-        self.near[place as usize]
     }
 
     /// Keeps a write of a byte, which is the last one now.
@@ -58,16 +53,61 @@ impl Writes {
         ensures { OnOk result ((k : ℕ) →
             last_at self.new k ≡ (if k == b then Some write else last_at self.old k)) }
     {
-        if b < self.from {
-            return put_far(&mut self.far, b, write);
+        match place_of(self.from, self.near.len(), b) {
+            Some(place) => {
+                self.near[place] = Some(write);
+                Ok(())
+            }
+            None => put_far(&mut self.far, b, write),
         }
-        let place = b - self.from;
-        if place >= self.near.len() as u64 {
-            return put_far(&mut self.far, b, write);
-        }
-        self.near[place as usize] = Some(write);
-        Ok(())
     }
+}
+
+/// A list that has no write, with a place for each byte of a private area.
+fn nothing_near(alloc: Global) -> Result<Vec<Option<Latest>>, NoMemory>
+    ensures { IfOk result (λ v. HasNothing v.items) }
+{
+    let mut near = match Vec::with_capacity(alloc, PRIVATE_BYTES as usize) {
+        Ok(near) => near,
+        Err(_) => return Err(NoMemory),
+    };
+    for i in 0..PRIVATE_BYTES {
+        match near.push(None) {
+            Ok(()) => {}
+            Err(_) => return Err(NoMemory),
+        }
+    }
+    Ok(near)
+}
+
+/// A map that has no write.
+fn nothing_far(alloc: Global) -> BTreeMap<u64, Latest>
+    ensures { (b : ℕ) → get nat_cmp result b ≡ None }
+{
+    BTreeMap::new(alloc)
+}
+
+/// The place of a byte in an area of so many bytes, if it lies there.
+#[tactic(auto, unfolding(crate::specs::Writes::place_of))]
+fn place_of(from: u64, len: usize, b: u64) -> Option<usize>
+    ensures is { result ≡ place_in from len b }
+    ensures within { IfSome result (λ i. i < len) }
+{
+    if b < from {
+        return None;
+    }
+    let place = b - from;
+    if place >= len as u64 {
+        return None;
+    }
+    Some(place as usize)
+}
+
+/// The write that a map has of a byte.
+fn far_of(far: &BTreeMap<u64, Latest>, b: u64) -> Option<Latest>
+    ensures { result ≡ get nat_cmp far.now b }
+{
+    far.get(&b).copied()
 }
 
 /// Keeps a write in a map.
