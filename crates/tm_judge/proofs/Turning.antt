@@ -106,7 +106,8 @@ module _ (p : Program) (events : List Event) (i : ℕ) (e : Event) (l : i < leng
           → Owes p (steps_of (take i events)) last marks → Owes p (steps_of (take (i + 1) events)) news settles
       owes-next last news marks settles h notes owes =
           subst (λ (steps : List Step). Owes p steps news settles) (sym steps-next)
-          (owes-more p (record { event = e; after = next }) (steps_of (take i events)) last news marks settles h notes owes)
+          (owes-more p (record { event = e; after = next }) (steps_of (take i events)) last news marks settles h
+          notes owes)
 
 -- at the end
 pub answer-end : (p : Program) (events : List Event) (i : ℕ) (q : Question) (a : Answer) → length events ≤ i

@@ -80,7 +80,8 @@ pub another-private : (p : Program) (q h b : ℕ) → IsProgram p → h < harts 
     → another h (writers p q b) ≡ false
 another-private p q h b shaped l mine =
     let limit = shaped.cases.harts in
-    another-not p q h b (λ g m n. private-none p q h g b shaped (omega (arith, l, limit)) (omega (arith, m, limit)) n mine)
+    another-not p q h b (λ g m n. private-none p q h g b shaped (omega (arith, l, limit)) (omega (arith, m, limit)) n
+    mine)
 
 -- in an even phase a byte of the windows has one writer, the collector of its line
 pub another-even : (p : Program) (q h b : ℕ) → IsProgram p → is_window b ≡ true → q % 2 ≡ 0

@@ -1,6 +1,8 @@
 -- The last write of a byte, by its place in an area or in a map.
-use Rattle.std.proofs.Common.{◌≡◌, ◌≢◌, ℕ, ◌-◌, ◌<◌, ◌≤◌, List, Bool, true, false, ◌&&◌, ◌==◌, nat_le, nat_lt, Option, None}
-use Rattle.std.proofs.Common.{Some, ◌⊎◌, inl, inr, refl, sym, ap, ap₂, ◌∙◌, subst, length, get_or, set, arith, get_or-set_same}
+use Rattle.std.proofs.Common.{◌≡◌, ◌≢◌, ℕ, ◌-◌, ◌<◌, ◌≤◌, List, Bool, true, false, ◌&&◌, ◌==◌, nat_le, nat_lt}
+use Rattle.std.proofs.Common.{Option, None}
+use Rattle.std.proofs.Common.{Some, ◌⊎◌, inl, inr, refl, sym, ap, ap₂, ◌∙◌, subst, length, get_or, set, arith}
+use Rattle.std.proofs.Common.{get_or-set_same}
 use Rattle.std.proofs.Common.{get_or-set_other, eq-eqb, ne_eqb, zero, suc, [], ◌∷◌, ◌++◌}
 use Rattle.std.specs.Prelude.{if◌then◌else◌}
 use Rattle.std.proofs.Math.ListN.{length-set}

@@ -1,5 +1,6 @@
 -- What a write of one byte leaves.
-use Rattle.std.proofs.Common.{◌≡◌, ◌≢◌, ℕ, ◌+◌, ◌-◌, ◌<◌, ◌≤◌, List, Bool, true, false, ◌&&◌, ◌==◌, Option, None, Some, ◌⊎◌}
+use Rattle.std.proofs.Common.{◌≡◌, ◌≢◌, ℕ, ◌+◌, ◌-◌, ◌<◌, ◌≤◌, List, Bool, true, false, ◌&&◌, ◌==◌, Option, None}
+use Rattle.std.proofs.Common.{Some, ◌⊎◌}
 use Rattle.std.proofs.Common.{inl, inr, refl, sym, ap, ◌∙◌, subst, length, get_or, set, arith, get_or-set_same}
 use Rattle.std.proofs.Common.{get_or-set_other, eq-eqb, ne_eqb}
 use Rattle.std.specs.Prelude.{IsTrue, if◌then◌else◌}
@@ -29,7 +30,8 @@ pub window-place : (b : ℕ) → is_window b ≡ true → (WINDOWS_ADDRESS ≤ b
 unfolding windows_base windows_size
 window-place b e = let q = within-parts windows_base windows_size b e in (omega (arith, q), omega (arith, q))
 
-pub alone-place : (p : Program) (q h b : ℕ) → alone p q h b ≡ true → (WINDOWS_ADDRESS ≤ b) × (b < WINDOWS_ADDRESS + WINDOWS_BYTES)
+pub alone-place : (p : Program) (q h b : ℕ) → alone p q h b ≡ true → (WINDOWS_ADDRESS ≤ b) ×
+    (b < WINDOWS_ADDRESS + WINDOWS_BYTES)
 alone-place p q h b t = window-place b (and_parts (is_window b) _ t).0
 
 pub base-is : windows_base ≡ WINDOWS_ADDRESS
@@ -108,7 +110,8 @@ module _ (p : Program) (h q b v : ℕ) (last : List Writes) (marks : List (BTree
         stood ∙ (get_or_default marks (b - WINDOWS_ADDRESS) m d room
         ∙ ap (λ (j : ℕ). get_or marks j d) (sym (at-place k e)))
 
-    here-put : (k : ℕ) (d : BTreeMap ℕ ℕ) → k < WINDOWS_BYTES → (x : ℕ) → written (Write b 1 v) (windows_base + k) ≡ Some x
+    here-put : (k : ℕ) (d : BTreeMap ℕ ℕ) → k < WINDOWS_BYTES → (x : ℕ) → written (Write b 1 v) (windows_base + k) ≡
+        Some x
         → IsTrue (alone p q h (windows_base + k))
         → get nat_cmp (get_or (set marks (b - WINDOWS_ADDRESS) n) k d) q ≡ Some x
     here-put k d l x e u =
@@ -132,7 +135,8 @@ module _ (p : Program) (h q b v : ℕ) (last : List Writes) (marks : List (BTree
             (get_or-set_other marks (b - WINDOWS_ADDRESS) k n d (λ e. z (ap (λ (j : ℕ). windows_base + j) e ∙ place)))
         by (inl s) (inr w) =
             ap (λ (y : BTreeMap ℕ ℕ). get nat_cmp y r) (set-at k d s)
-            ∙ (put-there q r v (get nat_cmp m) (get nat_cmp n) mark w ∙ ap (λ (y : BTreeMap ℕ ℕ). get nat_cmp y r) (was-at k d s))
+            ∙ (put-there q r v (get nat_cmp m) (get nat_cmp n) mark w ∙ ap (λ (y : BTreeMap ℕ ℕ). get nat_cmp y r)
+            (was-at k d s))
         by (inl s) (inl w) =
             absurd (none-some (written (Write b 1 v) (windows_base + k)) (none w (ap (alone p q h) s ∙ t))
             (ap (written (Write b 1 v)) s ∙ written-one b v small))

@@ -127,8 +127,8 @@ pub fn may_write(program: &Program, planes: &Planes, q: u64, h: u32, b: u64) -> 
     is_private(h, b)
 }
 
-/// Whether another hart than `h` may write a byte in a phase. Text and tables have no writer, a private area has one, and
-/// so has a byte of the windows in an even phase.
+/// Whether another hart than `h` may write a byte in a phase. Text and tables have no writer, a private area has one,
+/// and so has a byte of the windows in an even phase.
 pub fn another_may(program: &Program, planes: &Planes, q: u64, h: u32, b: u64) -> bool
     requires program { IsProgram program.now }
     requires planes { ArePlanes program.now planes.now }

@@ -19,10 +19,12 @@ use Rattle.tm_words.specs.declared.command.Command.TheVariants as commands
 use Rattle.tm_top_owed.specs.declared.sizes.TheConstants.{TRACE_BYTES}
 use Rattle.tm_top_owed.specs.declared.stop.Stop.{Stop}
 use Rattle.tm_top_owed.specs.declared.stop.Stop.TheVariants as stop
-use Rattle.tm_top_owed.specs.Inputs.{not_judged, refused_trace, trace_over, trace_behind, fault_of_trace, fault_of_image}
+use Rattle.tm_top_owed.specs.Inputs.{not_judged, refused_trace, trace_over, trace_behind, fault_of_trace}
+use Rattle.tm_top_owed.specs.Inputs.{fault_of_image}
 use Rattle.tm_top_owed.specs.Inputs.{first_fault, program_in, text_of}
 use Rattle.tm_top_owed.specs.Changes.{DeskChange, DeskFailed}
-use Rattle.tm_top_owed.specs.Owed.{IsOpened, IsHeldTrace, IsJudgementOf}
+use Rattle.tm_top_owed.specs.Owed.{IsOpened, IsHeldTrace, IsJudgementOf, IsJudgedOf, status_judged}
+use Rattle.tm_top_line.specs.Judgements.{judgement_text}
 use Rattle.tm_top_owed.specs.Owed.InputFailure.{unread, missing}
 use Rattle.tm_top_owed.specs.Steps.{ReadStop, IsHeldImage, InputStop}
 use Rattle.tm_top_owed.proofs.Limits.{long, short}
@@ -191,5 +193,18 @@ judgement_of j program seed tells held middle count events judgement its same tr
           (its_trace j held its.file program seed (its.read told) its.image
           ∙ trace_text j.trace program held here.text (here.read told) here.short
           ∙ ap (not_judged (harts program)) here.its
-          ∙ no_fault (harts program == harts program) (harts program) (one_number (harts program) (harts program) refl));
+          ∙ no_fault (harts program == harts program) (harts program)
+          (one_number (harts program) (harts program) refl));
     }
+
+-- a judgement that is told
+pub judged_of : (j : JudgeOf) (desk : DeskChange) (judgement : Judgement) (text : List ℕ) (status : ℕ)
+    → IsJudgementOf j desk.tells desk.held judgement → text ≡ judgement_text judgement
+    → status ≡ status_judged judgement → IsJudgedOf j desk (record { text = text; status = status; journal = None })
+judged_of j desk judgement text status its its_text its_status = record {
+  judgement = judgement;
+  its = its;
+  its_text = its_text;
+  its_status = its_status;
+  no_journal = refl;
+}
