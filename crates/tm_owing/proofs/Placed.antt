@@ -3,11 +3,13 @@ use Rattle.std.proofs.Common.{◌≡◌, ◌≢◌, ℕ, ◌-◌, ◌<◌, ◌�
 use Rattle.std.proofs.Common.{Option, None}
 use Rattle.std.proofs.Common.{Some, ◌⊎◌, inl, inr, refl, sym, ap, ap₂, ◌∙◌, subst, length, get_or, set, arith}
 use Rattle.std.proofs.Common.{get_or-set_same}
-use Rattle.std.proofs.Common.{get_or-set_other, eq-eqb, ne_eqb, zero, suc, [], ◌∷◌, ◌++◌}
+use Rattle.std.proofs.Common.{get_or-set_other, eq-eqb, ne_eqb}
 use Rattle.std.specs.Prelude.{if◌then◌else◌}
 use Rattle.std.proofs.Math.ListN.{length-set}
 use Rattle.std.proofs.lemmas.Bool.{cases_eq, cases_lt}
 use Rattle.std.proofs.lemmas.Bool.Decides.{nat_tests}
+use Rattle.std.proofs.lemmas.List.{get_or_default}
+use Rattle.std.proofs.Common.{Result, Ok, Err, OnOk}
 use Rattle.tm_owing.specs.declared.writes.Latest.{Latest}
 use Rattle.tm_owing.specs.Writes.{HasNothing, place_of, at_place}
 
@@ -104,13 +106,32 @@ module _ (from b : ℕ) (near : List (Option Latest)) (far : ℕ → Option Late
 
 -- ---- no write
 
-pub nothing-more : (near : List (Option Latest)) → HasNothing near → HasNothing (near ++ None ∷ [])
-nothing-more [] h zero = refl
-nothing-more [] h (suc k) = refl
-nothing-more (x ∷ xs) h zero = h zero
-nothing-more (x ∷ xs) h (suc k) = nothing-more xs (λ j. h (suc j)) k
-
 pub nothing-at : (near : List (Option Latest)) (far : Option Latest) (o : Option ℕ) → HasNothing near → far ≡ None
     → at_place near far o ≡ None
 nothing-at near far None h e = e
 nothing-at near far (Some i) h e = h i
+
+-- ---- what is found
+
+pub found-near : (from b : ℕ) (near : List (Option Latest)) (far : Option Latest) (n i : ℕ) (x : Option Latest)
+    → n ≡ length near → place_of from n b ≡ Some i → i < n → x ≡ get_or near i x
+    → x ≡ at_place near far (place_of from (length near) b)
+found-near from b near far n i x long at l is =
+    let place : place_of from (length near) b ≡ Some i = ap (λ (m : ℕ). place_of from m b) (sym long) ∙ at in
+    is ∙ get_or_default near i x None (omega (arith, long, l)) ∙ sym (ap (at_place near far) place)
+
+pub found-away : (from b : ℕ) (near : List (Option Latest)) (far : Option Latest) (n : ℕ) (x : Option Latest)
+    → n ≡ length near → place_of from n b ≡ None → x ≡ far → x ≡ at_place near far (place_of from (length near) b)
+found-away from b near far n x long none is =
+    let place : place_of from (length near) b ≡ None = ap (λ (m : ℕ). place_of from m b) (sym long) ∙ none in
+    is ∙ sym (ap (at_place near far) place)
+
+-- the place, by the list's length
+pub placed : (from b : ℕ) (near : List (Option Latest)) (n : ℕ) (o : Option ℕ) → n ≡ length near
+    → place_of from n b ≡ o → place_of from (length near) b ≡ o
+placed from b near n o long at = ap (λ (m : ℕ). place_of from m b) (sym long) ∙ at
+
+-- what follows where a result is there
+pub on-ok : {X E : Type 0} (P Q : Type 0) (r : Result X E) → (P → Q) → OnOk r P → OnOk r Q
+on-ok P Q (Ok x) f h = f h
+on-ok P Q (Err e) f h = tt

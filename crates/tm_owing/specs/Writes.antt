@@ -3,6 +3,7 @@ use Rattle.std.specs.Prelude.{◌≡◌, ℕ, ◌-◌, ◌==◌, ◌&&◌, nat_l
 use Rattle.std.specs.Prelude.{if◌then◌else◌}
 use Rattle.std.specs.BTreeMap.{BTreeMap, get}
 use Rattle.std.specs.Ordering.{nat_cmp}
+use Rattle.tm_plan_map.specs.declared.addresses.TheConstants.{WINDOWS_ADDRESS}
 use Rattle.tm_owing.specs.declared.writes.Latest.{Latest}
 use Rattle.tm_owing.specs.declared.writes.Writes.{Writes}
 
@@ -15,9 +16,13 @@ abbrev pub at_place : List (Option Latest) → Option Latest → Option ℕ → 
 at_place near far None = far
 at_place near far (Some i) = slice_index_or near i None
 
--- the last write of a byte: by its place in the area, and else as the map has it
+-- the last write of a byte outside of the private area: by its place in the windows, and else as the map has it
+unfoldable pub away_at : List (Option Latest) → BTreeMap ℕ Latest → ℕ → Option Latest
+away_at shared far b = at_place shared (get nat_cmp far b) (place_of WINDOWS_ADDRESS (length shared) b)
+
+-- the last write of a byte: by its place in the private area, and else outside of it
 unfoldable pub last_at : Writes → ℕ → Option Latest
-last_at w b = at_place w.near.items (get nat_cmp w.far b) (place_of w.from (length w.near.items) b)
+last_at w b = at_place w.near.items (away_at w.shared.items w.far b) (place_of w.from (length w.near.items) b)
 
 -- a list that has no write
 abbrev pub HasNothing : List (Option Latest) → Type 0

@@ -2,12 +2,12 @@
 ghost use Rattle.std.specs.Prelude.{◌≡◌, ◌==◌, ◌<◌, ℕ, None, Some, IfOk, IfSome, OnOk, if◌then◌else◌};
 ghost use Rattle.std.specs.BTreeMap.{get};
 ghost use Rattle.std.specs.Ordering.{nat_cmp};
-ghost use Rattle.tm_owing.specs.Writes.{HasNothing, IsPut, last_at, place_of as place_in};
+ghost use Rattle.tm_owing.specs.Writes.{HasNothing, IsPut, away_at, last_at, place_of as place_in};
 
 use std::alloc::Global;
 use std::collections::BTreeMap;
 use tm_base::NoMemory;
-use tm_plan_map::PRIVATE_BYTES;
+use tm_plan_map::{PRIVATE_BYTES, WINDOWS_ADDRESS, WINDOWS_BYTES};
 
 /// A write of a byte: the phase in which it stood, and what was written.
 #[derive(Clone, Copy)]
@@ -16,12 +16,13 @@ pub struct Latest {
     pub value: u8,
 }
 
-/// The last write of each byte by a hart: those to its private area, which are nearly all, in a list by their places
-/// from the area's begin on, and all others in a map.
+/// The last write of each byte by a hart: those to its private area, where nearly all of them go, and to the windows in
+/// lists by their places, and all others in a map.
 #[derive(Drop)]
 pub struct Writes {
     pub from: u64,
     pub near: Vec<Option<Latest>>,
+    pub shared: Vec<Option<Latest>>,
     pub far: BTreeMap<u64, Latest>,
 }
 
@@ -30,10 +31,12 @@ impl Writes {
     pub fn none(alloc: Global, from: u64) -> Result<Writes, NoMemory>
         ensures { IfOk result (λ w. (b : ℕ) → last_at w b ≡ None) }
     {
-        let near = nothing_near(alloc)?;
+        let near = nothing(alloc, PRIVATE_BYTES)?;
+        let shared = nothing(alloc, WINDOWS_BYTES)?;
         Ok(Writes {
             from,
             near,
+            shared,
             far: nothing_far(alloc),
         })
     }
@@ -44,7 +47,7 @@ impl Writes {
     {
         match place_of(self.from, self.near.len(), b) {
             Some(place) => self.near[place],
-            None => far_of(&self.far, b),
+            None => last_away(&self.shared, &self.far, b),
         }
     }
 
@@ -58,20 +61,49 @@ impl Writes {
                 self.near[place] = Some(write);
                 Ok(())
             }
-            None => put_far(&mut self.far, b, write),
+            None => put_away(&mut self.shared, &mut self.far, b, write),
         }
     }
 }
 
-/// A list that has no write, with a place for each byte of a private area.
-fn nothing_near(alloc: Global) -> Result<Vec<Option<Latest>>, NoMemory>
+/// The last write of a byte outside of the private area.
+fn last_away(shared: &Vec<Option<Latest>>, far: &BTreeMap<u64, Latest>, b: u64) -> Option<Latest>
+    ensures { result ≡ away_at shared.now.items far.now b }
+{
+    match place_of(WINDOWS_ADDRESS, shared.len(), b) {
+        Some(place) => shared[place],
+        None => far_of(far, b),
+    }
+}
+
+/// Keeps a write of a byte outside of the private area.
+fn put_away(
+    shared: &mut Vec<Option<Latest>>,
+    far: &mut BTreeMap<u64, Latest>,
+    b: u64,
+    write: Latest,
+) -> Result<(), NoMemory>
+    ensures { OnOk result ((k : ℕ) → away_at shared.new.items far.new k
+        ≡ (if k == b then Some write else away_at shared.old.items far.old k)) }
+{
+    match place_of(WINDOWS_ADDRESS, shared.len(), b) {
+        Some(place) => {
+            shared[place] = Some(write);
+            Ok(())
+        }
+        None => put_far(far, b, write),
+    }
+}
+
+/// A list of so many places that has no write.
+fn nothing(alloc: Global, n: u64) -> Result<Vec<Option<Latest>>, NoMemory>
     ensures { IfOk result (λ v. HasNothing v.items) }
 {
-    let mut near = match Vec::with_capacity(alloc, PRIVATE_BYTES as usize) {
+    let mut near = match Vec::with_capacity(alloc, n as usize) {
         Ok(near) => near,
         Err(_) => return Err(NoMemory),
     };
-    for i in 0..PRIVATE_BYTES {
+    for i in 0..n {
         match near.push(None) {
             Ok(()) => {}
             Err(_) => return Err(NoMemory),
