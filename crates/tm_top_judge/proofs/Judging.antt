@@ -1,8 +1,7 @@
 -- The trace that is judged, its fault, and the judgement.
 use Rattle.std.proofs.Common.{◌≡◌, ◌≢◌, ◌≤◌, ◌<◌, ◌==◌, ◌∙◌, ap, sym, refl, ℕ, List, Bool, true, false, Option, None}
-use Rattle.std.proofs.Common.{Some, Result, Ok, Err, IsTrue, length, inl, inr, arith, cond}
+use Rattle.std.proofs.Common.{Some, Ok, IsTrue, length, inl, inr, arith, cond, eq-eqb, ne_eqb}
 use Rattle.std.specs.Prelude.{IsSomeAnd}
-use Rattle.std.proofs.lemmas.Bool.{eq-eqb}
 use Rattle.tm_desk.specs.Causes.{Files}
 use Rattle.tm_desk.specs.declared.desk.DeskError.TheVariants.{TooLong, Failed}
 use Rattle.tm_plan_cases.specs.declared.program.Program.{Program}
@@ -147,11 +146,8 @@ harts_stop (stop.Refused by fault) j program seed desk middle count events its s
       has_line = refl;
       first = λ told. over_is j program seed desk.tells desk.held its middle same (Judge (Harts count)) told
           (trace_text j.trace program middle trace.text (trace.read told) trace.short
-          ∙ ap (not_judged (harts program)) trace.its ∙ others (count == harts program) count (differ other));
+          ∙ ap (not_judged (harts program)) trace.its ∙ others (count == harts program) count (ne_eqb count (harts program) other));
     })
-  where
-    differ : count ≢ harts program → (count == harts program) ≡ false
-    differ h = grind (arith)
 harts_stop (stop.Failed by) j program seed desk middle count events its same trace h = absurd h
 harts_stop stop.NoMemory j program seed desk middle count events its same trace h = tt
 
