@@ -146,7 +146,8 @@ harts_stop (stop.Refused by fault) j program seed desk middle count events its s
       has_line = refl;
       first = λ told. over_is j program seed desk.tells desk.held its middle same (Judge (Harts count)) told
           (trace_text j.trace program middle trace.text (trace.read told) trace.short
-          ∙ ap (not_judged (harts program)) trace.its ∙ others (count == harts program) count (ne_eqb count (harts program) other));
+          ∙ ap (not_judged (harts program)) trace.its ∙ others (count == harts program) count
+          (ne_eqb count (harts program) other));
     })
 harts_stop (stop.Failed by) j program seed desk middle count events its same trace h = absurd h
 harts_stop stop.NoMemory j program seed desk middle count events its same trace h = tt

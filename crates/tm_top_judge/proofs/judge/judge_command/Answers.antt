@@ -14,5 +14,6 @@ returns-clause-stopped g c =
     (record { text = c.in-Ok-told.text; status = status_judged c.in-Ok.judgement; journal = None })
     (judged_of c.args.judge.now
     (desk_change g.D.Desk.tells g.D.Desk.held g.D.Desk.faults c.args.desk.now c.read_judgement.new.desk)
-    c.in-Ok.judgement c.in-Ok-told.text (status_judged c.in-Ok.judgement) c.in-Ok.ensures.ok c.in-Ok-told.ensures.ok refl)
+    c.in-Ok.judgement c.in-Ok-told.text (status_judged c.in-Ok.judgement) c.in-Ok.ensures.ok c.in-Ok-told.ensures.ok
+    refl)
     c.in-Err-print_text.ensures.front c.in-Err-print_text.ensures.cause

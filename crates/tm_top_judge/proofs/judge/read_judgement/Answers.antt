@@ -19,7 +19,8 @@ returns-in-Err-read_named-clause-cause g c =
 
 pub returns-in-Ok-judged-clause-ok : goal.returns-in-Ok-judged-clause-ok
 returns-in-Ok-judged-clause-ok g c =
-    judgement_of c.args.judge.now c.in-Ok.image.program c.in-Ok.image.seed g.D.Desk.tells (g.D.Desk.held c.args.desk.now)
+    judgement_of c.args.judge.now c.in-Ok.image.program c.in-Ok.image.seed g.D.Desk.tells
+    (g.D.Desk.held c.args.desk.now)
     (g.D.Desk.held c.open_input.new.desk) c.in-Ok-read_named.trace.harts c.in-Ok-read_named.trace.events.events
     c.in-Ok-judged.judgement (rw c.as_str.ensures at c.in-Ok.ensures.ok) c.in-Ok.ensures.unchanged
     (rw c.as_str-2.ensures at c.in-Ok-read_named.ensures.ok) c.in-Ok-judged.ensures.ok
