@@ -29,8 +29,9 @@ WINDOWS = "window 0 true 4\nwindow 1 false 4\nwindow 2 own 8\n"
 WIDE = "cores = 8\nthreads = 1\nline = 64\n"
 QEMU_SECONDS = 5
 MEGABYTE = 1e6
-# A trace that is read back has so many of these lines.
+# A trace that is read back has so many of these lines; one that is judged, so many events.
 TRACE_EVENTS = 800_000
+JUDGED_EVENTS = 4_000_000
 TRACE_LINE = "0 0000000080000578 0083b023 w 0000000080c01000 8 0000000000000000"
 READER = Path(__file__).resolve().parent.parent / "crates" / "tm_cases_scripts" / "out" / "tm_cases_scripts"
 KEPT = Path(__file__).resolve().parent.parent / "docs" / "gate.md"
@@ -266,6 +267,28 @@ def read_back(folder, figures):
     figures.note("trace read back", rate, "MB a second, at least")
 
 
+def judged(program, image, harts, folder, figures):
+    """A trace of as many events as a run has by default, judged; and one without events, which opens the image alone."""
+    trace, nothing = folder / "judged.trace", folder / "nothing.trace"
+    nothing.write_text(f"trace 1 harts {harts} events 0\nend\n")
+    run = [program, "run", image, "--order", "round", "--events", str(JUDGED_EVENTS), "--trace", trace]
+    measured(run, 1)
+    with open(trace, "rb") as file:
+        events = int(file.readline().split()[-1])
+    size = trace.stat().st_size
+    opening = measured([program, "judge", image, nothing])
+    seconds, out, memory, status = measured([program, "judge", image, trace], 3)
+    trace.unlink()
+    rate = events / max(seconds - opening[0], 1e-6) / 1e6
+    beyond = (memory - opening[2]) * 2**20 - size
+    print(f"judge: {events} events in {size} bytes in {seconds:.3f} s, {opening[0]:.3f} s of them without events; "
+          f"{rate:.2f} million a second; {memory:.0f} MiB at most; status {status}: {out.split()}")
+    if events == JUDGED_EVENTS:
+        figures.note("judge of 4,000,000 events", seconds, "s, at most")
+    figures.note(f"judge {image.stem}", rate, "million events a second, at least")
+    figures.note(f"judge {image.stem}", beyond / events, "bytes for an event beyond its text, at most")
+
+
 def traced(folder, image, harts):
     """QEMU's own trace of the same image, one instruction a block."""
     program = shutil.which("qemu-system-riscv64")
@@ -307,6 +330,8 @@ def main():
     read_back(asked.folder, figures)
     shared(asked.program, image, figures)
     traced(asked.folder, image, 4)
+    image = built(asked.program, asked.folder, "wide", WIDE, long(), figures)
+    judged(asked.program, image, 8, asked.folder, figures)
     return figures.status()
 
 

@@ -3,12 +3,14 @@
 from . import template, texts, topology
 from .faults import Fault
 from .image import Image, open_image, topology_of
+from .judge import judged
 from .numbers import number_or_none
 from .scripts import LONGEST, read_script
 from .simulator import Run
-from .traces import trace_text
+from .traces import read_trace, trace_text
 
 LONGEST_IMAGE = 16_777_216
+LONGEST_TRACE = 268_435_456
 MOST_EVENTS = 4_000_000
 
 
@@ -27,6 +29,7 @@ FORMS = {
     "list": (1, ()),
     "run": (1, ("--events", "--order", "--faults", "--trace")),
     "sample": (1, ()),
+    "judge": (2, ()),
 }
 
 
@@ -66,7 +69,7 @@ def parts_of(command, names, options, orders):
     """What a command asks for, or None."""
     if command == "run":
         return read_run(*names, options, orders)
-    if command == "list":
+    if command in ("list", "judge"):
         return names
     number = number_of(options.get("--seed", "") if command == "build" else names[0])
     if number is None:
@@ -93,6 +96,14 @@ def read_faults(text, cases):
         return read_script(text, cases)
     except Fault as fault:
         raise Fault("Lex", fault=fault) if fault.name in ("BadByte", "LongWord") else fault from None
+
+
+def read_trace_of(text, harts):
+    """The events of a trace of so many harts, or its first fault."""
+    count, events = read_trace(text)
+    if count != harts:
+        raise Fault("Harts", harts=count)
+    return events
 
 
 class Call:
@@ -188,3 +199,10 @@ class Call:
         run = Run(Image(*texts.sample_texts(n), n), MOST_EVENTS)
         status = self.told(run, lambda r: texts.sample_line(n, r))
         return 0 if status == 1 else status
+
+    def judge(self, name, trace):
+        image = self.opened(name)
+        text = self.read("trace", trace, LONGEST_TRACE)
+        lines, is_yes = judged(image, self.asked("trace", read_trace_of, text, image.cases.harts))
+        self.print(lines)
+        return 0 if is_yes else 1

@@ -504,5 +504,5 @@ PROGRAMS = {
     "tm_cases_scripts": (["scripts", "traces", "races"], SCRIPTS | RACES),
     "tm_cases_elf": (["elf"], ELF),
     "tm_cases_desks": (["desks"], DESKS),
-    "tm_cases_commands": (["texts", "commands", "runs", "tests", "words", "faults"], COMMANDS),
+    "tm_cases_commands": (["texts", "commands", "runs", "tests", "words", "faults", "judged"], COMMANDS),
 }

@@ -9,6 +9,7 @@ USAGE = """usage: threadmill build TOPO TEMPLATE OUT --seed S
        threadmill list IMAGE
        threadmill run IMAGE [--events N] [--order threads|round] [--faults F] [--trace OUT]
        threadmill sample N
+       threadmill judge IMAGE TRACE
 """
 
 

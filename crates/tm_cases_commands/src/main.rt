@@ -41,6 +41,8 @@ impl Kinds for CommandCases {
 }
 
 fn main(rt: HostRuntime) -> ExitCode {
-    let files = ["texts", "commands", "runs", "tests", "words", "faults"];
+    let files = [
+        "texts", "commands", "runs", "tests", "words", "faults", "judged",
+    ];
     answer_files(rt, &files, &CommandCases)
 }

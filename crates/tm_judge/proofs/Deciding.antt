@@ -166,10 +166,12 @@ stray-first q p past e why s = record {
 -- what follows the table strays nowhere
 pub none-stray : (q : Question) (p : Program) (past : List Step) (e : Event) (w : Why) → rank w ≤ 5
     → Goes OfPath p past e → ¬ Holds q p past e w
-none-stray q p past e w l g h = no-follow p (state_after past e.hart) (step_of past e) w (holds-stray q p past e w l h) g
+none-stray q p past e w l g h = no-follow p (state_after past e.hart) (step_of past e) w
+    (holds-stray q p past e w l h) g
 
 -- An answer with a fault stays, whatever comes after.
 pub answered-rest : (q : Question) (p : Program) (events rest : List Event) (a : Answer) (place : ℕ) (why : Why)
-    → Answered q p events (answer_with a place (Some why)) → Answered q p (events ++ rest) (answer_with a place (Some why))
+    → Answered q p events (answer_with a place (Some why)) → Answered q p (events ++ rest)
+    (answer_with a place (Some why))
 answered-rest q p events rest (No before was) place why b = breaks-more q p events rest before was b
 answered-rest q p events rest Yes place why b = breaks-more q p events rest place why b

@@ -13,7 +13,7 @@ use Rattle.tm_trace.specs.Traced.{IsTrace, IsTraced}
 use Rattle.tm_world.specs.Place.{harts, exit_of}
 use Rattle.tm_world.specs.Run.{Step, hart_of, access_of, Reads, read_value}
 use Rattle.tm_world.specs.Kinds.{Follows, phase_of}
-use Rattle.tm_owing.specs.declared.owing.Latest.{Latest}
+use Rattle.tm_owing.specs.declared.writes.Writes.{Writes}
 use Rattle.tm_owing.specs.Owed.{Notes, Owes}
 use Rattle.tm_owing.proofs.OwedMore.{owes-more}
 use Rattle.tm_world.specs.Replay.{state_after, outcome}
@@ -101,12 +101,13 @@ module _ (p : Program) (events : List Event) (i : ℕ) (e : Event) (l : i < leng
           subst (λ (steps : List Step). IsMemory p steps t) (sym steps-next)
           (memory-more p (record { event = e; after = next }) (steps_of (take i events)) r t written memory)
 
-      pub owes-next : (last news : List (BTreeMap ℕ Latest)) (marks settles : List (BTreeMap ℕ ℕ)) → e.hart < harts p
+      pub owes-next : (last news : List Writes) (marks settles : List (BTreeMap ℕ ℕ)) → e.hart < harts p
           → Notes p e.hart (phase_of p (steps_of (take i events)) e.hart) e.access last news marks settles
           → Owes p (steps_of (take i events)) last marks → Owes p (steps_of (take (i + 1) events)) news settles
       owes-next last news marks settles h notes owes =
           subst (λ (steps : List Step). Owes p steps news settles) (sym steps-next)
-          (owes-more p (record { event = e; after = next }) (steps_of (take i events)) last news marks settles h notes owes)
+          (owes-more p (record { event = e; after = next }) (steps_of (take i events)) last news marks settles h
+          notes owes)
 
 -- at the end
 pub answer-end : (p : Program) (events : List Event) (i : ℕ) (q : Question) (a : Answer) → length events ≤ i

@@ -24,4 +24,5 @@ JournalsAreJudged p = Sound p → (events : List Event) (j : Judgement) → Faul
 
 -- To each question about a recorded run there is one true answer at most.
 abbrev pub OneAnswer : Program → Type 0
-OneAnswer p = (q : Question) (events : List Event) (a b : Answer) → Answered q p events a → Answered q p events b → a ≡ b
+OneAnswer p = (q : Question) (events : List Event) (a b : Answer) → Answered q p events a → Answered q p events b
+    → a ≡ b

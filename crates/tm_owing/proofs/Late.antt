@@ -1,5 +1,6 @@
 -- After the last run phase a byte of the windows has one writer at most.
-use Rattle.std.proofs.Common.{◌≡◌, ◌≢◌, ℕ, zero, suc, ◌+◌, ◌*◌, ◌/◌, ◌%◌, ◌<◌, ◌≤◌, List, [], ◌∷◌, length, Bool, true, false}
+use Rattle.std.proofs.Common.{◌≡◌, ◌≢◌, ℕ, zero, suc, ◌+◌, ◌*◌, ◌/◌, ◌%◌, ◌<◌, ◌≤◌, List, [], ◌∷◌, length, Bool}
+use Rattle.std.proofs.Common.{true, false}
 use Rattle.std.proofs.Common.{◌&&◌, ◌||◌, ◌==◌, ◌⊎◌, inl, inr, refl, sym, ap, ◌∙◌, subst, arith, nat_lt}
 use Rattle.std.specs.Prelude.{if◌then◌else◌, Option, None, Some}
 use Rattle.std.proofs.lemmas.Bool.{cases_eq, cases_lt, eq-eqb, ne_eqb, and_right, le-ltb}
@@ -16,7 +17,7 @@ use Rattle.tm_owing.specs.May.{is_many}
 use Rattle.tm_owing.proofs.Putting.{window-place}
 
 -- what a byte of the windows may be written by
-window-may : (p : Program) (q h b : ℕ) → IsProgram p → h < 8 → is_window b ≡ true
+pub window-may : (p : Program) (q h b : ℕ) → IsProgram p → h < 8 → is_window b ≡ true
     → may_write p q h b ≡ may_write_window p q h b
 unfolding flag_at verdict_at private_at private_size
 window-may p q h b shaped l e =
@@ -36,7 +37,8 @@ late-may : (p : Program) (q h b : ℕ) → (q % 2 ≡ 0 → ⊥) → round_count
 late-may p q h b odd late =
     let case : case_of_phase p q ≡ None =
     ap (λ (t : Bool). if t then Some (q / 2 / passes p) else None)
-    (and_right (q % 2 == 1) (nat_lt (q / 2) (round_count p * passes p)) (le-ltb (q / 2) (round_count p * passes p) late))
+    (and_right (q % 2 == 1) (nat_lt (q / 2) (round_count p * passes p))
+    (le-ltb (q / 2) (round_count p * passes p) late))
     in
     ap (λ (t : Bool). if t then collector p.cases b == h else may_write_running p (case_of_phase p q) h b)
     (ne_eqb (q % 2) 0 odd)

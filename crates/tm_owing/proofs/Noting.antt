@@ -1,5 +1,6 @@
 -- What a write leaves, byte after byte.
-use Rattle.std.proofs.Common.{◌≡◌, ◌≢◌, ℕ, suc, ◌+◌, ◌-◌, ◌/◌, ◌%◌, ◌^◌, ◌<◌, ◌≤◌, List, Option, None, Some, ◌⊎◌, inl, inr}
+use Rattle.std.proofs.Common.{◌≡◌, ◌≢◌, ℕ, suc, ◌+◌, ◌-◌, ◌/◌, ◌%◌, ◌^◌, ◌<◌, ◌≤◌, List, Option, None, Some, ◌⊎◌}
+use Rattle.std.proofs.Common.{inl, inr}
 use Rattle.std.proofs.Common.{refl, sym, ap, ◌∙◌, subst, length, get_or, arith}
 use Rattle.std.specs.Prelude.{IsTrue}
 use Rattle.std.specs.BTreeMap.{BTreeMap, get}
@@ -14,7 +15,9 @@ use Rattle.tm_runs.proofs.Bytes.{byte-shift}
 use Rattle.tm_world.proofs.Accesses.{written-inside, written-outside}
 use Rattle.tm_world.specs.Place.{byte_of}
 use Rattle.tm_world.specs.Run.{written}
-use Rattle.tm_owing.specs.declared.owing.Latest.{Latest}
+use Rattle.tm_owing.specs.declared.writes.Latest.{Latest}
+use Rattle.tm_owing.specs.declared.writes.Writes.{Writes}
+use Rattle.tm_owing.specs.Writes.{last_at}
 use Rattle.tm_owing.specs.May.{alone}
 use Rattle.tm_owing.specs.Owed.{Notes, newer}
 
@@ -63,11 +66,11 @@ written-else at v b n = written-outside at 1 v b (by (cases_lt b at))
 
 -- ---- what they leave
 
-pub notes-quiet : (p : Program) (h q : ℕ) (access : Access) (last : List (BTreeMap ℕ Latest))
+pub notes-quiet : (p : Program) (h q : ℕ) (access : Access) (last : List Writes)
     (marks : List (BTreeMap ℕ ℕ)) → ((b : ℕ) → written access b ≡ None) → Notes p h q access last last marks marks
 notes-quiet p h q access last marks none = record {
   lasts = refl;
-  mine = λ d b. sym (ap (λ (w : Option ℕ). newer w q (get nat_cmp (get_or last h d) b)) (none b));
+  mine = λ d b. sym (ap (λ (w : Option ℕ). newer w q (last_at (get_or last h d) b)) (none b));
   others = λ g d b n. refl;
   counts = refl;
   here = λ k d l v e t. absurd (some-none (written access (windows_base + k)) v (none (windows_base + k)) e);
@@ -77,36 +80,36 @@ notes-quiet p h q access last marks none = record {
     some-none : (o : Option ℕ) (v : ℕ) → o ≡ None → o ≡ Some v → ⊥
     some-none o v d e = cc
 
-pub notes-none : (p : Program) (h q addr value : ℕ) (last : List (BTreeMap ℕ Latest)) (marks : List (BTreeMap ℕ ℕ))
+pub notes-none : (p : Program) (h q addr value : ℕ) (last : List Writes) (marks : List (BTreeMap ℕ ℕ))
     → Notes p h q (Write addr 0 value) last last marks marks
 notes-none p h q addr value last marks =
     notes-quiet p h q (Write addr 0 value) last marks (written-none addr value)
 
-module _ (p : Program) (h q addr i value v : ℕ) (a b c : List (BTreeMap ℕ Latest)) (m n o : List (BTreeMap ℕ ℕ))
+module _ (p : Program) (h q addr i value v : ℕ) (a b c : List Writes) (m n o : List (BTreeMap ℕ ℕ))
     (small : v < 256) (is : v ≡ byte_of value i) (first : Notes p h q (Write addr i value) a b m n)
     (then : Notes p h q (Write (addr + i) 1 v) b c n o) where
   whole-here : written (Write addr (i + 1) value) (addr + i) ≡ Some v
   whole-here = written-last addr i value ∙ ap (λ (x : ℕ). Some x) (sym is)
 
-  mine-more : (d : BTreeMap ℕ Latest) (k : ℕ)
-      → get nat_cmp (get_or c h d) k ≡ newer (written (Write addr (i + 1) value) k) q (get nat_cmp (get_or a h d) k)
+  mine-more : (d : Writes) (k : ℕ)
+      → last_at (get_or c h d) k ≡ newer (written (Write addr (i + 1) value) k) q (last_at (get_or a h d) k)
   mine-more d k = by (cases_eq k (addr + i))
     where
       by : (k ≡ addr + i) ⊎ (k ≡ addr + i → ⊥)
-          → get nat_cmp (get_or c h d) k ≡ newer (written (Write addr (i + 1) value) k) q (get nat_cmp (get_or a h d) k)
+          → last_at (get_or c h d) k ≡ newer (written (Write addr (i + 1) value) k) q (last_at (get_or a h d) k)
       by (inl e) =
           let now : written (Write (addr + i) 1 v) k ≡ Some v =
           ap (written (Write (addr + i) 1 v)) e ∙ written-one (addr + i) v small in
           let all : written (Write addr (i + 1) value) k ≡ Some v =
           ap (written (Write addr (i + 1) value)) e ∙ whole-here in
           then.mine d k
-          ∙ (ap (λ (w : Option ℕ). newer w q (get nat_cmp (get_or b h d) k)) now
-          ∙ sym (ap (λ (w : Option ℕ). newer w q (get nat_cmp (get_or a h d) k)) all))
+          ∙ (ap (λ (w : Option ℕ). newer w q (last_at (get_or b h d) k)) now
+          ∙ sym (ap (λ (w : Option ℕ). newer w q (last_at (get_or a h d) k)) all))
       by (inr z) =
           then.mine d k
-          ∙ (ap (λ (w : Option ℕ). newer w q (get nat_cmp (get_or b h d) k)) (written-else (addr + i) v k z)
+          ∙ (ap (λ (w : Option ℕ). newer w q (last_at (get_or b h d) k)) (written-else (addr + i) v k z)
           ∙ (first.mine d k
-          ∙ sym (ap (λ (w : Option ℕ). newer w q (get nat_cmp (get_or a h d) k)) (written-before addr i value k z))))
+          ∙ sym (ap (λ (w : Option ℕ). newer w q (last_at (get_or a h d) k)) (written-before addr i value k z))))
 
   here-more : (k : ℕ) (d : BTreeMap ℕ ℕ) → k < WINDOWS_BYTES → (x : ℕ)
       → written (Write addr (i + 1) value) (windows_base + k) ≡ Some x → IsTrue (alone p q h (windows_base + k))

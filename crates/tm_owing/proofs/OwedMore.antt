@@ -1,6 +1,7 @@
 -- What is owed, one step more.
 use Rattle.std.proofs.Common.{◌≡◌, ◌≢◌, ℕ, suc, ◌+◌, ◌<◌, ◌≤◌, List, [], ◌∷◌, Bool, true, false, ◌&&◌, ◌||◌, ◌==◌, not}
-use Rattle.std.proofs.Common.{Option, None, Some, ◌⊎◌, inl, inr, refl, sym, ap, ◌∙◌, subst, length, get_or, arith, eq-eqb}
+use Rattle.std.proofs.Common.{Option, None, Some, ◌⊎◌, inl, inr, refl, sym, ap, ◌∙◌, subst, length, get_or, arith}
+use Rattle.std.proofs.Common.{eq-eqb}
 use Rattle.std.specs.Prelude.{IsTrue, IsFalse, if◌then◌else◌}
 use Rattle.std.specs.BTreeMap.{BTreeMap, get}
 use Rattle.std.specs.Ordering.{nat_cmp}
@@ -16,7 +17,9 @@ use Rattle.tm_world.specs.Place.{harts, exit_of, is_window}
 use Rattle.tm_world.specs.Run.{Step, own, hart_of, access_of, written}
 use Rattle.tm_world.specs.Writers.{writers, wrote, may_write}
 use Rattle.tm_world.specs.Kinds.{another, phase_of}
-use Rattle.tm_owing.specs.declared.owing.Latest.{Latest}
+use Rattle.tm_owing.specs.declared.writes.Latest.{Latest}
+use Rattle.tm_owing.specs.declared.writes.Writes.{Writes}
+use Rattle.tm_owing.specs.Writes.{last_at}
 use Rattle.tm_owing.specs.May.{alone}
 use Rattle.tm_owing.specs.Owed.{newer, latest, IsLatest, sole, solo, IsMarked, Owes, Notes}
 use Rattle.tm_owing.proofs.Lasts.{latest-here, latest-there, wrote-here, wrote-there, wrote-then}
@@ -95,17 +98,17 @@ module _ (p : Program) (s : Step) (past : List Step) (b : ℕ) where
 
 -- ---- all of it
 
-module _ (p : Program) (s : Step) (past : List Step) (last news : List (BTreeMap ℕ Latest))
+module _ (p : Program) (s : Step) (past : List Step) (last news : List Writes)
     (marks settles : List (BTreeMap ℕ ℕ)) (l : hart_of s < harts p)
     (n : Notes p (hart_of s) (phase_of p past (hart_of s)) (access_of s) last news marks settles)
     (o : Owes p past last marks) where
-  last-more : (g : ℕ) (d : BTreeMap ℕ Latest) → g < harts p → IsLatest p (s ∷ past) g (get_or news g d)
+  last-more : (g : ℕ) (d : Writes) → g < harts p → IsLatest p (s ∷ past) g (get_or news g d)
   last-more g d m = record { each = λ b. by b (cases_eq g (hart_of s)) }
     where
       by : (b : ℕ) → (g ≡ hart_of s) ⊎ (g ≡ hart_of s → ⊥)
-          → get nat_cmp (get_or news g d) b ≡ latest (exit_of p g) b (own g (s ∷ past))
+          → last_at (get_or news g d) b ≡ latest (exit_of p g) b (own g (s ∷ past))
       by b (inl e) =
-          subst (λ (k : ℕ). get nat_cmp (get_or news k d) b ≡ latest (exit_of p k) b (own k (s ∷ past))) (sym e)
+          subst (λ (k : ℕ). last_at (get_or news k d) b ≡ latest (exit_of p k) b (own k (s ∷ past))) (sym e)
           (n.mine d b
           ∙ (ap (newer (written (access_of s) b) (phase_of p past (hart_of s))) ((o.last.each (hart_of s) d l).each b)
           ∙ sym (latest-here p s past b)))

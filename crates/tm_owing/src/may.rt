@@ -15,7 +15,7 @@ use crate::areas::{is_flag, is_private, is_verdict, is_window};
 use std::alloc::Global;
 use tm_base::{List, NoMemory};
 use tm_plan_cases::{Case, Program};
-use tm_plan_map::WINDOWS_ADDRESS;
+use tm_plan_map::{FLAGS_ADDRESS, WINDOWS_ADDRESS};
 use tm_plane::{Plane, has, is_declared};
 use tm_race_walk::store_plane;
 
@@ -54,7 +54,8 @@ fn store_planes(alloc: Global, case: &Case) -> Result<List<Plane>, NoMemory>
 fn collector(program: &Program, b: u64) -> u64
     requires program { IsProgram program.now }
     requires window { IsTrue (is_window_of b) }
-    ensures { result ≡ collector_of program.now.cases b }
+    ensures value { result ≡ collector_of program.now.cases b }
+    ensures hart { result < harts program.now }
 {
     (b - WINDOWS_ADDRESS) / u64::from(program.cases.line) % u64::from(program.cases.harts)
 }
@@ -114,23 +115,54 @@ pub fn may_write(program: &Program, planes: &Planes, q: u64, h: u32, b: u64) -> 
     requires hart { h < harts program.now }
     ensures { result ≡ may program.now q h b }
 {
+    if is_window(b) {
+        return may_write_window(program, planes, q, h, b);
+    }
     if is_flag(h, b) {
         return true;
     }
     if is_verdict(program.cases.cases.as_slice().len() as u32, h, b) {
         return true;
     }
-    if is_private(h, b) {
-        return true;
-    }
-    if !is_window(b) {
-        return false;
-    }
-    may_write_window(program, planes, q, h, b)
+    is_private(h, b)
 }
 
-/// Whether another hart than `h` may write a byte in a phase.
+/// Whether another hart than `h` may write a byte in a phase. Text and tables have no writer, a private area has one,
+/// and so has a byte of the windows in an even phase.
 pub fn another_may(program: &Program, planes: &Planes, q: u64, h: u32, b: u64) -> bool
+    requires program { IsProgram program.now }
+    requires planes { ArePlanes program.now planes.now }
+    requires hart { h < harts program.now }
+    ensures { result ≡ another h (writers program.now q b) }
+{
+    if b < FLAGS_ADDRESS {
+        return false;
+    }
+    if is_private(h, b) {
+        return false;
+    }
+    if is_window(b) {
+        return another_may_window(program, planes, q, h, b);
+    }
+    some_other_may(program, planes, q, h, b)
+}
+
+/// The same of a byte of the windows.
+fn another_may_window(program: &Program, planes: &Planes, q: u64, h: u32, b: u64) -> bool
+    requires program { IsProgram program.now }
+    requires planes { ArePlanes program.now planes.now }
+    requires hart { h < harts program.now }
+    requires window { IsTrue (is_window_of b) }
+    ensures { result ≡ another h (writers program.now q b) }
+{
+    if q % 2 == 0 {
+        return collector(program, b) != u64::from(h);
+    }
+    some_other_may(program, planes, q, h, b)
+}
+
+/// The same, asked of each hart.
+fn some_other_may(program: &Program, planes: &Planes, q: u64, h: u32, b: u64) -> bool
     requires program { IsProgram program.now }
     requires planes { ArePlanes program.now planes.now }
     ensures { result ≡ another h (writers program.now q b) }

@@ -39,6 +39,7 @@ rest_stays (commands.Build b) desk stay = others_stay desk b.out stay
 rest_stays (commands.List image) desk stay = stay
 rest_stays (commands.Run r) desk stay = all_stay r.trace desk stay
 rest_stays (commands.Sample number) desk stay = stay
+rest_stays (commands.Judge j) desk stay = stay
 
 ended_refused : (asked : Option Command) (c : Command) (desk : DeskChange) (out err : SinkChange) (role : Role)
     (fault : AnyFault) (status : ℕ) → asked ≡ Some c → IsRefusal c desk role fault → IsUntouched desk out
@@ -116,6 +117,7 @@ ready_accepted (commands.Build b) desk e ready tells = ready.0.image.accepted te
 ready_accepted (commands.List image) desk e ready tells = ready.0.accepted tells
 ready_accepted (commands.Run r) desk e ready tells = ready.its.accepted tells
 ready_accepted (commands.Sample number) desk e ready tells = no_input number desk
+ready_accepted (commands.Judge j) desk e ready tells = ready.its.accepted tells
 
 -- a failure with no count risen is that of the first fault
 failure_first : (c : Command) (desk : DeskChange) (out : SinkChange) (role wrong : Role) (fault : AnyFault)

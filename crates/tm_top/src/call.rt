@@ -12,6 +12,7 @@ use std::sync::Wait;
 use std::thread::Threads;
 use tm_desk::{Desk, Gate, Sink};
 use tm_top_build::build_command;
+use tm_top_judge::judge_command;
 use tm_top_list::list_command;
 use tm_top_owed::{Outcome, Stop, tell_stop, tell_usage};
 use tm_top_run::{run_command, threads_command};
@@ -52,6 +53,13 @@ fn done_by<D: Desk, O: Sink>(
         },
         Command::Run(run) => run_command(alloc, run, desk, out),
         Command::Sample(number) => sample_command(alloc, *number, out),
+        Command::Judge(judge) => match judge_command(alloc, judge, desk, out) {
+            Ok(status) => Ok(Outcome {
+                status,
+                journal: None,
+            }),
+            Err(stop) => Err(stop),
+        },
     }
 }
 
@@ -92,11 +100,11 @@ fn tell_words<E: Sink>(alloc: Global, err: &mut E, fault: WordsFault) -> u8
 /// Does what the words say, over what is handed in. It waits for nobody.
 ///
 /// The commands are `build TOPO TEMPLATE OUT --seed S`, `list IMAGE`, `run IMAGE --order round [--events N]
-/// [--faults F] [--trace OUT]` and `sample N`. The statuses are 0 where the job was done, 1 for a run under a script of
-/// faults in which some case is reported, 2 for words that are no command, 3 for an input that is refused or too long,
-/// 4 for a run whose journal has all the events that it may have while some hart isn't at halt, 5 where the desk or the
-/// output sink failed or an input is missing, and 6 for want of memory. The journal is there exactly where a run or a
-/// sample ended with 0, 1 or 4.
+/// [--faults F] [--trace OUT]`, `sample N` and `judge IMAGE TRACE`. The statuses are 0 where the job was done, 1 for a
+/// run under a script of faults in which some case is reported, and for a trace of which some answer isn't yes, 2 for
+/// words that are no command, 3 for an input that is refused or too long, 4 for a run whose journal has all the events
+/// that it may have while some hart isn't at halt, 5 where the desk or the output sink failed or an input is missing,
+/// and 6 for want of memory. The journal is there exactly where a run or a sample ended with 0, 1 or 4.
 pub fn still<D: Desk, O: Sink, E: Sink>(
     alloc: Global,
     words: &[String],

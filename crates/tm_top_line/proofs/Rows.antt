@@ -22,6 +22,11 @@ use Rattle.tm_fault.specs.declared.fault.FaultScriptFault.TheVariants as script
 use Rattle.tm_top_line.specs.Inputs.{with_value, shown_key, signed_text, input_text, addr_text}
 use Rattle.tm_top_line.specs.declared.fault.AnyFault.TheVariants as any
 use Rattle.tm_top_line.specs.Lines.{fault_text}
+use Rattle.tm_trace.specs.declared.trace.TraceFault.TheVariants as trace
+use Rattle.tm_judge.specs.declared.answers.JudgeFault.TheVariants as judge
+use Rattle.tm_judge.specs.declared.answers.Answer.TheVariants.{Yes, No}
+use Rattle.tm_judge.specs.declared.answers.Why.TheVariants as why
+use Rattle.tm_top_line.specs.Judgements.{judgement_text, answer_line, no_text, word_text, byte_text}
 
 short : fault_text role.Image (any.Image (image.Elf (elf.Short 63))) ≡ codes "threadmill: image: Elf Short 63\n"
 unfolding fault_text with_value digits
@@ -110,3 +115,24 @@ no_action : fault_text role.Faults (any.Script (script.Expected (record { line =
     ≡ codes "threadmill: faults: Expected 1:29 Action\n"
 unfolding fault_text digits pos_text
 no_action = refl
+
+no_end : fault_text role.Trace (any.Trace (trace.Early 3)) ≡ codes "threadmill: trace: Early 3\n"
+unfolding fault_text with_value digits
+no_end = refl
+
+other_harts : fault_text role.Trace (any.Judge (judge.Harts 2)) ≡ codes "threadmill: trace: Harts 2\n"
+unfolding fault_text with_value digits
+other_harts = refl
+
+a_racing_read : judgement_text (record { path = Yes; plain = No 70 (why.Byte 0x80E80000 7); legal = Yes })
+    ≡ codes "path: yes\nplain: no, event 70 Byte 0x80e80000 7\nlegal: yes\n"
+unfolding judgement_text answer_line no_text byte_text addr_text hex_text digits
+a_racing_read = refl
+
+another_word : answer_line (codes "path") (No 0 (why.Word 0x128313)) ≡ codes "path: no, event 0 Word 0x00128313\n"
+unfolding answer_line no_text word_text hex_text digits
+another_word = refl
+
+another_place : answer_line (codes "path") (No 0 (why.Pc 0x80000000)) ≡ codes "path: no, event 0 Pc 0x80000000\n"
+unfolding answer_line no_text addr_text hex_text digits
+another_place = refl

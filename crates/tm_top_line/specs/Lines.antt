@@ -12,6 +12,7 @@ use Rattle.tm_top_line.specs.declared.fault.AnyFault.{AnyFault}
 use Rattle.tm_top_line.specs.declared.fault.AnyFault.TheVariants as any
 use Rattle.tm_top_line.specs.Inputs.{with_value, input_text, input_wants}
 use Rattle.tm_top_line.specs.Scripts.{script_text, script_wants}
+use Rattle.tm_top_line.specs.Traces.{trace_fault_text, trace_wants, judge_fault_text, judge_wants}
 
 -- how a line names the file that it speaks of (this project)
 abbrev pub role_name : Role → List ℕ
@@ -54,6 +55,8 @@ any_text (any.Input fault) = input_text fault
 any_text (any.Image fault) = image_text fault
 any_text (any.Script fault) = script_text fault
 any_text (any.Desk fault) = desk_text fault
+any_text (any.Trace fault) = trace_fault_text fault
+any_text (any.Judge fault) = judge_fault_text fault
 
 -- the line of a refusal or of a failure (this project)
 unfoldable pub fault_text : Role → AnyFault → List ℕ
@@ -71,3 +74,5 @@ wants_memory (any.Script fault) = script_wants fault
 wants_memory (any.Desk desk.Failed) = false
 wants_memory (any.Desk (desk.TooLong max)) = false
 wants_memory (any.Desk desk.NoMemory) = true
+wants_memory (any.Trace fault) = trace_wants fault
+wants_memory (any.Judge fault) = judge_wants fault

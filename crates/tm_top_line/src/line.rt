@@ -9,6 +9,7 @@ use crate::grammar::put_grammar;
 use crate::rule::put_rule;
 use crate::script::put_script;
 use crate::topology::put_topology;
+use crate::trace::{put_judge, put_trace};
 use crate::values::put_value;
 use std::alloc::Global;
 use tm_base::{Bytes, NoMemory, Text};
@@ -99,6 +100,8 @@ fn put_fault(out: &mut Bytes, fault: &AnyFault) -> Result<(), NoMemory>
         AnyFault::Image(fault) => put_image(out, fault),
         AnyFault::Script(fault) => put_script(out, *fault),
         AnyFault::Desk(fault) => put_desk(out, *fault),
+        AnyFault::Trace(fault) => put_trace(out, *fault),
+        AnyFault::Judge(fault) => put_judge(out, *fault),
     }
 }
 

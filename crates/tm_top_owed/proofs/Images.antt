@@ -10,12 +10,13 @@ use Rattle.tm_image_build.specs.Opened.{opened}
 use Rattle.tm_top_line.specs.declared.fault.AnyFault.{AnyFault}
 use Rattle.tm_top_line.specs.declared.fault.AnyFault.TheVariants.{Desk}
 use Rattle.tm_words.specs.declared.command.Run.{Run}
+use Rattle.tm_words.specs.declared.command.Judge.{Judge as JudgeOf}
 use Rattle.tm_words.specs.declared.command.Command.{Command}
 use Rattle.tm_words.specs.declared.command.Command.TheVariants as commands
 use Rattle.tm_top_owed.specs.declared.stop.Stop.{Stop}
 use Rattle.tm_top_owed.specs.declared.stop.Stop.TheVariants as stop
 use Rattle.tm_top_owed.specs.Inputs.{not_opened, refused_image, fault_of_image, fault_of_script, fault_before}
-use Rattle.tm_top_owed.specs.Inputs.{first_fault}
+use Rattle.tm_top_owed.specs.Inputs.{fault_of_trace, first_fault, program_in, planned, made_of}
 use Rattle.tm_top_owed.specs.Changes.{DeskChange}
 use Rattle.tm_top_owed.specs.Owed.{IsOpened, reads}
 use Rattle.tm_top_owed.specs.Owed.InputFailure.{unread, missing}
@@ -78,6 +79,12 @@ held_image name desk file program seed there h image = record {
       image_read name desk.held file (there told) h ∙ none;
 }
 
+-- the program of its file
+pub its_program : (file : List ℕ) (program : Program) (seed : ℕ) → IsOpened file program seed
+    → program_in file ≡ Some program
+unfolding program_in
+its_program file program seed image = ap planned image.form ∙ ap made_of image.its_program
+
 -- ---- the commands that read it first
 
 -- its fault is theirs
@@ -109,6 +116,12 @@ pub run_stop : (s : Stop) (r : Run) (desk : DeskChange) → OpenStop s r.image d
 unfolding first_fault
 run_stop s r desk h = command_stop s (commands.Run r) r.image desk refl refl (λ fault is. rw is refl) h
 
+-- a judgement stops
+pub judge_stop : (s : Stop) (j : JudgeOf) (desk : DeskChange) → OpenStop s j.image desk
+    → InputStop s (commands.Judge j) desk
+unfolding first_fault
+judge_stop s j desk h = command_stop s (commands.Judge j) j.image desk refl refl (λ fault is. rw is refl) h
+
 -- an image without a fault is a listing's whole input
 pub list_accepted : (name : List ℕ) (held : Files) → fault_of_image name held ≡ None
     → first_fault (commands.List name) held ≡ None
@@ -120,3 +133,9 @@ pub run_accepted : (r : Run) (held : Files) → fault_of_image r.image held ≡ 
     → first_fault (commands.Run r) held ≡ None
 unfolding first_fault
 run_accepted r held is script = rw (is, script) refl
+
+-- and, with the trace, a judgement's
+pub judge_accepted : (j : JudgeOf) (held : Files) → fault_of_image j.image held ≡ None → fault_of_trace j held ≡ None
+    → first_fault (commands.Judge j) held ≡ None
+unfolding first_fault
+judge_accepted j held is trace = rw (is, trace) refl

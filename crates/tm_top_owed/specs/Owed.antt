@@ -1,6 +1,7 @@
 -- What a command owes: what its files, its sinks and its journal are after it, by the status that it ends with (this
 -- project's own).
-use Rattle.std.specs.Prelude.{◌≡◌, ◌≢◌, ◌⊎◌, ℕ, ◌≤◌, Bool, true, false, IsTrue, IsFalse, List, [], length, Option, None}
+use Rattle.std.specs.Prelude.{◌≡◌, ◌≢◌, ◌⊎◌, ◌&&◌, if◌then◌else◌, ℕ, ◌≤◌, Bool, true, false, IsTrue, IsFalse}
+use Rattle.std.specs.Prelude.{List, [], length, Option, None}
 use Rattle.std.specs.Prelude.{Some, Ok}
 use Rattle.tm_base.specs.declared.limits.TheConstants.{DEFAULT_EVENTS}
 use Rattle.tm_desk.specs.Causes.{Files}
@@ -20,19 +21,26 @@ use Rattle.tm_image_build.specs.Built.{built, image_file, program_from}
 use Rattle.tm_image_build.specs.Opened.{opened, rebuilt}
 use Rattle.tm_report.specs.Listing.{listing}
 use Rattle.tm_top_line.specs.declared.fault.AnyFault.{AnyFault}
-use Rattle.tm_top_line.specs.declared.fault.AnyFault.TheVariants.{Input, Image, Script, Desk}
+use Rattle.tm_top_line.specs.declared.fault.AnyFault.TheVariants.{Input, Image, Script, Desk, Trace, Judge}
 use Rattle.tm_top_line.specs.Lines.{fault_text, wants_memory}
+use Rattle.tm_top_line.specs.Judgements.{judgement_text}
 use Rattle.tm_words.specs.declared.command.Build.{Build}
+use Rattle.tm_words.specs.declared.command.Judge.{Judge as JudgeOf}
 use Rattle.tm_words.specs.declared.command.Run.{Run}
 use Rattle.tm_words.specs.declared.command.Command.{Command}
 use Rattle.tm_words.specs.declared.command.Command.TheVariants as commands
 use Rattle.tm_words.specs.Form.{Ask}
 use Rattle.tm_fault.specs.Spelled.{IsScript}
 use Rattle.tm_trace.specs.Text.{trace_text}
+use Rattle.tm_trace.specs.Reading.{trace_of}
+use Rattle.tm_judge.specs.declared.answers.Answer.{Answer}
+use Rattle.tm_judge.specs.declared.answers.Answer.TheVariants.{Yes, No}
+use Rattle.tm_judge.specs.declared.answers.Judgement.{Judgement}
+use Rattle.tm_judge.specs.Judged.{Judged}
 use Rattle.tm_plan_cases.specs.declared.cases.Cases.{Cases}
 use Rattle.tm_plan_script.specs.declared.faults.FaultLine.{FaultLine}
 use Rattle.tm_world.specs.Place.{harts}
-use Rattle.tm_top_owed.specs.declared.sizes.TheConstants.{FAULTS_BYTES}
+use Rattle.tm_top_owed.specs.declared.sizes.TheConstants.{FAULTS_BYTES, TRACE_BYTES}
 use Rattle.tm_top_owed.specs.Texts.{usage, built_line}
 use Rattle.tm_top_owed.specs.Inputs.{first_fault, fault_before}
 use Rattle.tm_top_owed.specs.Runs.{guest_of, IsRunUnder, IsRoundOrder, InOrder, IsTold, verdicts_in}
@@ -184,6 +192,45 @@ pub record IsSampleOf (number : ℕ) (e : Ending) : Type 0 where
   pub in_order : IsRoundOrder program [] DEFAULT_EVENTS events
   pub told : IsSummed number (guest_of program [] DEFAULT_EVENTS events) e.text e.status
 
+-- ---- a judgement
+
+-- the answer is yes
+abbrev pub is_yes : Answer → Bool
+is_yes Yes = true
+is_yes (No place why) = false
+
+-- the status of a judgement: 0 where all three answers are yes, and else 1
+abbrev pub status_judged : Judgement → ℕ
+status_judged j = if is_yes j.path && (is_yes j.plain && is_yes j.legal) then 0 else 1
+
+-- The text that is held under a name is within the limit, and is a trace of so many harts and these events.
+pub record IsHeldTrace (name : List ℕ) (tells : Bool) (held : Files) (count : ℕ) (events : List Event) : Type 0 where
+  pub text : List ℕ
+  pub its : trace_of text ≡ Ok (count, events)
+  pub short : length text ≤ TRACE_BYTES
+  pub read : IsTrue tells → held name ≡ Some text
+
+-- The judgement gives the three true answers for the held image and the held trace, whose harts are so many, and
+-- neither has a fault.
+pub record IsJudgementOf (j : JudgeOf) (tells : Bool) (held : Files) (judgement : Judgement) : Type 0 where
+  pub file : List ℕ
+  pub program : Program
+  pub seed : ℕ
+  pub image : IsOpened file program seed
+  pub read : IsTrue tells → held j.image ≡ Some file
+  pub events : List Event
+  pub trace : IsHeldTrace j.trace tells held (harts program) events
+  pub judged : Judged program events judgement
+  pub accepted : IsTrue tells → first_fault (commands.Judge j) held ≡ None
+
+-- Such a judgement is told, with its status; no simulation was made.
+pub record IsJudgedOf (j : JudgeOf) (desk : DeskChange) (e : Ending) : Type 0 where
+  pub judgement : Judgement
+  pub its : IsJudgementOf j desk.tells desk.held judgement
+  pub its_text : e.text ≡ judgement_text judgement
+  pub its_status : e.status ≡ status_judged judgement
+  pub no_journal : e.journal ≡ None
+
 -- ---- each command
 
 -- this is how the command ends, and all that comes before its text is done
@@ -192,6 +239,7 @@ IsReady (commands.Build b) desk e = IsWritten b desk e.text × IsPlainEnd e
 IsReady (commands.List image) desk e = IsListingOf image desk.tells desk.held e.text × IsPlainEnd e
 IsReady (commands.Run r) desk e = IsRunOf r desk e
 IsReady (commands.Sample number) desk e = IsSampleOf number e
+IsReady (commands.Judge j) desk e = IsJudgedOf j desk e
 
 -- The job was done: all that comes before the text, and the text was printed.
 pub record IsDone (c : Command) (desk : DeskChange) (out : SinkChange) (status : ℕ) (journal : Option (List Event)) :
@@ -234,6 +282,8 @@ reads (commands.Build b) roles.Template = true
 reads (commands.List image) roles.Image = true
 reads (commands.Run r) roles.Image = true
 reads (commands.Run r) roles.Faults = is_given r.faults
+reads (commands.Judge j) roles.Image = true
+reads (commands.Judge j) roles.Trace = true
 reads _ _ = false
 
 -- ---- faults
@@ -243,6 +293,8 @@ abbrev pub status_of : AnyFault → ℕ
 status_of (Input fault) = 3
 status_of (Image fault) = 3
 status_of (Script fault) = 3
+status_of (Trace fault) = 3
+status_of (Judge fault) = 3
 status_of (Desk (TooLong max)) = 3
 status_of (Desk Failed) = 5
 status_of (Desk NoMemory) = 6

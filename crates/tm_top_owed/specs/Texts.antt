@@ -8,7 +8,7 @@ unfoldable pub usage : List ℕ
 usage =
     codes "usage: threadmill build TOPO TEMPLATE OUT --seed S\n" ++ codes "       threadmill list IMAGE\n"
     ++ codes "       threadmill run IMAGE [--events N] [--order threads|round] [--faults F] [--trace OUT]\n"
-    ++ codes "       threadmill sample N\n"
+    ++ codes "       threadmill sample N\n" ++ codes "       threadmill judge IMAGE TRACE\n"
 
 -- what is said for want of memory
 unfoldable pub no_memory : List ℕ

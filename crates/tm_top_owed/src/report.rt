@@ -15,6 +15,7 @@ const USAGE: &[u8] = b"usage: threadmill build TOPO TEMPLATE OUT --seed S
        threadmill list IMAGE
        threadmill run IMAGE [--events N] [--order threads|round] [--faults F] [--trace OUT]
        threadmill sample N
+       threadmill judge IMAGE TRACE
 ";
 
 const NO_MEMORY: &[u8] = b"threadmill: no memory\n";

@@ -19,13 +19,13 @@ use Rattle.tm_top_owed.specs.declared.sizes.TheConstants.{FAULTS_BYTES}
 use Rattle.tm_top_owed.specs.declared.stop.Stop.{Stop}
 use Rattle.tm_top_owed.specs.declared.stop.Stop.TheVariants as stop
 use Rattle.tm_top_owed.specs.Inputs.{not_read, refused_script, fault_over, fault_of_script, fault_of_image, first_fault}
-use Rattle.tm_top_owed.specs.Inputs.{program_in, text_of, fault_behind, planned, made_of}
+use Rattle.tm_top_owed.specs.Inputs.{program_in, text_of, fault_behind}
 use Rattle.tm_top_owed.specs.Changes.{DeskChange, DeskFailed}
 use Rattle.tm_top_owed.specs.Owed.{IsOpened, IsHeldScript, IsRunOn}
 use Rattle.tm_top_owed.specs.Owed.InputFailure.{unread, missing}
 use Rattle.tm_top_owed.specs.Steps.{ReadStop, IsHeldImage, InputStop}
 use Rattle.tm_top_owed.proofs.Limits.{long, short}
-use Rattle.tm_top_owed.proofs.Images.{run_accepted}
+use Rattle.tm_top_owed.proofs.Images.{its_program, run_accepted}
 use Rattle.tm_top_run.specs.Steps.{IsRead, IsScriptRead, TextStop, ScriptStop}
 
 -- ---- its fault, over a program's cases
@@ -97,12 +97,6 @@ no_script p cases tells held lines none = rw none (record {
 })
 
 -- ---- behind the image
-
--- the program of an image's file
-its_program : (file : List ℕ) (program : Program) (seed : ℕ) → IsOpened file program seed
-    → program_in file ≡ Some program
-unfolding program_in
-its_program file program seed image = ap planned image.form ∙ ap made_of image.its_program
 
 its_script : (r : Run) (files : Files) (file : List ℕ) (program : Program) (seed : ℕ)
     → files r.image ≡ Some file → IsOpened file program seed

@@ -13,7 +13,7 @@ use Rattle.tm_words.specs.declared.command.Verb.TheVariants as verb
 use Rattle.tm_words.specs.declared.command.Verb.{Verb}
 use Rattle.tm_words.specs.declared.command.WordsFault.{WordsFault}
 use Rattle.tm_words.specs.Words.{Text, IsInRange, IsStill, build_of, build_asked, list_asked, events_of, events_asked}
-use Rattle.tm_words.specs.Words.{order_asked, run_of, run_asked, sample_of, sample_asked}
+use Rattle.tm_words.specs.Words.{order_asked, run_of, run_asked, sample_of, sample_asked, judge_asked}
 use Rattle.tm_words.specs.Form.{Given, asked, IsForm, IsAskedFor, waits_for_nobody}
 
 -- the number of events, where there is one, is in range
@@ -79,11 +79,18 @@ samples-fit [] = tt
 samples-fit (a ∷ []) = sample-fits (number_of a)
 samples-fit (a ∷ b ∷ more) = tt
 
+judges-fit : (names : List Text) → Fits (judge_asked names)
+judges-fit [] = tt
+judges-fit (a ∷ []) = tt
+judges-fit (a ∷ b ∷ []) = tt
+judges-fit (a ∷ b ∷ d ∷ more) = tt
+
 asked-fits : (v : Verb) (names : List Text) (given : List Given) → Fits (asked v names given)
 asked-fits verb.Build names given = builds-fit names _
 asked-fits verb.List names given = lists-fit names
 asked-fits verb.Run names given = runs-fit names _ _ _ _
 asked-fits verb.Sample names given = samples-fit names
+asked-fits verb.Judge names given = judges-fit names
 
 form-fits : (words : List Text) (c : Command) → IsForm words c → IsInRange c
 form-fits [] c f = absurd f
@@ -98,6 +105,7 @@ is-still (commands.Build b) h = tt
 is-still (commands.List image) h = tt
 is-still (commands.Run r) h = still-run r.threads h
 is-still (commands.Sample n) h = tt
+is-still (commands.Judge j) h = tt
 
 pub in_range : (round : Bool) (words : List Text) (r : Result Command WordsFault)
     → IfOk r (λ c. IsAskedFor round words c)

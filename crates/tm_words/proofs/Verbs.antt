@@ -1,4 +1,4 @@
--- The parsers of the four commands, and what they find.
+-- The parsers of the commands, and what they find.
 use Rattle.std.proofs.Common.{◌≡◌, ◌≢◌, ◌∙◌, Bool, cond, true, false, refl, sym, ap, ap₂, subst}
 use Rattle.std.proofs.Common.{List, [], ◌∷◌, Option, Some, None, Result, Ok, Err, IfOk, IfErr}
 use Rattle.std.proofs.Common.{option_map, codes, true≢false, inl, inr, ◌⊎◌, bytes_eq}
@@ -11,7 +11,7 @@ use Rattle.tm_words.specs.declared.command.Command.{Command}
 use Rattle.clap.specs.Simple.{built}
 use Rattle.clap.specs.declared.parser.matches.ArgMatches.{ArgMatches}
 use Rattle.clap.proofs.OnLiterals.{clap_on_literals}
-use Rattle.tm_words.specs.Words.{Text, Tells, build_asked, list_asked, run_asked, sample_asked}
+use Rattle.tm_words.specs.Words.{Text, Tells, build_asked, list_asked, run_asked, sample_asked, judge_asked}
 use Rattle.tm_words.specs.Form.{Given, Spell, SpellsBehind, IsForm, IsAskedFor, Ask, verb_word, options_of, asked}
 use Rattle.tm_words.specs.Form.{value_of, waits_for_nobody}
 use Rattle.tm_words.specs.declared.command.Verb.{Verb}
@@ -36,6 +36,7 @@ good verb.Build = refl
 good verb.List = refl
 good verb.Run = refl
 good verb.Sample = refl
+good verb.Judge = refl
 
 built_of : (v : Verb) → ◌≡◌ {A =
     App} (built (parser v)) (record { top = built_shape (verb_word v) (options_of v); subs = [] })
@@ -43,12 +44,14 @@ built_of verb.Build = refl
 built_of verb.List = refl
 built_of verb.Run = refl
 built_of verb.Sample = refl
+built_of verb.Judge = refl
 
 bare : (v : Verb) → (parser v).top.no_binary_name ≡ true
 bare verb.Build = refl
 bare verb.List = refl
 bare verb.Run = refl
 bare verb.Sample = refl
+bare verb.Judge = refl
 
 pub simple : (v : Verb) → is_simple_and_free (parser v) ≡ true
 unfolding clap_on_literals
@@ -56,6 +59,7 @@ simple verb.Build = refl
 simple verb.List = refl
 simple verb.Run = refl
 simple verb.Sample = refl
+simple verb.Judge = refl
 
 -- ---- what they find
 
@@ -100,6 +104,7 @@ asked_is verb.Run rows names given h =
     h.all_names (h.values (codes "events") refl) (h.values (codes "order") refl) (h.values (codes "faults") refl)
     (h.values (codes "trace") refl)
 asked_is verb.Sample rows names given h = ap sample_asked h.all_names
+asked_is verb.Judge rows names given h = ap judge_asked h.all_names
 
 pub spelled_behind : (v : Verb) (words : List Text) (rows : List Row) (c : Command) → IsRead (options_of v) words rows
     → asked_by v rows ≡ Some c
@@ -176,9 +181,12 @@ named_is w v e = elim (choice (bytes_eq w (codes "build")) verb.Build _ v e) [
     | inl h ↦ word_of w verb.List v h.0 h.1
     | inr e ↦ elim (choice (bytes_eq w (codes "run")) verb.Run _ v e) [
       | inl h ↦ word_of w verb.Run v h.0 h.1
-      | inr e ↦ elim (choice (bytes_eq w (codes "sample")) verb.Sample None v e) [
+      | inr e ↦ elim (choice (bytes_eq w (codes "sample")) verb.Sample _ v e) [
         | inl h ↦ word_of w verb.Sample v h.0 h.1
-        | inr e ↦ absurd (some≢none v (sym e))
+        | inr e ↦ elim (choice (bytes_eq w (codes "judge")) verb.Judge None v e) [
+          | inl h ↦ word_of w verb.Judge v h.0 h.1
+          | inr e ↦ absurd (some≢none v (sym e))
+        ]
       ]
     ]
   ]
@@ -189,6 +197,7 @@ own_word verb.Build = refl
 own_word verb.List = refl
 own_word verb.Run = refl
 own_word verb.Sample = refl
+own_word verb.Judge = refl
 
 is_named : (w : Text) (v : Verb) → w ≡ verb_word v → verb_named w ≡ Some v
 is_named w v e = ap verb_named e ∙ own_word v

@@ -3,7 +3,7 @@ use Rattle.std.specs.Prelude.{◌≡◌, Bool, true, false, not, ◌&&◌, if◌
 use Rattle.std.specs.Prelude.{codes, Option, None, Some}
 use Rattle.std.specs.List.{list_all, list_any}
 use Rattle.std.specs.Str.{bytes_eq}
-use Rattle.tm_words.specs.Words.{Text, is_name, build_asked, list_asked, run_asked, sample_asked}
+use Rattle.tm_words.specs.Words.{Text, is_name, build_asked, list_asked, run_asked, sample_asked, judge_asked}
 use Rattle.tm_words.specs.declared.command.Command.{Command}
 use Rattle.tm_words.specs.declared.command.Command.TheVariants as commands
 use Rattle.tm_words.specs.declared.command.Verb.{Verb}
@@ -86,7 +86,7 @@ pub record Spell (options : List Text) (words : List Text) (names : List Text) (
   pub are_given : given ≡ options_in parts
   pub once : come_once [] given ≡ true
 
--- ---- the four commands
+-- ---- the commands
 
 -- how the word is written that begins a command
 abbrev pub verb_word : Verb → Text
@@ -94,6 +94,7 @@ verb_word verb.Build = codes "build"
 verb_word verb.List = codes "list"
 verb_word verb.Run = codes "run"
 verb_word verb.Sample = codes "sample"
+verb_word verb.Judge = codes "judge"
 
 -- the options that the command may have
 abbrev pub options_of : Verb → List Text
@@ -101,6 +102,7 @@ options_of verb.Build = codes "seed" ∷ []
 options_of verb.List = []
 options_of verb.Run = codes "events" ∷ codes "order" ∷ codes "faults" ∷ codes "trace" ∷ []
 options_of verb.Sample = []
+options_of verb.Judge = []
 
 -- the value that is given to an option, if one is
 abbrev pub value_of : Text → List Given → Option Text
@@ -114,6 +116,7 @@ asked verb.List names given = list_asked names
 asked verb.Run names given = run_asked names (value_of (codes "events") given) (value_of (codes "order") given)
     (value_of (codes "faults") given) (value_of (codes "trace") given)
 asked verb.Sample names given = sample_asked names
+asked verb.Judge names given = judge_asked names
 
 -- ---- the form
 

@@ -8,7 +8,7 @@ use Rattle.std.specs.Option.{option_map_or}
 use Rattle.std.specs.Str.{bytes_eq}
 use Rattle.clap.specs.Words.{App, Row, Rule, new_rule, new_app, with_rule, all_of, first_of}
 use Rattle.clap.specs.declared.builder.action.ArgAction.TheVariants.{Set, Append}
-use Rattle.tm_words.specs.Words.{Text, is_name, build_asked, list_asked, run_asked, sample_asked}
+use Rattle.tm_words.specs.Words.{Text, is_name, build_asked, list_asked, run_asked, sample_asked, judge_asked}
 use Rattle.tm_words.specs.declared.command.Command.{Command}
 use Rattle.tm_words.specs.declared.command.WordsFault.{WordsFault}
 use Rattle.tm_words.specs.declared.command.WordsFault.TheVariants.{Refused, NoMemory}
@@ -96,7 +96,8 @@ verb_named word =
     if bytes_eq word (codes "build") then Some verb.Build
     else if bytes_eq word (codes "list") then Some verb.List
     else if bytes_eq word (codes "run") then Some verb.Run
-    else if bytes_eq word (codes "sample") then Some verb.Sample else None
+    else if bytes_eq word (codes "sample") then Some verb.Sample
+    else if bytes_eq word (codes "judge") then Some verb.Judge else None
 
 -- what is asked for by what a command's parser found
 abbrev pub asked_by : Verb → List Row → Option Command
@@ -106,6 +107,7 @@ asked_by verb.Run rows =
     run_asked (names_found rows) (first_of (codes "events") rows) (first_of (codes "order") rows)
     (first_of (codes "faults") rows) (first_of (codes "trace") rows)
 asked_by verb.Sample rows = sample_asked (names_found rows)
+asked_by verb.Judge rows = judge_asked (names_found rows)
 
 -- the command, where it may be asked for
 abbrev pub if_asked : (round_alone : Bool) → Command → Result Command WordsFault

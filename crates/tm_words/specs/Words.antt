@@ -98,6 +98,17 @@ abbrev pub sample_asked : List Text → Option Command
 sample_asked (number ∷ []) = sample_of (number_of number)
 sample_asked _ = None
 
+-- ---- a judgement
+
+-- the judgement of a trace over an image
+abbrev pub judge_of : (image trace : Text) → Option Command
+judge_of image trace = Some (commands.Judge (record { image = image; trace = trace }))
+
+-- the judgement that names ask for: there are two
+abbrev pub judge_asked : List Text → Option Command
+judge_asked (image ∷ trace ∷ []) = judge_of image trace
+judge_asked _ = None
+
 -- ---- what the code holds
 
 -- the bytes of the words

@@ -3,7 +3,7 @@ ghost use Rattle.std.specs.Prelude.{◌≡◌, IfOk, IfErr, Ok, Some, map};
 ghost use Rattle.tm_words.specs.Words as said;
 ghost use Rattle.tm_words.specs.Words.{Tells};
 
-use crate::command::{Build, Command, Run, WordsFault};
+use crate::command::{Build, Command, Judge, Run, WordsFault};
 use std::alloc::Global;
 use tm_base::{DEFAULT_EVENTS, MOST_EVENTS, Name, NoMemory, read_number};
 
@@ -170,4 +170,23 @@ pub fn sample_asked(names: &[&str]) -> Result<Command, WordsFault>
         Ok(number) => Ok(Command::Sample(number)),
         Err(_) => Err(WordsFault::Refused),
     }
+}
+
+// The judgement of the trace of a name, over the image of another.
+fn judge_of(alloc: Global, image: &str, trace: &str) -> Result<Command, WordsFault>
+    ensures { Tells (said.judge_of image.now trace.now) result }
+{
+    let image = named(alloc, image)?;
+    let trace = named(alloc, trace)?;
+    Ok(Command::Judge(Judge { image, trace }))
+}
+
+/// The judgement that names ask for.
+pub fn judge_asked(alloc: Global, names: &[&str]) -> Result<Command, WordsFault>
+    ensures { Tells (said.judge_asked (map (λ s. s.now) names.now)) result }
+{
+    let [image, trace] = names else {
+        return Err(WordsFault::Refused);
+    };
+    judge_of(alloc, *image, *trace)
 }

@@ -21,6 +21,13 @@ pub struct Run {
     pub trace: Option<Name>,
 }
 
+/// What a judgement asks for: the names of an image, and of the trace of a run of it.
+#[derive(Drop)]
+pub struct Judge {
+    pub image: Name,
+    pub trace: Name,
+}
+
 /// A command with what it asks for: a listing for the image of a name, and a sample for that of a number.
 #[derive(Drop)]
 pub enum Command {
@@ -28,6 +35,7 @@ pub enum Command {
     List(Name),
     Run(Run),
     Sample(u64),
+    Judge(Judge),
 }
 
 /// Why there is no command: the words aren't of the form, or there was no memory to read them.
@@ -44,4 +52,5 @@ pub enum Verb {
     List,
     Run,
     Sample,
+    Judge,
 }

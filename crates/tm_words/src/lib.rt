@@ -9,5 +9,5 @@ mod parser;
 mod search;
 mod words;
 
-pub use command::{Build, Command, Run, WordsFault};
+pub use command::{Build, Command, Judge, Run, WordsFault};
 pub use words::read_words;

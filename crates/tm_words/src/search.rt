@@ -7,7 +7,7 @@ ghost use Rattle.tm_words.specs.Form as form;
 ghost use Rattle.tm_words.specs.Parser as reading;
 ghost use Rattle.clap.specs.Words.{rows_of, found_of, first_of};
 
-use crate::asked::{build_asked, list_asked, run_asked, sample_asked};
+use crate::asked::{build_asked, judge_asked, list_asked, run_asked, sample_asked};
 use crate::command::{Command, Verb, WordsFault};
 use crate::parser::{of_names, parsed, with_option};
 use clap::ArgMatches;
@@ -69,6 +69,17 @@ pub fn sample_found<'a>(alloc: Global, words: &'a [String]) -> Result<ArgMatches
     parsed(command, words)
 }
 
+/// What is found in the words behind `judge`.
+pub fn judge_found<'a>(alloc: Global, words: &'a [String]) -> Result<ArgMatches<'a>, WordsFault>
+    ensures ok { IfOk result (λ m. reading.IsRead (form.options_of Verb.Judge) (map string_bytes words.now)
+        (rows_of (found_of m))) }
+    ensures refused { IfErr result (λ e. e ≢ WordsFault.NoMemory
+        → reading.IsUnspelled (form.options_of Verb.Judge) (map string_bytes words.now)) }
+{
+    let command = of_names(alloc, "judge")?;
+    parsed(command, words)
+}
+
 /// The command that what was found behind `build` asks for.
 pub fn build_said(alloc: Global, found: &ArgMatches<'_>) -> Result<Command, WordsFault>
     ensures { Tells (reading.asked_by Verb.Build (rows_of (found_of found.now))) result }
@@ -110,6 +121,16 @@ pub fn sample_said(found: &ArgMatches<'_>) -> Result<Command, WordsFault>
 {
     match found.get_raw("names") {
         Some(names) => sample_asked(names),
+        None => Err(WordsFault::Refused),
+    }
+}
+
+/// The command that what was found behind `judge` asks for.
+pub fn judge_said(alloc: Global, found: &ArgMatches<'_>) -> Result<Command, WordsFault>
+    ensures { Tells (reading.asked_by Verb.Judge (rows_of (found_of found.now))) result }
+{
+    match found.get_raw("names") {
+        Some(names) => judge_asked(alloc, names),
         None => Err(WordsFault::Refused),
     }
 }

@@ -9,7 +9,8 @@ ghost use Rattle.tm_words.specs.declared.command.Command.{Command};
 
 use crate::command::{Command, Verb, WordsFault};
 use crate::search::{
-    build_found, build_said, list_found, list_said, run_found, run_said, sample_found, sample_said,
+    build_found, build_said, judge_found, judge_said, list_found, list_said, run_found, run_said,
+    sample_found, sample_said,
 };
 use std::alloc::Global;
 
@@ -61,6 +62,18 @@ fn read_sample(alloc: Global, words: &[String]) -> Result<Command, WordsFault>
     }
 }
 
+// The command that the words behind `judge` spell.
+fn read_judge(alloc: Global, words: &[String]) -> Result<Command, WordsFault>
+    ensures ok { IfOk result (λ c. form.SpellsBehind Verb.Judge (map string_bytes words.now) c) }
+    ensures refused { IfErr result (λ e. e ≢ WordsFault.NoMemory → (c : Command)
+        → form.SpellsBehind Verb.Judge (map string_bytes words.now) c → ⊥) }
+{
+    match judge_found(alloc, words) {
+        Ok(found) => judge_said(alloc, &found),
+        Err(fault) => Err(fault),
+    }
+}
+
 // The command that a word begins.
 fn verb_of(word: &str) -> Option<Verb>
     ensures { result ≡ reading.verb_named word.now }
@@ -77,6 +90,9 @@ fn verb_of(word: &str) -> Option<Verb>
     if word == "sample" {
         return Some(Verb::Sample);
     }
+    if word == "judge" {
+        return Some(Verb::Judge);
+    }
     None
 }
 
@@ -91,6 +107,7 @@ fn read_behind(alloc: Global, verb: Verb, words: &[String]) -> Result<Command, W
         Verb::List => read_list(alloc, words),
         Verb::Run => read_run(alloc, words),
         Verb::Sample => read_sample(alloc, words),
+        Verb::Judge => read_judge(alloc, words),
     }
 }
 
@@ -124,7 +141,7 @@ fn waits_for_nobody(command: &Command) -> bool
 {
     match command {
         Command::Run(run) => !run.threads,
-        Command::Build(_) | Command::List(_) | Command::Sample(_) => true,
+        Command::Build(_) | Command::List(_) | Command::Sample(_) | Command::Judge(_) => true,
     }
 }
 

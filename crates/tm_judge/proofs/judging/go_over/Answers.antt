@@ -156,8 +156,10 @@ loop-place-preserved c =
       fits = c.in_ok-note.ensures.fits;
       owes = owes-next p events i e l at next f c.loop-place.owing.last.items c.note-in-loop-place.new.self.last.items
           c.loop-place.owing.marks.items c.note-in-loop-place.new.self.marks.items t.hart
-          (subst (λ (q : ℕ). Notes p e.hart q e.access c.loop-place.owing.last.items c.note-in-loop-place.new.self.last.items
-          c.loop-place.owing.marks.items c.note-in-loop-place.new.self.marks.items) seat.exits c.in_ok-note.ensures.notes)
+          (subst (λ (q : ℕ). Notes p e.hart q e.access c.loop-place.owing.last.items
+          c.note-in-loop-place.new.self.last.items
+          c.loop-place.owing.marks.items c.note-in-loop-place.new.self.marks.items) seat.exits
+          c.in_ok-note.ensures.notes)
           known.owes;
       seats = seats-next p events i e l at next f c.loop-place.seats.items c.note.new.seats.items t.hart noted
           known.seats;

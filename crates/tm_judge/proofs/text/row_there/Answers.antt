@@ -1,4 +1,5 @@
-use Rattle.std.proofs.Common.{◌≡◌, ◌<◌, ◌≤◌, ◌+◌, ◌-◌, ◌*◌, ◌/◌, ◌%◌, ℕ, List, Option, Some, length, get_or, inl, inr, ap, ◌∙◌}
+use Rattle.std.proofs.Common.{◌≡◌, ◌<◌, ◌≤◌, ◌+◌, ◌-◌, ◌*◌, ◌/◌, ◌%◌, ℕ, List, Option, Some, length, get_or, inl}
+use Rattle.std.proofs.Common.{inr, ap, ◌∙◌}
 use Rattle.std.proofs.Common.{sym, subst, arith}
 use Rattle.tm_plan_map.specs.declared.addresses.TheConstants.{TEXT_ADDRESS}
 use Rattle.tm_plan_map.specs.Map.{text_base}
@@ -31,7 +32,8 @@ returns c = λ p are.
     within-true TEXT_ADDRESS (4 * length p.text) pc (omega (arith, c.if-pc-lt-TEXT_ADDRESS.false))
     (omega (arith, few, c.if-pc-lt-TEXT_ADDRESS.false)) in
     let r = c.index.result.now in
-    let is : IsRow (get_or p.text k 0) r = subst (IsRow (get_or p.text k 0)) (sym c.index.ensures) (are.each k r few) in (
+    let is : IsRow (get_or p.text k 0) r = subst (IsRow (get_or p.text k 0)) (sym c.index.ensures) (are.each k r few)
+    in (
       ap (λ (w : ℕ). Some w) is.word ∙ some-there p pc (omega (arith, c.if-pc-ne0.false)) inside few,
       subst (λ (w : ℕ). IsRow w r) (sym is.word) is,
     )
