@@ -128,8 +128,8 @@ def run_all(runner, groups, count, jobs):
                 found += told
                 if shows:
                     sys.stderr.write(f"\r{len(found)} of {count} faults")
-        except Stop:
-            pool.shutdown(cancel_futures=True)
+        except BaseException:
+            pool.shutdown(wait=False, cancel_futures=True)
             raise
     if shows:
         sys.stderr.write("\r\x1b[K")
@@ -253,6 +253,8 @@ def chosen_faults(image, asked):
         raise Stop(f"the image has the passes 0 to {image.cases.passes - 1}")
     if asked.case is not None and not 0 <= asked.case < len(image.cases.cases):
         raise Stop(f"the image has the cases 0 to {len(image.cases.cases) - 1}")
+    if asked.sample is not None and asked.sample < 1:
+        raise Stop("--sample wants a number from 1 on")
     faults = [fault for fault in all_faults(image, asked.bits) if asked.case in (None, fault.case)]
     if asked.sample is None or asked.sample >= len(faults):
         return faults, len(faults)
