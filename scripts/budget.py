@@ -6,11 +6,10 @@ follows from the texts in the image alone, by the formula of docs/formats.md; it
 scripts/derive, not by the program. `run` without --events stops at 4,000,000 events, and --events goes to 100,000,000.
 It isn't part of the gate.
 
-usage: scripts/budget.py IMAGE..
+For each image it prints its name, its budget, and what to write behind `run IMAGE`, if anything. It ends with status 0,
+or with 1 where a file is no image or can't be read."""
 
-For each image it prints its name, its budget, and what to write behind `run IMAGE`, if anything. It ends with status 1
-where a file is no image, and else with 0."""
-
+import argparse
 import sys
 from pathlib import Path
 
@@ -39,17 +38,19 @@ def advice(events):
 
 
 def main():
-    if len(sys.argv) < 2:
-        sys.exit(__doc__)
-    wrong = 0
-    for name in sys.argv[1:]:
+    parser = argparse.ArgumentParser(description=__doc__, formatter_class=argparse.RawDescriptionHelpFormatter)
+    parser.add_argument("images", nargs="+", metavar="image")
+    status = 0
+    for name in parser.parse_args().images:
         try:
             events = budget_of(Path(name).read_bytes())
             print(f"{name}: {events}{advice(events)}")
-        except Fault as fault:
-            print(f"{name}: no image ({fault.name})")
-            wrong = 1
-    sys.exit(wrong)
+        except (Fault, OSError) as why:
+            told = f"no image ({why.told()})" if isinstance(why, Fault) else why.strerror
+            print(f"budget.py: {name}: {told}", file=sys.stderr)
+            status = 1
+    return status
 
 
-main()
+if __name__ == "__main__":
+    sys.exit(main())

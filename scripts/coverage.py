@@ -4,7 +4,7 @@
 Each fault of the image, or a random sample of them, is planted by a script of one line, and the image is run under it
 in round order. A fault is planted in one pass alone: one bit of what a slot computes, loads or stores is flipped, its
 store is dropped, or its branch goes the other way. For each case, class of slot and kind of fault a table tells how
-many were planted and how many reported; then the slots are listed of which no fault was ever seen.
+many were planted and how many reported; then the slots are listed of which no fault was ever seen, each with a reason.
 
 What happens in one case has no say in another: each begins from its own first registers and bytes. So a run plants one
 fault in each case, and the report tells which of them was seen. With --alone each fault has a run of its own.
@@ -13,8 +13,15 @@ fault in each case, and the report tells which of them was seen. With --alone ea
   loaded    a bit of what a load reads                      turn   a branch goes the other way
   stored    a bit of what a store writes
 
-Many faults are rightly not seen: a register that a later slot sets again, a value that nothing depends on, a result
-that depends on a race. It isn't part of the gate, and nothing is proved.
+Many faults are rightly not seen. Behind a slot of which none was seen stands
+
+  not run        no run of the image without faults comes to it: a branch leads over it
+  overwritten    later slots set again all that depends on it
+  not compared   all that depends on it may lawfully differ between passes, since it depends on a race
+  no difference  something that is compared depends on it, but came out the same
+
+The reason is worked out from the stream and the masks alone, but for the first, and tells what may depend on the slot
+whichever way branches go. It isn't part of the gate, and nothing is proved.
 
 It ends with status 0; with 1 where fewer are reported than --least asks for; and with 2 where nothing could be told: no
 program, no image, or a run that ended with another status than 0 and 1."""
@@ -38,12 +45,15 @@ sys.path.insert(0, str(HERE))
 from derive.assembler import print_line
 from derive.bounds import budget
 from derive.faults import Fault
+from derive.races import bytes_of
 from derive.scripts import NUMBERED, has_effect, xor_end
+from derive.table import LOADS, STORES, has_rd, sources
 from survey import FileImage, class_of, decode, head_line, printed, rectangle, share, text
 
 PROGRAM = HERE.parent / "crates" / "threadmill" / "out" / "threadmill"
 KINDS = ("result", "loaded", "stored", "drop", "turn")
 CLASSES = ("alu", "load", "store", "branch")
+REASONS = ("not run", "overwritten", "not compared", "no difference")
 MOST_EVENTS = 100_000_000
 REPORTED = re.compile(r"case (\d+) \S+: hart ")
 
@@ -119,6 +129,18 @@ class Runner:
         return [(fault, fault.case in cases) for fault in batch]
 
 
+    def addresses(self):
+        """The addresses of the instructions that a run without faults comes to."""
+        path = os.path.join(self.folder, "trace")
+        words = self.words[:-1] + ["--trace", path]
+        done = subprocess.run(words, capture_output=True, text=True, check=False)
+        if done.returncode:
+            raise Stop(f"without a fault: {done.stderr.strip() or done.stdout.strip()}")
+        with open(path, "rb") as trace:
+            found = {line.split(b" ", 2)[1] for line in trace if line[:1].isdigit()}
+        return {int(address, 16) for address in found}
+
+
 def run_all(runner, groups, count, jobs):
     """For each fault whether it was reported; progress on a terminal."""
     found, shows = [], sys.stderr.isatty()
@@ -128,8 +150,8 @@ def run_all(runner, groups, count, jobs):
                 found += told
                 if shows:
                     sys.stderr.write(f"\r{len(found)} of {count} faults")
-        except Stop:
-            pool.shutdown(cancel_futures=True)
+        except BaseException:
+            pool.shutdown(wait=False, cancel_futures=True)
             raise
     if shows:
         sys.stderr.write("\r\x1b[K")
@@ -175,13 +197,59 @@ def instruction(image, fault):
     return decode(image.cases.cases[fault.case].words[fault.hart][fault.slot])
 
 
-def unseen(found, image):
-    """The slots of which a fault was planted and none was seen."""
+# Places: registers by their numbers, and behind them the bytes of the windows.
+REGISTERS = 32
+
+
+def written(i):
+    """The places that a slot writes."""
+    if i.op in STORES:
+        return {REGISTERS + b for b in bytes_of(i)}
+    return {i.rd} - {0} if has_rd(i) else set()
+
+
+def read(i):
+    """The places that a slot reads."""
+    return set(sources(i)) | ({REGISTERS + b for b in bytes_of(i)} if i.op in LOADS else set())
+
+
+def depends(stream, slot):
+    """The places that may depend on what a slot does, at the stream's end.
+
+    Slots before `either` are run or not by a branch that depends on it; those before `over` by any branch."""
+    found, either, over = set(), slot + 1, 0
+    for n, i in enumerate(stream):
+        target = n + i.imm // 4 if class_of(i) == "branch" else 0
+        if n >= slot:
+            if n < either or read(i) & found:
+                found |= written(i)
+                either = max(either, target)
+            elif n >= over:
+                found -= written(i)
+        over = max(over, target)
+    return found
+
+
+def reason(image, run, c, h, s):
+    """Why no fault of a slot was seen, where a run comes to these addresses."""
+    if image.starts[c][h] + 4 * s not in run:
+        return "not run"
+    registers, checked = image.masks[c]
+    found = depends([decode(word) for word in image.cases.cases[c].words[h]], s)
+    if not found:
+        return "overwritten"
+    is_compared = (registers[h] >> at & 1 if at < REGISTERS else checked[at - REGISTERS] for at in found)
+    return "no difference" if any(is_compared) else "not compared"
+
+
+def unseen(found, image, run):
+    """The slots of which a fault was planted and none was seen, each with what it is and why."""
     counts = counted(found, lambda f: (f.case, f.hart, f.slot))
     for (c, h, s), count in sorted(counts.items()):
         if not count.reported:
             words = print_line(decode(image.cases.cases[c].words[h][s]))
-            yield f"case {c} hart {h} slot {s}: {words}, {count.planted} planted"
+            why = reason(image, run, c, h, s)
+            yield why, f"case {c} hart {h} slot {s}: {words}, {count.planted} planted: {why}"
 
 
 # The picture: for each case a row for each hart and a column for each slot.
@@ -253,6 +321,8 @@ def chosen_faults(image, asked):
         raise Stop(f"the image has the passes 0 to {image.cases.passes - 1}")
     if asked.case is not None and not 0 <= asked.case < len(image.cases.cases):
         raise Stop(f"the image has the cases 0 to {len(image.cases.cases) - 1}")
+    if asked.sample is not None and asked.sample < 1:
+        raise Stop("--sample wants a number from 1 on")
     faults = [fault for fault in all_faults(image, asked.bits) if asked.case in (None, fault.case)]
     if asked.sample is None or asked.sample >= len(faults):
         return faults, len(faults)
@@ -260,7 +330,7 @@ def chosen_faults(image, asked):
     return [faults[n] for n in drawn], len(faults)
 
 
-def print_all(image, found, whole, asked):
+def print_all(image, found, whole, run, asked):
     planted = f"{len(found)} of {whole} faults" + (f", drawn by seed {asked.seed}" if len(found) < whole else "")
     print(f"{head_line(image)}\n{planted}, in pass {asked.at_pass}")
     for c, case in enumerate(image.cases.cases):
@@ -270,7 +340,10 @@ def print_all(image, found, whole, asked):
             print("\n".join(printed(table(of_case, image))))
     print("all cases")
     print("\n".join(printed(table(found, image))))
-    for line in unseen(found, image):
+    slots = list(unseen(found, image, run))
+    reasons = [f"{sum(why == name for why, _ in slots)} {name}" for name in REASONS]
+    print(f"slots of which none was seen: {len(slots)}: " + ", ".join(reasons))
+    for _, line in slots:
         print("never seen: " + line)
 
 
@@ -283,8 +356,9 @@ def main():
     events = min(budget(image.cases), MOST_EVENTS)
     with tempfile.TemporaryDirectory() as folder:
         runner = Runner(asked, folder, events)
+        run = runner.addresses()
         found = run_all(runner, batches(faults, asked.alone), len(faults), max(asked.jobs, 1))
-    print_all(image, found, whole, asked)
+    print_all(image, found, whole, run, asked)
     if asked.svg:
         Path(asked.svg).write_text(picture(image, found), encoding="ascii")
     reported = sum(is_reported for _, is_reported in found)

@@ -148,6 +148,12 @@ need() {
     [ "$2" -ge 2 ] || die "$1 wants a value"
 }
 
+# A number from 1 on behind an option.
+need_number() {
+    need "$1" "$2"
+    [[ $3 =~ ^[1-9][0-9]*$ ]] || die "$1 wants a number from 1 on"
+}
+
 program=$here/../crates/threadmill/out/threadmill
 command="$(printf %q "$here/run_on_qemu.py") {}"
 range=1-1000 seconds=300 jobs='' hosts='' each=10 resume='' is_slurm='' names=()
@@ -161,10 +167,10 @@ while [ $# -gt 0 ]; do
         --seeds) need "$1" $#; range=$2; shift 2 ;;
         --threadmill) need "$1" $#; program=$2; shift 2 ;;
         --run) need "$1" $#; command=$2; shift 2 ;;
-        --seconds) need "$1" $#; seconds=$2; shift 2 ;;
-        --jobs) need "$1" $#; jobs=$2; shift 2 ;;
+        --seconds) need_number "$1" $# "${2:-}"; seconds=$2; shift 2 ;;
+        --jobs) need_number "$1" $# "${2:-}"; jobs=$2; shift 2 ;;
         --hosts) need "$1" $#; hosts=$2; shift 2 ;;
-        --each) need "$1" $#; each=$2; shift 2 ;;
+        --each) need_number "$1" $# "${2:-}"; each=$2; shift 2 ;;
         -*) die "$1 isn't an option: --help tells them" ;;
         *) names+=("$1"); shift ;;
     esac

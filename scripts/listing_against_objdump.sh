@@ -1,18 +1,30 @@
 #!/usr/bin/env bash
 # Compares a listing with GNU objdump: builds an image, lists it, and looks for each slot's word and op name at its
-# address in the disassembly. It isn't part of the gate. Debian has objdump in binutils-riscv64-linux-gnu; where there
-# is none, this says so and ends with 0.
-#
-# usage: listing_against_objdump.sh THREADMILL
+# address in the disassembly.
 set -euo pipefail
 
-program=$(realpath "${1:?usage: listing_against_objdump.sh THREADMILL}")
+usage() {
+    cat <<'TEXT'
+usage: listing_against_objdump.sh THREADMILL
 
-objdump=$(command -v riscv64-linux-gnu-objdump || command -v riscv64-unknown-elf-objdump || true)
-if [ -z "$objdump" ]; then
-    echo "no objdump for riscv64 is installed: nothing was compared"
-    exit 0
-fi
+Builds an image by the program THREADMILL, lists it, and looks for each slot's word and op name at its address in what
+GNU objdump has (Debian: binutils-riscv64-linux-gnu). It isn't part of the gate.
+
+It ends with status 0 where all agree, with 1 where something differs, and with 2 where nothing could be compared.
+TEXT
+}
+
+die() {
+    echo "listing_against_objdump.sh: $*" >&2
+    exit 2
+}
+
+case ${1:-} in --help | -h) usage; exit 0 ;; esac
+[ $# -eq 1 ] || { usage >&2; exit 2; }
+program=$(command -v "$1") || die "there is no program $1"
+program=$(realpath "$program")
+objdump=$(command -v riscv64-linux-gnu-objdump || command -v riscv64-unknown-elf-objdump) ||
+    die "there is no objdump for riscv64 (Debian: binutils-riscv64-linux-gnu)"
 
 work=$(mktemp -d)
 trap 'rm -rf "$work"' EXIT

@@ -1,13 +1,13 @@
 #!/usr/bin/env python3
 """Builds the worked examples of examples/, and lists, runs and surveys each.
 
-The images, listings, reports, surveys and pictures are left in FOLDER. Each example is run in round order, with
---threads also with a thread for each hart, and on QEMU where that is installed (Debian: qemu-system-misc). With
---reader the second reading in scripts/derive builds, lists and runs in place of the program. It isn't part of the
-gate.
+The images, listings, reports, traces, surveys and pictures are left in FOLDER. Each example is run in round order, as
+it is, with a trace, and under its script of faults, whose lines `# reported:` say what has to be told; with --threads
+also with a thread for each hart; and on QEMU where that is installed (Debian: qemu-system-misc). With --reader the
+second reading in scripts/derive builds, lists and runs in place of the program. It isn't part of the gate.
 
-It ends with status 0 where all went well and no case was reported, with 1 where not, and with 2 where nothing could be
-tried."""
+It ends with status 0 where all went well, and nothing was reported but under a script; with 1 where not; and with 2
+where nothing could be tried."""
 
 import argparse
 import shutil
@@ -21,25 +21,41 @@ sys.path.insert(0, str(HERE))
 from derive import texts
 from derive.faults import Fault
 from derive.image import Image, open_image
+from derive.scripts import read_script
 from derive.simulator import Run
+from derive.traces import read_trace, trace_text
 
 EXAMPLES = HERE.parent / "examples"
 PROGRAM = HERE.parent / "crates" / "threadmill" / "out" / "threadmill"
 MOST_EVENTS = 4_000_000
 
 
-def called(words, out):
-    """Whether a command ends with status 0; what it prints goes to a file."""
+def called(words, out, status=0):
+    """Whether a command ends with a status; what it prints goes to a file."""
     done = subprocess.run([str(word) for word in words], capture_output=True, check=False)
     out.write_bytes(done.stdout + done.stderr)
-    return done.returncode == 0
+    return done.returncode == status
 
 
-def by_reader(inputs, image, seed):
+def is_trace(path, report):
+    """Whether a file is the trace of a run with this report."""
+    _, events = read_trace(path.read_bytes())
+    return report.read_bytes().endswith(f"events {len(events)}\n".encode())
+
+
+def is_told(script, report):
+    """Whether a report has exactly the lines that a script's remarks announce, beside those that are ok."""
+    told = [line for line in report.read_text().splitlines() if ": hart " in line]
+    mark = "# reported: "
+    return told == [line.removeprefix(mark) for line in script.read_text().splitlines() if line.startswith(mark)]
+
+
+def by_reader(inputs, image, asked):
     """The steps as the second reading does them."""
+    *texts_of_test, script = inputs
 
     def build(out):
-        found = Image(*(path.read_bytes() for path in inputs), seed)
+        found = Image(*(path.read_bytes() for path in texts_of_test), asked.seed)
         image.write_bytes(found.file)
         cases = found.cases
         out.write_text(f"built: harts {cases.harts}, cases {len(cases.cases)}, bytes {len(found.file)}\n")
@@ -49,34 +65,48 @@ def by_reader(inputs, image, seed):
         out.write_bytes(texts.listing(open_image(image.read_bytes())))
         return True
 
-    def run(out):
-        done = Run(open_image(image.read_bytes()), MOST_EVENTS)
+    def run(out, lines=()):
+        done = Run(open_image(image.read_bytes()), MOST_EVENTS, lines)
         is_done = done.halted() == done.cases.harts
         out.write_bytes(texts.report(done) if is_done else texts.full_line(done))
+        return done, is_done
+
+    def plain(out):
+        done, is_done = run(out)
+        image.with_suffix(".trace").write_bytes(trace_text(done.cases.harts, done.journal))
         return is_done and not texts.reported(done)
 
-    return {"build": build, "list": listing, "round": run}
+    def faults(out):
+        lines = read_script(script.read_bytes(), open_image(image.read_bytes()).cases)
+        return run(out, lines)[1] and is_told(script, out)
+
+    trace = image.with_suffix(".trace")
+    steps = {"build": build, "list": listing, "round": plain}
+    return steps | {"trace": lambda out: is_trace(trace, image.with_suffix(".round")), "faults": faults}
 
 
-def by_program(program, inputs, image, asked):
+def by_program(inputs, image, asked):
     """The steps as the program does them."""
+    *texts_of_test, script = inputs
+    program, trace = asked.threadmill, image.with_suffix(".trace")
+    run = [program, "run", image, "--order"]
+    wanted = 1 if "# reported: " in script.read_text() else 0
     steps = {
-        "build": lambda out: called([program, "build", *inputs, image, "--seed", asked.seed], out),
+        "build": lambda out: called([program, "build", *texts_of_test, image, "--seed", asked.seed], out),
         "list": lambda out: called([program, "list", image], out),
-        "round": lambda out: called([program, "run", image, "--order", "round"], out),
+        "round": lambda out: called([*run, "round"], out),
+        "trace": lambda out: called([*run, "round", "--trace", trace], out) and is_trace(trace, out),
+        "faults": lambda out: called([*run, "round", "--faults", script], out, wanted) and is_told(script, out),
     }
     if asked.threads:
-        steps["threads"] = lambda out: called([program, "run", image, "--order", "threads"], out)
+        steps["threads"] = lambda out: called([*run, "threads"], out)
     return steps
 
 
 def steps_of(name, asked):
-    inputs = [EXAMPLES / f"{name}.{end}" for end in ("toml", "tm")]
+    inputs = [EXAMPLES / f"{name}.{end}" for end in ("toml", "tm", "faults")]
     image = asked.folder / f"{name}.elf"
-    if asked.reader:
-        steps = by_reader(inputs, image, asked.seed)
-    else:
-        steps = by_program(asked.threadmill, inputs, image, asked)
+    steps = (by_reader if asked.reader else by_program)(inputs, image, asked)
     if shutil.which("qemu-system-riscv64"):
         steps["qemu"] = lambda out: called([sys.executable, HERE / "run_on_qemu.py", image], out)
     words = [sys.executable, HERE / "survey.py", image, "--svg", asked.folder / f"{name}.svg"]
@@ -89,7 +119,7 @@ def try_example(name, asked):
     for step, do in steps_of(name, asked).items():
         if sys.stderr.isatty():
             sys.stderr.write(f"\r\x1b[K{name}: {step}")
-        out = asked.folder / f"{name}.{step}"
+        out = asked.folder / (f"{name}.{step}" if step != "trace" else f"{name}.traced")
         try:
             is_good = do(out)
         except (Fault, OSError) as why:

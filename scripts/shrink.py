@@ -17,7 +17,8 @@ harts and slots and the seed as they are, so that first values stay. Then, as lo
            the slot that they led to. --in-place leaves them, where a script or a board counts slots
   windows  that no slot needs go away
 
-What is found is left in FOLDER as small.toml, small.tm and small.elf. It isn't part of the gate, and nothing is proved.
+What is found is left in FOLDER as small.toml, small.tm and small.elf; where it is stopped, what it has found by then.
+It isn't part of the gate, and nothing is proved.
 
 It ends with status 0; with 1 where the image itself, or its test as it is written out, doesn't fail; and with 2 where
 nothing could be tried."""
@@ -116,8 +117,15 @@ class Trial:
         if key not in self.known:
             image = self.build(test, "trial")
             self.known[key] = image is not None and self.fails(image)
+            if self.known[key]:
+                self.keep()
             self.show(test)
         return self.known[key]
+
+    def keep(self):
+        """What fails is the smallest test so far."""
+        for path in self.folder.glob("trial.*"):
+            path.replace(path.with_stem("small"))
 
     def show(self, test):
         if sys.stderr.isatty():
@@ -286,8 +294,10 @@ def main():
         raise Stop(1, "the command doesn't say that the image fails")
     if not trial.still(test):
         raise Stop(1, "the test as it is written out doesn't fail; its texts are left as trial.toml and trial.tm")
-    small = shrunk(trial, test, asked.in_place)
-    trial.build(small, "small")
+    try:
+        small = shrunk(trial, test, asked.in_place)
+    except KeyboardInterrupt:
+        raise Stop(2, "stopped; the smallest test so far is left as small.toml, small.tm and small.elf") from None
     for path in asked.folder.glob("trial.*"):
         path.unlink()
     if sys.stderr.isatty():

@@ -21,6 +21,7 @@ from pathlib import Path
 
 sys.path.insert(0, str(Path(__file__).resolve().parent))
 
+from busy import busy_loops
 from derive.scripts import has_effect
 from survey import FileImage, decode
 
@@ -173,25 +174,13 @@ def simulated(program, image, order, limit, figures):
     figures.note(name, memory, "MiB")
 
 
-def busy_loop(processor):
-    """A process that keeps one processor busy."""
-    loop = subprocess.Popen([sys.executable, "-c", "while True: pass"])
-    os.sched_setaffinity(loop.pid, {processor})
-    return loop
-
-
 def shared(program, image, figures):
     """A run by threads on a machine that it shares: beside one busy loop for each processor, and on one processor."""
     words = [program, "run", image, "--order", "threads"]
     alone = measured(words)[0]
     processors = sorted(os.sched_getaffinity(0))
-    loops = [busy_loop(processor) for processor in processors]
-    try:
+    with busy_loops():
         beside = measured(words)[0]
-    finally:
-        for loop in loops:
-            loop.kill()
-            loop.wait()
     os.sched_setaffinity(0, processors[:1])
     try:
         pinned = measured(words)[0]

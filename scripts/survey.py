@@ -50,7 +50,7 @@ class FileImage:
         parts = read_elf(file)
         test = read_inputs(parts.topology, parts.template)
         harts, marks = test.shape.harts, dict(parts.symbols)
-        self.seed, self.masks, cases = parts.seed, [], []
+        self.seed, self.masks, self.starts, cases = parts.seed, [], [], []
         for c, (name, _) in enumerate(test.cases):
             words = []
             for h in range(harts):
@@ -60,6 +60,7 @@ class FileImage:
             registers = [struct.unpack_from("<Q", parts.tables, at + 256 * h + 248)[0] for h in range(harts)]
             masks = parts.tables[at + 256 * harts + 6144 :][:6144]
             self.masks.append((registers, [byte == 255 for byte in masks]))
+            self.starts.append([marks[f"tm_s_{h}_{c}".encode()] for h in range(harts)])
             if any(decode(word) is None for stream in words for word in stream):
                 raise Fault("NotAnInstruction")
             cases.append(Case(name, words, None, None))

@@ -2,14 +2,15 @@
 """Compares the instruction table with GNU binutils for RISC-V.
 
 Outside the gate: it needs riscv64-linux-gnu-as and riscv64-linux-gnu-objdump (Debian: binutils-riscv64-linux-gnu) and
-the kit's rt, and says so and ends where one is missing. It assembles each of the 65 instructions, RV64I's 52 and M's
+the kit's rt. It assembles each of the 65 instructions, RV64I's 52 and M's
 13, with many operands, and compares the words with `encode` and `decode`; it disassembles many words, and compares
 what stands there with `decode`. The table's calls run in a small program that is written into a temporary folder.
 FENCE words outside the table's profile (fm, rd or rs1 not zero), FENCE.I, and CSR and privileged instructions have no
 row, whatever the disassembler names them.
 
-usage: scripts/table_vectors.py [SEED]
+It ends with status 0 where all agree, with 1 where something differs, and with 2 where a tool is missing.
 """
+import argparse
 import os
 import random
 import re
@@ -237,11 +238,14 @@ def show(name, fields):
 
 
 def main():
+    parser = argparse.ArgumentParser(description=__doc__, formatter_class=argparse.RawDescriptionHelpFormatter)
+    parser.add_argument("seed", nargs="?", type=int, default=1, help="the seed of the operands and words (1)")
+    asked = parser.parse_args()
     missing = [tool for tool in (ASSEMBLER, DISASSEMBLER, "rt") if shutil.which(tool) is None]
     if missing:
-        print("skipped: %s not found" % ", ".join(missing))
-        return
-    pick = random.Random(int(sys.argv[1]) if len(sys.argv) > 1 else 1)
+        print("table_vectors.py: not found: %s" % ", ".join(missing), file=sys.stderr)
+        sys.exit(2)
+    pick = random.Random(asked.seed)
     folder = tempfile.mkdtemp(prefix="table_vectors.")
     wrong = []
     try:

@@ -29,9 +29,7 @@ def pieces(op):
     return ["rd", ",", "rs1", ",", last]
 
 
-def register_of(text):
-    names = {f"x{n}".encode(): n for n in range(32)}
-    return names.get(text)
+REGISTERS = {f"x{n}".encode(): n for n in range(32)}
 
 
 def signed_of(text):
@@ -76,7 +74,7 @@ class Reader:
 
     def put(self, piece, at, word):
         if piece in ("rd", "rs1", "rs2"):
-            value = register_of(word)
+            value = REGISTERS.get(word)
             if value is None:
                 raise Fault("BadRegister", place=at)
             self.fields[piece] = value

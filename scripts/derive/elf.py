@@ -157,10 +157,14 @@ def first_difference(a, b):
     """The first place at which two files differ, or the shorter length; None where they are the same."""
     if a == b:
         return None
-    for at, (x, y) in enumerate(zip(a, b)):
-        if x != y:
-            return at
-    return min(len(a), len(b))
+    low, high = 0, min(len(a), len(b))
+    while low < high:
+        middle = (low + high + 1) // 2
+        if a[low:middle] == b[low:middle]:
+            low = middle
+        else:
+            high = middle - 1
+    return low
 
 
 def read_elf(file):
