@@ -257,25 +257,25 @@ def read_back(folder, figures):
 
 
 def judged(program, image, harts, folder, figures):
-    """A trace of as many events as a run has by default, judged; and one without events, which opens the image alone."""
-    trace, nothing = folder / "judged.trace", folder / "nothing.trace"
-    nothing.write_text(f"trace 1 harts {harts} events 0\nend\n")
-    run = [program, "run", image, "--order", "round", "--events", str(JUDGED_EVENTS), "--trace", trace]
-    measured(run, 1)
-    with open(trace, "rb") as file:
+    """A trace of as many events as a run has by default, judged. The same of one hart more is read and then refused."""
+    trace = folder / "judged.trace"
+    measured([program, "run", image, "--order", "round", "--events", str(JUDGED_EVENTS), "--trace", trace], 1)
+    words = [program, "judge", image, trace]
+    seconds, out, memory, status = measured(words, 3)
+    with open(trace, "r+b") as file:
         events = int(file.readline().split()[-1])
+        file.seek(len("trace 1 harts "))
+        file.write(str(harts + 1).encode())
     size = trace.stat().st_size
-    opening = measured([program, "judge", image, nothing])
-    seconds, out, memory, status = measured([program, "judge", image, trace], 3)
+    reading = measured(words, 3)[0]
     trace.unlink()
-    rate = events / max(seconds - opening[0], 1e-6) / 1e6
-    beyond = (memory - opening[2]) * 2**20 - size
-    print(f"judge: {events} events in {size} bytes in {seconds:.3f} s, {opening[0]:.3f} s of them without events; "
+    rate = events / max(seconds - reading, 1e-6) / 1e6
+    beyond = (memory * 2**20 - size) / events
+    print(f"judge: {events} events in {size} bytes in {seconds:.3f} s, {reading:.3f} s of them until all is read; "
           f"{rate:.2f} million a second; {memory:.0f} MiB at most; status {status}: {out.split()}")
-    if events == JUDGED_EVENTS:
-        figures.note("judge of 4,000,000 events", seconds, "s, at most")
+    figures.note(f"judge {image.stem}", seconds * JUDGED_EVENTS / events, "s for 4,000,000 events, at most")
     figures.note(f"judge {image.stem}", rate, "million events a second, at least")
-    figures.note(f"judge {image.stem}", beyond / events, "bytes for an event beyond its text, at most")
+    figures.note(f"judge {image.stem}", beyond, "bytes for an event beyond its text, at most")
 
 
 def traced(folder, image, harts):

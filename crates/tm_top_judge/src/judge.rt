@@ -2,7 +2,8 @@
 ghost use Rattle.std.specs.Prelude.{◌≡◌, ◌≤◌, IsTrue, IfErr, IfOk, None};
 ghost use Rattle.tm_words.specs.declared.command.Command.TheVariants as commands;
 ghost use Rattle.tm_top_owed.specs.Changes.{desk_change, sink_change, FilesStay};
-ghost use Rattle.tm_top_owed.specs.Owed.{IsDone, IsJudgementOf, status_judged};
+ghost use Rattle.tm_top_line.specs.Judgements as texts;
+ghost use Rattle.tm_top_owed.specs.Owed.{IsDone, IsJudgementOf, is_yes as is_yes_answer, status_judged};
 ghost use Rattle.tm_top_owed.specs.Steps.{InputStop, Stopped};
 
 use crate::trace::{judged, read_named};
@@ -38,7 +39,7 @@ fn read_judgement<D: Desk>(alloc: Global, judge: &Judge, desk: &mut D) -> Result
 }
 
 fn is_yes(answer: Answer) -> bool
-    ensures { result ≡ Rattle.tm_top_owed.specs.Owed.is_yes answer }
+    ensures { result ≡ is_yes_answer answer }
 {
     match answer {
         Answer::Yes => true,
@@ -58,7 +59,7 @@ fn status_of(judgement: &Judgement) -> u8
 
 // The text of a judgement, or want of memory.
 fn told(alloc: Global, judgement: &Judgement) -> Result<Text, Stop>
-    ensures ok { IfOk result (λ text. text ≡ Rattle.tm_top_line.specs.Judgements.judgement_text judgement.now) }
+    ensures ok { IfOk result (λ text. text ≡ texts.judgement_text judgement.now) }
     ensures err { IfErr result (λ stop. stop ≡ Stop.NoMemory) }
 {
     match judgement_text(alloc, judgement) {
