@@ -35,10 +35,10 @@ module _ (p : Program) (past : List Step) where
     shape : HasShape a
     reads : Reads (plain_owed p past) (unloaded change a)
 
-  same-value : (change : Change) (addr width v u : ℕ) → HasShape (Read addr width v) → HasShape (Read addr width u)
+  same-load : (change : Change) (addr width v u : ℕ) → HasShape (Read addr width v) → HasShape (Read addr width u)
       → Reads (plain_owed p past) (unloaded change (Read addr width v))
       → Reads (plain_owed p past) (unloaded change (Read addr width u)) → v ≡ u
-  same-value change addr width v u s t r q = same-xored width change.loaded v u s.1 t.1 (λ i l. r i l ∙ sym (q i l))
+  same-load change addr width v u s t r q = same-xored width change.loaded v u s.1 t.1 (λ i l. r i l ∙ sym (q i l))
 
   one-access : (change : Change) (e : Effect) (hart : Hart) (rd n : ℕ) (a b : Access)
       → IsMade change e hart rd n a → IsMade change e hart rd n b → a ≡ b
@@ -51,7 +51,7 @@ module _ (p : Program) (past : List Step) where
       let v = read_value a in
       let u = read_value b in
       let same =
-      same-value change addr width v u (subst HasShape (sym m.made) m.shape) (subst HasShape (sym k.made) k.shape)
+      same-load change addr width v u (subst HasShape (sym m.made) m.shape) (subst HasShape (sym k.made) k.shape)
       (subst (λ (x : Access). Reads (plain_owed p past) (unloaded change x)) (sym m.made) m.reads)
       (subst (λ (x : Access). Reads (plain_owed p past) (unloaded change x)) (sym k.made) k.reads) in
       sym m.made ∙ (ap (Read addr width) same ∙ k.made)
