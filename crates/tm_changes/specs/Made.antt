@@ -1,5 +1,5 @@
 -- What the code holds of a change, and a change with one action more (this project's own).
-use Rattle.std.specs.Prelude.{ℕ, true, Option, Some, None}
+use Rattle.std.specs.Prelude.{true, Option, Some, None}
 use Rattle.tm_plan_script.specs.declared.faults.Action.{Action}
 use Rattle.tm_plan_script.specs.declared.faults.Action.TheVariants.{Result, Loaded, Stored, Drop, Turn}
 use Rattle.tm_world.specs.Faulted.{Change, nothing}

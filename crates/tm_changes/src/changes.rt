@@ -1,13 +1,14 @@
 // The changes of a script, found by the place of a word in the text.
-ghost use Rattle.std.specs.Prelude.{◌≡◌, ◌≤◌, ◌<◌, ◌^◌, ℕ, true, length, slice_index_or, IfOk};
+ghost use Rattle.std.specs.Prelude.{◌≡◌, ◌≤◌, ◌<◌, ◌^◌, length, IfOk, if◌then◌else◌};
 ghost use Rattle.tm_plan_cases.specs.Shaped.{IsProgram};
 ghost use Rattle.tm_plan_map.specs.Map.{text_base};
-ghost use Rattle.tm_world.specs.Script.{change_of};
-ghost use Rattle.tm_changes.specs.Made.{change_in, change_told};
-ghost use Rattle.tm_changes.specs.Scripted.{IsMarked, AreMarked, place_of};
+ghost use Rattle.tm_world.specs.Script.{change_of, names as names_of};
+ghost use Rattle.tm_changes.specs.Made.{change_in, change_told, with_action};
+ghost use Rattle.tm_changes.specs.Scripted.{IsLast, place_of};
 
+use crate::chains::{chain_all, zeros};
 use crate::change::Change;
-use crate::names::{names, start_at};
+use crate::names::names;
 use std::alloc::Global;
 use std::marker::Model;
 use tm_base::NoMemory;
@@ -15,27 +16,31 @@ use tm_plan_cases::Program;
 use tm_plan_map::TEXT_ADDRESS;
 use tm_plan_script::{FaultLine, Faults};
 
-/// A program under a script. Which words of its text stand at slots of which the script speaks is marked once, so that
-/// all other steps are told from these by one look, whatever the script is. Contracts see the program and the lines.
+/// A program under a script. The lines whose slots stand at one word of the text are chained, the last one first, so
+/// that a step looks at the lines of its own word alone. Contracts see the program and the lines.
 #[derive(Drop)]
 pub struct Changes<'a> {
     program: &'a Program,
     faults: Faults,
-    named: Vec<bool>,
+    // For each word of the text the number of its last line, counted from 1; 0 where it has none.
+    lasts: Vec<u32>,
+    // For each line the number of the line before it at the same word.
+    befores: Vec<u32>,
 }
 
 impl<'a> Model for Changes<'a> {
-    ghost use Rattle.tm_changes.specs.Scripted.{Scripted, KeepsMarks};
+    ghost use Rattle.tm_changes.specs.Scripted.{Scripted, KeepsChains};
 
     ghost Value = { Scripted };
 
     ghost view = { λ c. record { program = c.program.now; lines = c.faults } };
 
-    ghost invariant = { λ c. KeepsMarks c.program.now c.faults c.named.items };
+    ghost invariant = { λ c. KeepsChains c.program.now c.faults c.lasts.items c.befores.items };
 }
 
 impl<'a> Changes<'a> {
-    /// The changes of a script. Memory is taken here alone: a byte for each word of the text.
+    /// The changes of a script. Memory is taken here alone, 4 bytes for each word of the text and for each line; for
+    /// 2^32 lines there is none.
     pub fn start(
         alloc: Global,
         program: &'a Program,
@@ -45,15 +50,24 @@ impl<'a> Changes<'a> {
         ensures program { IfOk result (λ c. c.program ≡ program.now) }
         ensures lines { IfOk result (λ c. c.lines ≡ faults) }
     {
-        let mut named = match vec![in alloc; false; program.text.as_slice().len()] {
-            Ok(named) => named,
-            Err(_) => return Err(NoMemory),
+        let lines = faults.as_slice();
+        if lines.len() > u32::MAX as usize {
+            return Err(NoMemory);
+        }
+        let mut lasts = match zeros(alloc, program.text.as_slice().len()) {
+            Ok(lasts) => lasts,
+            Err(e) => return Err(e),
         };
-        mark_all(program, &mut named, faults.as_slice());
+        let mut befores = match zeros(alloc, lines.len()) {
+            Ok(befores) => befores,
+            Err(e) => return Err(e),
+        };
+        chain_all(program, lines, &mut lasts, &mut befores);
         Ok(Changes {
             program,
             faults,
-            named,
+            lasts,
+            befores,
         })
     }
 
@@ -64,57 +78,47 @@ impl<'a> Changes<'a> {
         requires within { place_of pc < length self.now.program.text }
         ensures { change_told result ≡ change_of self.now.program self.now.lines h phase pc }
     {
-        if !self.named[((pc - TEXT_ADDRESS) / 4) as usize] {
+        let last = self.lasts[((pc - TEXT_ADDRESS) / 4) as usize];
+        if last == 0 {
             return None;
         }
-        Some(self.change(h, phase, pc))
+        Some(self.change(last, h, phase, pc))
     }
 
-    // What the lines change, one after the other from the last to the first.
-    fn change(&self, h: u32, phase: u64, pc: u64) -> Change
+    // What the lines of a word change, of which this is the last, one after the other from it to the first.
+    fn change(&self, last: u32, h: u32, phase: u64, pc: u64) -> Change
+        requires from { text_base ≤ pc }
+        requires within { place_of pc < length self.now.program.text }
+        requires last { IsLast self.now.program self.now.lines (place_of pc) (length self.now.lines) last }
         ensures { change_in result ≡ change_of self.now.program self.now.lines h phase pc }
     {
         let lines = self.faults.as_slice();
         let mut change = Change::nothing();
-        let mut left = lines.len();
+        let mut left = last;
         while left > 0 {
-            left -= 1;
-            let line = &lines[left];
-            if names(self.program, line, h, phase, pc) {
-                change = change.with(line.action);
-            }
+            let place = left as usize - 1;
+            change = with_line(self.program, &lines[place], change, h, phase, pc);
+            left = self.befores[place];
         }
         change
     }
 }
 
-// Marks the words at the slots of all lines.
-fn mark_all(program: &Program, named: &mut [bool], lines: &[FaultLine])
+// A change with the action of a line, where the line speaks of the step.
+fn with_line(
+    program: &Program,
+    line: &FaultLine,
+    change: Change,
+    h: u32,
+    phase: u64,
+    pc: u64,
+) -> Change
     requires { IsProgram program.now }
-    ensures long { length named.new ≡ length named.old }
-    ensures marked { AreMarked program.now named.new lines.now (length lines.now) }
+    ensures { change_in result ≡ (if names_of program.now line.now h phase pc
+        then with_action line.now.action (change_in change) else change_in change) }
 {
-    for line in lines {
-        mark(program, named, line);
+    if names(program, line, h, phase, pc) {
+        return change.with(line.action);
     }
-}
-
-// Marks the word at the slot of a line, where the slot stands in the text.
-fn mark(program: &Program, named: &mut [bool], line: &FaultLine)
-    requires { IsProgram program.now }
-    ensures long { length named.new ≡ length named.old }
-    ensures marked { IsMarked program.now named.new line.now }
-    ensures kept { (k : ℕ) → slice_index_or named.old k true ≡ true → slice_index_or named.new k true ≡ true }
-{
-    let start = start_at(program, line.hart, line.case);
-    let Some(at) = start.checked_add(4 * u64::from(line.slot)) else {
-        return;
-    };
-    if at < TEXT_ADDRESS {
-        return;
-    }
-    let place = ((at - TEXT_ADDRESS) / 4) as usize;
-    if place < named.len() {
-        named[place] = true;
-    }
+    change
 }

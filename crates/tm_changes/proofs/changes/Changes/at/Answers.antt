@@ -1,26 +1,36 @@
-use Rattle.std.proofs.Common.{◌≡◌, ◌<◌, length, subst, sym, arith}
+use Rattle.std.proofs.Common.{◌∙◌, ℕ, drop, ap, sym, arith, refl}
 use Rattle.tm_plan_map.specs.Map.{text_base}
-use Rattle.tm_world.specs.Faulted.{nothing}
 use Rattle.tm_world.specs.Script.{change_of}
-use Rattle.tm_changes.specs.Scripted.{Scripted, place_of}
-use Rattle.tm_changes.proofs.Changing.{unmarked, in-named}
+use Rattle.tm_world.specs.Faulted.{nothing}
+use Rattle.tm_changes.specs.Scripted.{Scripted}
+use Rattle.tm_changes.proofs.Changing.{found-last, from-last, kept-shown}
 use Rattle.tm_changes.proofs.changes.Changes.at.Goals as goal
 
 pub overflow_sub-pc : goal.overflow_sub-pc
 unfolding text_base
 overflow_sub-pc c = c.requires.from
 
-pub index-requires : goal.index-requires
+pub index-last-requires : goal.index-last-requires
 unfolding text_base
-index-requires c =
-    let few = in-named c.args.self.now _ _ _ c.args.pc c.self.view_is c.self.invariant c.requires.within in
-    omega (arith, few, c.self.inside.named.ok)
+index-last-requires c =
+    let kept = kept-shown c.args.self.now _ _ c.self.inside.faults _ _ c.self.view_is refl c.self.invariant in
+    omega (arith, c.requires.within, kept.words, c.self.inside.lasts.ok)
 
-pub returns-then-not-index : goal.returns-then-not-index
+pub returns-then-last-eq0 : goal.returns-then-last-eq0
 unfolding text_base
-returns-then-not-index c =
-    subst (λ (v : Scripted). nothing ≡ change_of v.program v.lines c.args.h c.args.phase c.args.pc) c.self.view_is
-    (unmarked _ _ _ c.args.h c.args.phase c.args.pc c.index.result.now c.self.invariant c.ranges.pc.fits
-    c.requires.from
-    (subst (λ (v : Scripted). place_of c.args.pc < length v.program.text) (sym c.self.view_is) c.requires.within)
-    c.index.ensures c.if-not-index.true)
+returns-then-last-eq0 c =
+    let v = c.args.self.now in
+    let shown = sym (ap (λ (w : Scripted). w.lines) c.self.view_is) in
+    let kept = kept-shown v _ _ v.lines _ _ c.self.view_is shown c.self.invariant in
+    let last =
+    found-last v.program v.lines _ _ c.args.pc c.index-last.result.now kept c.requires.within c.index-last.ensures in
+    from-last v.program v.lines c.args.h c.args.phase c.args.pc _ nothing c.ranges.pc.fits c.requires.from last refl
+    ∙ ap (λ (n : ℕ). change_of v.program (drop n v.lines) c.args.h c.args.phase c.args.pc) c.if-last-eq0.true
+
+pub change-requires-clause-last : goal.change-requires-clause-last
+unfolding text_base
+change-requires-clause-last c =
+    let v = c.args.self.now in
+    let shown = sym (ap (λ (w : Scripted). w.lines) c.self.view_is) in
+    let kept = kept-shown v _ _ v.lines _ _ c.self.view_is shown c.self.invariant in
+    found-last v.program v.lines _ _ c.args.pc c.index-last.result.now kept c.requires.within c.index-last.ensures
