@@ -141,6 +141,11 @@ to-last p lines n number h q pc change fits from room last was =
     ∙ skips p lines h q pc fits from (n - number) number (omega (arith, more, room))
     (λ k line above below found. last.none_later k line above (omega (arith, below, more)) found))
 
+-- a script without lines changes nothing
+pub no-lines : (p : Program) (lines : List FaultLine) (h q pc : ℕ) → lines ≡ [] → nothing ≡ change_of p lines h q pc
+no-lines p lines h q pc none =
+    sym (ap (λ (x : List FaultLine). change_of p x h q pc) none ∙ none-changes p h q pc)
+
 -- ---- the tables of a program that is seen otherwise
 
 pub kept-shown : (v : Scripted) (p : Program) (shown lines : List FaultLine) (lasts befores : List ℕ)
