@@ -16,7 +16,7 @@ use Rattle.tm_table.specs.declared.state.Access.{Access}
 use Rattle.tm_table.specs.declared.state.Access.TheVariants.{Quiet, Read, Write}
 use Rattle.tm_table.specs.State.{Hart}
 use Rattle.tm_table.specs.Words.{low}
-use Rattle.tm_table.specs.Row.{Effect, Gives, Loads, Stores, Branches, Jumps, effect, effect_at, after, row, HasWidth}
+use Rattle.tm_table.specs.Row.{Effect, Gives, Loads, Stores, Branches, Jumps, effect, effect_at, after, HasWidth}
 use Rattle.tm_plan_map.specs.Slots.{load_width, store_width}
 use Rattle.tm_ram.specs.Region.{Region}
 use Rattle.tm_world.specs.Run.{Reads, read_value, HasShape}

@@ -1,4 +1,3 @@
-use Rattle.std.proofs.Common.{refl}
 use Rattle.tm_table.specs.State.{hart_of}
 use Rattle.tm_table.specs.Row.{effect_by}
 use Rattle.tm_world.specs.Run.{HasShape}
