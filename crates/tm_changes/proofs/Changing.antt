@@ -100,6 +100,16 @@ speaks p line h q pc e = by (case_of_phase p q) e
               ∙ eqb-true (start_of p h c + 4 * line.slot) pc stands;
         }
 
+pub none-here : (p : Program) (lines : List FaultLine) (h q pc : ℕ)
+    → ((k : ℕ) (line : FaultLine) → slice_get lines k ≡ Some line → names p line h q pc ≡ false)
+    → change_of p lines h q pc ≡ nothing
+none-here p [] h q pc none = none-changes p h q pc
+none-here p (line ∷ lines) h q pc none =
+    line-more p line lines h q pc
+    ∙ (ap (λ (b : Bool). if b then with_action line.action (change_of p lines h q pc) else change_of p lines h q pc)
+    (none 0 line refl)
+    ∙ none-here p lines h q pc (λ k other found. none (suc k) other found))
+
 -- where a line isn't at the word of a step, it doesn't speak of the step
 not-here : (p : Program) (line : FaultLine) (h q pc : ℕ) → pc < 2 ^ 64 → text_base ≤ pc
     → (¬ IsAt p line (place_of pc)) → names p line h q pc ≡ false
@@ -140,6 +150,11 @@ to-last p lines n number h q pc change fits from room last was =
     was ∙ (ap (λ (k : ℕ). change_of p (drop k lines) h q pc) (sym more)
     ∙ skips p lines h q pc fits from (n - number) number (omega (arith, more, room))
     (λ k line above below found. last.none_later k line above (omega (arith, below, more)) found))
+
+-- a script without lines changes nothing
+pub no-lines : (p : Program) (lines : List FaultLine) (h q pc : ℕ) → lines ≡ [] → nothing ≡ change_of p lines h q pc
+no-lines p lines h q pc none =
+    sym (ap (λ (x : List FaultLine). change_of p x h q pc) none ∙ none-changes p h q pc)
 
 -- ---- the tables of a program that is seen otherwise
 

@@ -78,6 +78,9 @@ impl<'a> Changes<'a> {
         requires within { place_of pc < length self.now.program.text }
         ensures { change_told result ≡ change_of self.now.program self.now.lines h phase pc }
     {
+        if self.faults.as_slice().is_empty() {
+            return None;
+        }
         let last = self.lasts[((pc - TEXT_ADDRESS) / 4) as usize];
         if last == 0 {
             return None;
@@ -85,7 +88,9 @@ impl<'a> Changes<'a> {
         Some(self.change(last, h, phase, pc))
     }
 
-    // What the lines of a word change, of which this is the last, one after the other from it to the first.
+    // What the lines of a word change, of which this is the last, one after the other from it to the first. It is
+    // called apart, so that the way of a step without a line stays short.
+    #[inline(never)]
     fn change(&self, last: u32, h: u32, phase: u64, pc: u64) -> Change
         requires from { text_base ≤ pc }
         requires within { place_of pc < length self.now.program.text }

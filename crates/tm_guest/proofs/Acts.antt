@@ -7,9 +7,9 @@ use Rattle.tm_table.specs.State.{Hart}
 use Rattle.tm_table.specs.Words.{low}
 use Rattle.tm_table.specs.Row.{Effect, Gives, Loads, Stores, Branches, Jumps, effect_at, after, row, HasWidth, IsWidth}
 use Rattle.tm_ram.specs.Region.{Region, IsPlace}
-use Rattle.tm_world.specs.Run.{Reads, read_value, HasShape, IsFitting}
+use Rattle.tm_world.specs.Run.{read_value, HasShape, IsFitting}
 use Rattle.tm_world.specs.Kinds.{IsPossible, IsReachable}
-use Rattle.tm_guest.specs.Memory.{IsGuestRegion, LoadsIn, LoadsExactly, WritesIn, owed_of}
+use Rattle.tm_guest.specs.Memory.{IsGuestRegion, LoadsIn, WritesIn}
 
 -- an access that can be made has its place in the region
 pub placed : (r : Region) (addr width : ℕ) → IsGuestRegion r → IsWidth width → IsReachable addr width
@@ -62,26 +62,6 @@ low-fits width value w = by w
     by (inr (inl e)) = back 2 e (omega arith)
     by (inr (inr (inl e))) = back 4 e (omega arith)
     by (inr (inr (inr e))) = back 8 e (omega arith)
-
--- ---- what the access is
-
-pub shape-after : (r : Region) (e : Effect) (hart : Hart) (rd n read : ℕ) → HasWidth e → LoadsExactly r e read
-    → HasShape (after e hart rd n read).1
-unfolding after
-shape-after r (Loads addr width with_sign) hart rd n read w l = fitting width read w l.0
-shape-after r (Stores addr width value) hart rd n read w l = fitting width _ w (low-fits width value w)
-shape-after r (Gives value) hart rd n read w l = tt
-shape-after r (Branches taken) hart rd n read w l = tt
-shape-after r (Jumps link target) hart rd n read w l = tt
-
-pub reads-after : (r : Region) (e : Effect) (hart : Hart) (rd n read : ℕ) → LoadsExactly r e read
-    → Reads (owed_of r) (after e hart rd n read).1
-unfolding after
-reads-after r (Loads addr width with_sign) hart rd n read l = l.1
-reads-after r (Gives value) hart rd n read l = tt
-reads-after r (Stores addr width value) hart rd n read l = tt
-reads-after r (Branches taken) hart rd n read l = tt
-reads-after r (Jumps link target) hart rd n read l = tt
 
 -- a step is that of the value which its access read
 own-read : (e : Effect) (hart : Hart) (rd n read : ℕ)

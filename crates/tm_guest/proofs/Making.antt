@@ -16,13 +16,12 @@ use Rattle.tm_table.specs.declared.state.Access.{Access}
 use Rattle.tm_table.specs.declared.state.Access.TheVariants.{Quiet, Read, Write}
 use Rattle.tm_table.specs.State.{Hart}
 use Rattle.tm_table.specs.Words.{low}
-use Rattle.tm_table.specs.Row.{Effect, Gives, Loads, Stores, Branches, Jumps, effect, effect_at, after, row, HasWidth}
+use Rattle.tm_table.specs.Row.{Effect, Gives, Loads, Stores, Branches, Jumps, effect, effect_at, after, HasWidth}
 use Rattle.tm_plan_map.specs.Slots.{load_width, store_width}
 use Rattle.tm_ram.specs.Region.{Region}
 use Rattle.tm_world.specs.Run.{Reads, read_value, HasShape}
 use Rattle.tm_world.specs.Kinds.{IsPossible}
-use Rattle.tm_world.specs.Faulted.{Change, access_by, unloaded, state_by, nothing}
-use Rattle.tm_memory.proofs.Nothing.{same-access, same-read, same-state}
+use Rattle.tm_world.specs.Faulted.{Change, access_by, unloaded, state_by}
 use Rattle.tm_guest.specs.Memory.{LoadsExactly, owed_of}
 use Rattle.tm_guest.specs.Making.{FitsOp, IsMade}
 use Rattle.tm_guest.proofs.Acts.{fitting, low-fits, row-made}
@@ -210,17 +209,3 @@ made-changed ch before next left i r e value read clean does is wide loads fits 
       subst HasShape (sym (changed ∙ ap (access_by ch) access))
           (shape-changed ch i.op e before i.rd n read width fits wide fit),
     )
-
--- a step that nothing changes
-pub made-plain : (before left : Hart) (i : Instr) (r : Region) (does : Access)
-    → row before i (read_value does) ≡ (left, does) → HasShape does → Reads (owed_of r) does
-    → IsMade nothing before i r does left
-made-plain before left i r does made shape reads = record {
-  clean = does;
-  next = left;
-  made = made;
-  shape = shape;
-  reads = subst (Reads (owed_of r)) (sym (same-read does)) reads;
-  access = sym (same-access does);
-  state = sym (same-state i before left);
-}

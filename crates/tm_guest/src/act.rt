@@ -1,13 +1,13 @@
 // One step of one hart.
-ghost use Rattle.std.specs.Prelude.{◌≡◌, ◌<◌, ℕ};
+ghost use Rattle.std.specs.Prelude.{◌≡◌, ◌<◌, ℕ, bit_xor};
 ghost use Rattle.tm_table.specs.State.{Hart, hart_of};
 ghost use Rattle.tm_table.specs.Words.{Fits};
 ghost use Rattle.tm_table.specs.Row.{row, effect_by, HasWidth};
-ghost use Rattle.tm_world.specs.Run.{Reads, HasShape, read_value};
+ghost use Rattle.tm_world.specs.Run.{HasShape};
 ghost use Rattle.tm_world.specs.Kinds.{IsPossible};
 ghost use Rattle.tm_world.specs.Faulted.{access_by};
 ghost use Rattle.tm_changes.specs.Made.{change_in, change_told};
-ghost use Rattle.tm_guest.specs.Memory.{IsGuestRegion, LoadsIn, LoadsExactly, WritesIn, IsWritten, owed_of};
+ghost use Rattle.tm_guest.specs.Memory.{IsGuestRegion, LoadsIn, LoadsExactly, WritesIn, IsWritten};
 ghost use Rattle.tm_guest.specs.Making.{IsMade, FitsOp, IsStateBy, HasTurned, xored};
 
 use crate::decoded::Decoded;
@@ -63,41 +63,36 @@ fn make(cpu: &mut Cpu, ram: &Ram, instr: Instr, change: Option<Change>) -> Acces
     ensures made { IsMade (change_told change) (hart_of cpu.old) instr ram.now result (hart_of cpu.new) }
     ensures shape { HasShape result }
 {
+    let from = cpu.pc;
+    let action = action_at(cpu, instr);
+    let read = with_loaded(read_for(ram, action), change);
+    let clean = apply(cpu, action, instr, read);
+    finish(cpu, from, instr, clean, change)
+}
+
+// What memory gave, with the change that is made to it.
+fn with_loaded(read: u64, change: Option<Change>) -> u64
+    ensures { result ≡ bit_xor read (change_told change).loaded }
+{
     match change {
-        None => make_plain(cpu, ram, instr),
-        Some(change) => make_changed(cpu, ram, instr, change),
+        None => read,
+        Some(change) => read ^ change.loaded,
     }
 }
 
-// Makes the step where nothing is changed.
-fn make_plain(cpu: &mut Cpu, ram: &Ram, instr: Instr) -> Access
-    requires fits { Fits instr }
-    requires possible { (bytes : ℕ) → IsPossible (row (hart_of cpu.old) instr bytes).1 }
-    requires region { IsGuestRegion ram.now }
-    ensures step { row (hart_of cpu.old) instr (read_value result) ≡ (hart_of cpu.new, result) }
-    ensures shape { HasShape result }
-    ensures reads { Reads (owed_of ram.now) result }
+// Makes the rest of a change, to what a step from `from` has left of a hart and to what it does in memory.
+fn finish(cpu: &mut Cpu, from: u64, instr: Instr, clean: Access, change: Option<Change>) -> Access
+    requires { Fits instr }
+    ensures state { IsStateBy (change_told change) instr from (hart_of cpu.old) (hart_of cpu.new) }
+    ensures access { result ≡ access_by (change_told change) clean }
 {
-    let action = action_at(cpu, instr);
-    let read = read_for(ram, action);
-    apply(cpu, action, instr, read)
-}
-
-// Makes the step, where what it loads, what it leaves and what it stores is changed.
-fn make_changed(cpu: &mut Cpu, ram: &Ram, instr: Instr, change: Change) -> Access
-    requires fits { Fits instr }
-    requires possible { (bytes : ℕ) → IsPossible (row (hart_of cpu.old) instr bytes).1 }
-    requires suits { FitsOp (change_in change) instr.op }
-    requires region { IsGuestRegion ram.now }
-    ensures made { IsMade (change_in change) (hart_of cpu.old) instr ram.now result (hart_of cpu.new) }
-    ensures shape { HasShape result }
-{
-    let from = cpu.pc;
-    let action = action_at(cpu, instr);
-    let read = read_for(ram, action) ^ change.loaded;
-    let clean = apply(cpu, action, instr, read);
-    change_state(cpu, from, instr, change);
-    changed(clean, change)
+    match change {
+        None => clean,
+        Some(change) => {
+            change_state(cpu, from, instr, change);
+            changed(clean, change)
+        }
+    }
 }
 
 // Changes what a step from `from` has left of a hart: its result, and which way its branch went.
