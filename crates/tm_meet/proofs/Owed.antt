@@ -1,5 +1,5 @@
 -- What was written last is what a legal run owes: a step of a plain run of harts that meet reads what a legal run may.
-use Rattle.std.proofs.Common.{◌≡◌, ℕ, suc, ◌+◌, ◌<◌, ◌≤◌, List, [], ◌∷◌, Bool, true, false, ◌||◌, ◌==◌, not, Option}
+use Rattle.std.proofs.Common.{◌≡◌, ℕ, ◌+◌, ◌<◌, ◌≤◌, List, [], ◌∷◌, Bool, true, false, ◌||◌, ◌==◌, not, Option}
 use Rattle.std.proofs.Common.{None, Some, ◌⊎◌, inl, inr, refl, sym, ap, ◌∙◌, subst, arith, le_refl}
 use Rattle.std.specs.Prelude.{IsTrue, IfSome, if◌then◌else◌}
 use Rattle.std.proofs.lemmas.Bool.{cases_Bool, cases_eq, false≢true, or_cases, or_parts, or_left, or_right, eqb-true}
@@ -108,36 +108,34 @@ unwritten p q b h (s ∷ past) r n = by (written (access_of s) b) refl (unwritte
 is-not : (g h : ℕ) → not (g == h) ≡ false → g ≡ h
 is-not g h e = eqb-true g h (not-false (g == h) e)
 
--- where no other hart may write, what is owed is what settles with this phase
-owed-settled : (p : Program) (past : List Step) (h q b v : ℕ) → h < harts p → AreRight p past
-    → another h (writers p q b) ≡ false
-    → or_else (wrote p past q b h) (settled p past q b) ≡ Some v → settled p past (suc q) b ≡ Some v
-owed-settled p past h q b v l r alone e = by (writers p q b) refl
+-- where no other hart may write, what is owed is what settles with this phase, whatever tells what each wrote
+pub owed-settled : (p : Program) (f : ℕ → Option ℕ) (x : Option ℕ) (h q b v : ℕ) → h < harts p
+    → (may_write p q h b ≡ false → f h ≡ None) → another h (writers p q b) ≡ false
+    → or_else (f h) x ≡ Some v → settle f x (writers p q b) ≡ Some v
+owed-settled p f x h q b v l r alone e = by (writers p q b) refl
   where
     none : writers p q b ≡ [] → (t : Bool) → may_write p q h b ≡ t → may_write p q h b ≡ false
     none is true y = absurd (subst (Among h) is (among-writers p q b h l y))
     none is false y = y
 
-    by : (ws : List ℕ) → writers p q b ≡ ws → settle (wrote p past q b) (settled p past q b) (writers p q b) ≡ Some v
+    by : (ws : List ℕ) → writers p q b ≡ ws → settle f x (writers p q b) ≡ Some v
     by [] is =
-        let no = none is (may_write p q h b) refl in
-        ap (settle (wrote p past q b) (settled p past q b)) is ∙
-        (sym (ap (λ (o : Option ℕ). or_else o (settled p past q b)) (unwritten p q b h past r no)) ∙ e)
+        let no = r (none is (may_write p q h b) refl) in
+        ap (settle f x) is ∙ (sym (ap (λ (o : Option ℕ). or_else o x) no) ∙ e)
     by (g ∷ []) is =
         let a : another h (g ∷ []) ≡ false = sym (ap (another h) is) ∙ alone in
         let same : g ≡ h = is-not g h (or_parts (not (g == h)) false a).0 in
-        ap (settle (wrote p past q b) (settled p past q b)) is ∙
-        (ap (λ (k : ℕ). or_else (wrote p past q b k) (settled p past q b)) same ∙ e)
+        ap (settle f x) is ∙ (ap (λ (k : ℕ). or_else (f k) x) same ∙ e)
     by (g ∷ k ∷ ws) is =
         let a : another h (g ∷ k ∷ ws) ≡ false = sym (ap (another h) is) ∙ alone in
-        let x = or_parts (not (g == h)) (not (k == h) || another h ws) a in
-        let y = or_parts (not (k == h)) (another h ws) x.1 in
+        let y = or_parts (not (g == h)) (not (k == h) || another h ws) a in
+        let z = or_parts (not (k == h)) (another h ws) y.1 in
         let lt = writers-rise p q b g k ws is in
-        let eg = is-not g h x.0 in
-        let ek = is-not k h y.0 in
+        let eg = is-not g h y.0 in
+        let ek = is-not k h z.0 in
         absurd (omega arith)
 
-if-owed : (t : Bool) (o : Option ℕ) (u : ℕ) → ((v : ℕ) → t ≡ false → o ≡ Some v → u ≡ v)
+pub if-owed : (t : Bool) (o : Option ℕ) (u : ℕ) → ((v : ℕ) → t ≡ false → o ≡ Some v → u ≡ v)
     → IfSome (if t then None else o) (λ v. u ≡ v)
 if-owed true o u f = tt
 if-owed false None u f = tt
@@ -151,7 +149,7 @@ owed-last p formed past t r h b u l up e =
     let q = phase_of p past h in
     if-owed (another h (writers p q b)) (or_else (wrote p past q b h) (settled p past q b)) u
     (λ v alone owed. e ∙ sym (settled-held p q b v past t.only (ordered p formed b past t r) up
-    (owed-settled p past h q b v l r alone owed)))
+    (owed-settled p (wrote p past q b) (settled p past q b) h q b v l (unwritten p q b h past r) alone owed)))
 
 -- ---- a read by a hart that has signalled
 
@@ -172,17 +170,17 @@ own-up_to p h b q (s ∷ past) only r own' l =
         inr (subst (λ (g : ℕ). phase_of p past g ≤ q)
         (sym (own' (phase_of p past (hart_of s)) (hart_of s) only.0 (may-right p s past r b w is))) k)
 
-another-true : (g h : ℕ) (ws : List ℕ) → Among g ws → (g ≡ h → ⊥) → another h ws ≡ true
+pub another-true : (g h : ℕ) (ws : List ℕ) → Among g ws → (g ≡ h → ⊥) → another h ws ≡ true
 another-true g h [] a n = absurd a
 another-true g h (k ∷ ws) (inl e) n =
     or_left (not (k == h)) (another h ws) (not_from_false (k == h) (ne_eqb k h (λ x. n (e ∙ x))))
 another-true g h (k ∷ ws) (inr a) n = or_right (not (k == h)) (another h ws) (another-true g h ws a n)
 
-if-other : (t : Bool) (o : Option ℕ) (P : ℕ → Type 0) → t ≡ true → IfSome (if t then None else o) P
+pub if-other : (t : Bool) (o : Option ℕ) (P : ℕ → Type 0) → t ≡ true → IfSome (if t then None else o) P
 if-other true o P e = tt
 if-other false o P e = absurd (false≢true e)
 
-some-flag : (b : ℕ) (hs : List ℕ) → any (λ g. is_flag g b) hs ≡ true → (g : ℕ) × Among g hs × (is_flag g b ≡ true)
+pub some-flag : (b : ℕ) (hs : List ℕ) → any (λ g. is_flag g b) hs ≡ true → (g : ℕ) × Among g hs × (is_flag g b ≡ true)
 some-flag b [] e = absurd (false≢true e)
 some-flag b (g ∷ gs) e = elim (or_cases (is_flag g b) (any (λ k. is_flag k b) gs) e) [
   | inl t ↦ (g, inl refl, t)

@@ -43,7 +43,7 @@ wrote-miss p q b h s past w = elim (cases_eq (hart_of s) h) [
   ]
 ]
 
-settle-same : (f g : ℕ → Option ℕ) (x y : Option ℕ) (ws : List ℕ) → ((h : ℕ) → f h ≡ g h) → x ≡ y
+pub settle-same : (f g : ℕ → Option ℕ) (x y : Option ℕ) (ws : List ℕ) → ((h : ℕ) → f h ≡ g h) → x ≡ y
     → settle f x ws ≡ settle g y ws
 settle-same f g x y [] e d = d
 settle-same f g x y (h ∷ []) e d = ap₂ or_else (e h) d
@@ -75,7 +75,7 @@ later-none p q n b h (s ∷ past) u l =
       ]
     ]
 
-settle-none : (f : ℕ → Option ℕ) (x : Option ℕ) (v : ℕ) (ws : List ℕ) → ((h : ℕ) → f h ≡ None) → settle f x ws ≡ Some v
+pub settle-none : (f : ℕ → Option ℕ) (x : Option ℕ) (v : ℕ) (ws : List ℕ) → ((h : ℕ) → f h ≡ None) → settle f x ws ≡ Some v
     → x ≡ Some v
 settle-none f x v [] n e = e
 settle-none f x v (h ∷ []) n e = sym (ap (λ (o : Option ℕ). or_else o x) (n h)) ∙ e
@@ -94,7 +94,7 @@ descend p q (suc n) b v past u l e = elim (cases_eq q (suc n)) [
 
 -- ---- the byte that settles
 
-settle-one : (f : ℕ → Option ℕ) (x : Option ℕ) (v w h : ℕ) (ws : List ℕ) → Among h ws → f h ≡ Some w
+pub settle-one : (f : ℕ → Option ℕ) (x : Option ℕ) (v w h : ℕ) (ws : List ℕ) → Among h ws → f h ≡ Some w
     → settle f x ws ≡ Some v → v ≡ w
 settle-one f x v w h [] a fw e = absurd a
 settle-one f x v w h (g ∷ []) a fw e = elim a [

@@ -20,14 +20,14 @@ use Rattle.tm_meet.specs.Waits.{Waits}
 use Rattle.tm_meet.specs.Laws.{IdleWaits, SomeGoesOn}
 use Rattle.tm_meet.proofs.Counts.{one, signalled, counted, signals-more, phase-most}
 use Rattle.tm_memory.proofs.Owners.{Among, among-count, among-least}
-use Rattle.tm_meet.proofs.Told.{Told, told-before, told}
+use Rattle.tm_meet.proofs.Told.{AllKeep, Told, told-before, told}
 use Rattle.tm_meet.proofs.Meeting.{flags, read-is}
 use Rattle.tm_memory.proofs.Memory.{memory-half}
 use Rattle.tm_meet.proofs.Halts.{halt-last}
 
 -- ---- tests of some hart
 
-some-hart : (test : ℕ → Bool) (hs : List ℕ) → any test hs ≡ true → (g : ℕ) × Among g hs × (test g ≡ true)
+pub some-hart : (test : ℕ → Bool) (hs : List ℕ) → any test hs ≡ true → (g : ℕ) × Among g hs × (test g ≡ true)
 some-hart test [] e = absurd (false≢true e)
 some-hart test (g ∷ gs) e = elim (or_cases (test g) (any test gs) e) [
   | inl t ↦ (g, inl refl, t)
@@ -39,12 +39,12 @@ any-hart test g [] a e = absurd a
 any-hart test g (k ∷ ks) (inl s) e = or_left (test k) (any test ks) (ap test (sym s) ∙ e)
 any-hart test g (k ∷ ks) (inr a) e = or_right (test k) (any test ks) (any-hart test g ks a e)
 
-other-than : (g h : ℕ) → not (g == h) ≡ true → g ≢ h
+pub other-than : (g h : ℕ) → not (g == h) ≡ true → g ≢ h
 other-than g h e s = true≢false (sym (eq-eqb g h s) ∙ not-true (g == h) e)
 
 -- ---- an idle read
 
-less-read : (a most : ℕ) (access : Access) → gets_less a most access ≡ true → (v : ℕ) × (access ≡ Read a 8 v)
+pub less-read : (a most : ℕ) (access : Access) → gets_less a most access ≡ true → (v : ℕ) × (access ≡ Read a 8 v)
     × (v < most)
 less-read a most Quiet e = cc
 less-read a most (Write addr width value) e = cc
@@ -77,7 +77,7 @@ idle-waits p m r memory = all-wait p m.formed r.steps (told p m r memory)
 
 -- ---- who waits
 
-waits-or : (p : Program) (steps : List Step) (h : ℕ) → Waits p steps h ⊎ (Waits p steps h → ⊥)
+pub waits-or : (p : Program) (steps : List Step) (h : ℕ) → Waits p steps h ⊎ (Waits p steps h → ⊥)
 waits-or p steps h = by (cases_Bool (signalled p h (own h steps)))
     (cases_Bool (any (λ g. not (g == h) && nat_le (flags g steps) (phase_of p steps h)) (count_from 0 (harts p))))
   where
@@ -99,24 +99,24 @@ waits-or p steps h = by (cases_Bool (signalled p h (own h steps)))
         inl (record { signalled = y; other = g; few = few; differs = other-than g h r.0; behind = leb-true _ _ r.1 })
 
 -- a hart that is waited for and hasn't signalled doesn't wait
-quiet : (p : Program) (steps : List Step) → Told p steps → (h : ℕ) (w : Waits p steps h)
+quiet : (p : Program) (steps : List Step) → AllKeep p steps → (h : ℕ) (w : Waits p steps h)
     → signalled p w.other (own w.other steps) ≡ false → (g : ℕ) × (g < harts p)
     × (phase_of p steps g ≤ phase_of p steps h) × (Waits p steps g → ⊥)
 quiet p steps t h w q =
-    let d = counted p w.other (own w.other steps) (t.keep w.other w.few) in
+    let d = counted p w.other (own w.other steps) (t w.other w.few) in
     let z : one (signalled p w.other (own w.other steps)) ≡ 0 = ap one q in
     (w.other, w.few, omega (arith, w.behind), λ v. true≢false (sym v.signalled ∙ q))
 
 -- one that has signalled is in an earlier phase
-behind : (p : Program) (steps : List Step) → Told p steps → (h : ℕ) (w : Waits p steps h)
+behind : (p : Program) (steps : List Step) → AllKeep p steps → (h : ℕ) (w : Waits p steps h)
     → signalled p w.other (own w.other steps) ≡ true → phase_of p steps w.other < phase_of p steps h
 behind p steps t h w q =
-    let d = counted p w.other (own w.other steps) (t.keep w.other w.few) in
+    let d = counted p w.other (own w.other steps) (t w.other w.few) in
     let z : one (signalled p w.other (own w.other steps)) ≡ 1 = ap one q in
     omega (arith, w.behind)
 
 -- From a hart that waits on to one that is behind it: at last to one that doesn't wait.
-someone : (p : Program) (steps : List Step) → Told p steps → (n h : ℕ) → h < harts p → phase_of p steps h ≤ n → (g : ℕ)
+pub someone : (p : Program) (steps : List Step) → AllKeep p steps → (n h : ℕ) → h < harts p → phase_of p steps h ≤ n → (g : ℕ)
     × (g < harts p) × (phase_of p steps g ≤ phase_of p steps h) × (Waits p steps g → ⊥)
 someone p steps t zero h l few = elim (waits-or p steps h) [
   | inr free ↦ (h, l, le_refl _, free)
@@ -142,7 +142,7 @@ some-goes_on p m r memory h l out = elim (waits-or p r.steps h) [
   | inl w ↦
       let t = told p m r memory in
       let half = memory-half p m.formed (λ g k. (m.each g k).writes) r memory in
-      let (g, k, le, free) = someone p r.steps t (phase_of p r.steps h) h l (le_refl _) in
+      let (g, k, le, free) = someone p r.steps t.keep (phase_of p r.steps h) h l (le_refl _) in
       let more : phase_of p r.steps h ≢ last_phase p =
       signals-more p h (phase_of p r.steps h) (own h r.steps) (t.keep h l) w.signalled in
       let most : phase_of p r.steps h ≤ last_phase p = phase-most p h (own h r.steps) (t.keep h l) in (
