@@ -30,7 +30,7 @@ use Rattle.tm_rounds.proofs.Turns.{total, Least, paced}
 
 -- ---- the last one
 
-least-of : (f : ℕ → ℕ) (n : ℕ) → 1 ≤ n → (k : ℕ) × (k < n) × ((g : ℕ) → g < n → f k ≤ f g)
+pub least-of : (f : ℕ → ℕ) (n : ℕ) → 1 ≤ n → (k : ℕ) × (k < n) × ((g : ℕ) → g < n → f k ≤ f g)
 least-of f zero some = absurd (omega arith)
 least-of f (suc zero) some =
     (0, omega arith, λ g l. let e : 0 ≡ g = omega arith in subst (λ (x : ℕ). f 0 ≤ f x) e (le_refl _))
@@ -104,7 +104,7 @@ module _ (p : Program) (m : AllMeet p) (r : Run) (memory : OneMemory p r) where
 
 -- ---- numbers
 
-product : (a b : ℕ) → 1 ≤ a → 1 ≤ b → 1 ≤ a * b
+pub product : (a b : ℕ) → 1 ≤ a → 1 ≤ b → 1 ≤ a * b
 product a b l k = let t = times a b l in omega arith
 
 -- n turns in each of j rounds, and some more, where rounds are paid

@@ -47,7 +47,7 @@ sum-moved f g m a (suc n) l k h = elim (cases_eq a m) [
 ]
 
 -- a step counts among its hart's alone
-total-step : (p : Program) (s : Step) (past : List Step) → hart_of s < harts p
+pub total-step : (p : Program) (s : Step) (past : List Step) → hart_of s < harts p
     → total p (s ∷ past) + work_steps p (hart_of s) (own (hart_of s) past)
     ≡ total p past + work_steps p (hart_of s) (s ∷ own (hart_of s) past)
 total-step p s past l =
@@ -55,7 +55,7 @@ total-step p s past l =
     (omega arith) (omega (arith, l)) (λ q n. ap (work_steps p q) (own-there q s past (λ e. n (sym e))))
     ∙ ap (λ (xs : List Step). total p past + work_steps p (hart_of s) xs) (own-here (hart_of s) s past refl)
 
-total-le : (p : Program) (s : Step) (past : List Step) → hart_of s < harts p → total p past ≤ total p (s ∷ past)
+pub total-le : (p : Program) (s : Step) (past : List Step) → hart_of s < harts p → total p past ≤ total p (s ∷ past)
 total-le p s past l =
     let a = total-step p s past l in
     let b = work-le p (hart_of s) s (own (hart_of s) past) in
@@ -74,14 +74,14 @@ total-quiet p steps quiet only =
 pub flags-there : (g : ℕ) (s : Step) (past : List Step) → (hart_of s ≡ g → ⊥) → flags g (s ∷ past) ≡ flags g past
 flags-there g s past n = ap (flag_writes g) (own-there g s past n)
 
-flags-le : (s : Step) (past : List Step) → flags (hart_of s) past ≤ flags (hart_of s) (s ∷ past)
+pub flags-le : (s : Step) (past : List Step) → flags (hart_of s) past ≤ flags (hart_of s) (s ∷ past)
 flags-le s past =
     let l = writes-le (hart_of s) s (own (hart_of s) past) in
     let e = ap (flag_writes (hart_of s)) (own-here (hart_of s) s past refl) in
     omega arith
 
 -- one more at most
-flags-one : (s : Step) (past : List Step) → flags (hart_of s) (s ∷ past) ≤ flags (hart_of s) past + 1
+pub flags-one : (s : Step) (past : List Step) → flags (hart_of s) (s ∷ past) ≤ flags (hart_of s) past + 1
 flags-one s past =
     let h = hart_of s in
     let e = ap (flag_writes h) (own-here h s past refl) in
@@ -100,7 +100,7 @@ Least p steps k = (g : ℕ) → g < harts p → flags k steps ≤ flags g steps
 -- ---- turns
 
 -- turns that hart k has had where j rounds are over and hart h's turn is next
-abbrev turns : ℕ → ℕ → ℕ → ℕ
+abbrev pub turns : ℕ → ℕ → ℕ → ℕ
 turns j h k = j + (1 - (k + 1 - h))
 
 -- In round order, after j rounds and with hart h's turn next: each turn makes a step at most; and a hart that isn't at
@@ -143,7 +143,7 @@ module _ (p : Program) (m : AllMeet p) (o : ℕ → List ℕ) (from : List Step)
       let c = ap (lag p h 3) (own-here h s past refl) in
       omega arith
 
-  least-own : (s : Step) (past : List Step) → Least p (s ∷ past) (hart_of s) → Least p past (hart_of s)
+  pub least-own : (s : Step) (past : List Step) → Least p (s ∷ past) (hart_of s) → Least p past (hart_of s)
   least-own s past least g l = elim (cases_eq (hart_of s) g) [
     | inl e ↦ subst (λ (x : ℕ). flags (hart_of s) past ≤ flags x past) e (le_refl _)
     | inr n ↦
@@ -167,7 +167,7 @@ module _ (p : Program) (m : AllMeet p) (o : ℕ → List ℕ) (from : List Step)
       omega arith
 
   -- a hart that doesn't make the step is off halt before it too
-  off-there : (k : ℕ) (s : Step) (past : List Step) → (hart_of s ≡ k → ⊥)
+  pub off-there : (k : ℕ) (s : Step) (past : List Step) → (hart_of s ≡ k → ⊥)
       → (¬ IsHalted p (run_with o (s ∷ past)) k) → ¬ IsHalted p (run_with o past) k
   off-there k s past n off z =
       off (subst (λ (xs : List Step). (now (first_state (o k)) xs).pc ≡ halt_of p k) (sym (own-there k s past n)) z)
