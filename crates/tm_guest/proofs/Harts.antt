@@ -21,10 +21,10 @@ use Rattle.tm_guest.specs.Waiting.{phase_after, signalled_after}
 
 -- ---- states
 
-state-here : (h : ℕ) (s : Step) (past : List Step) → hart_of s ≡ h → state_after (s ∷ past) h ≡ s.after
+pub state-here : (h : ℕ) (s : Step) (past : List Step) → hart_of s ≡ h → state_after (s ∷ past) h ≡ s.after
 state-here h s past e = ap (now (first_state (opening h))) (own-here h s past e)
 
-state-there : (h : ℕ) (s : Step) (past : List Step) → (hart_of s ≡ h → ⊥)
+pub state-there : (h : ℕ) (s : Step) (past : List Step) → (hart_of s ≡ h → ⊥)
     → state_after (s ∷ past) h ≡ state_after past h
 state-there h s past e = ap (now (first_state (opening h))) (own-there h s past e)
 

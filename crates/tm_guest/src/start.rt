@@ -45,8 +45,9 @@ fn opened_at(h: u32) -> HartState
     }
 }
 
+/// The registers of hart `h` before its first step: zero but x10, which is its number.
 #[tactic(auto, unfolding(tm_world::specs::Replay::opening, tm_plan_map::specs::Map::text_base))]
-fn first_cpu(h: u32) -> Cpu
+pub fn first_cpu(h: u32) -> Cpu
     ensures { hart_of result ≡ first_state (opening h) }
 {
     let mut x = [0; 32];

@@ -11,7 +11,7 @@ use Rattle.tm_plan_cases.specs.declared.event.Event.{Event}
 use Rattle.tm_plan_script.specs.declared.faults.FaultLine.{FaultLine}
 use Rattle.tm_world.specs.Place.{harts}
 use Rattle.tm_world.specs.Run.{Step, Run, own, hart_of, access_of, first_state, read_value, Reads}
-use Rattle.tm_world.specs.Kinds.{Follows, Path, Plain, plain_owed, stream_at}
+use Rattle.tm_world.specs.Kinds.{Follows, Path, Paths, Plain, plain_owed, stream_at}
 use Rattle.tm_world.specs.Faulted.{nothing}
 use Rattle.tm_world.specs.Script.{FaultedRun, change_of}
 use Rattle.tm_world.specs.Replay.{opening, state_after, outcome, left_in, stepped}
@@ -47,22 +47,27 @@ stepped-row p past e h is =
 abbrev pub opened : List Step → Run
 opened steps = record { opening = opening; steps = steps }
 
-pub plain-more : (p : Program) (h : ℕ) (s : Step) (past : List Step) → h < harts p → hart_of s ≡ h
-    → Follows p h (state_after past h) s → Reads (plain_owed p past) (access_of s)
-    → Plain p (opened past) → Plain p (opened (s ∷ past))
-plain-more p h s past l e f reads plain = record {
-  paths = record {
-    opening = plain.paths.opening;
-    only = (subst (λ (g : ℕ). g < harts p) (sym e) l, plain.paths.only);
-    each = λ g m. by g m (cases_eq g h);
-  };
-  reads = (reads, plain.reads);
+-- a step more of hart h, whatever it reads
+pub path-more : (p : Program) (h : ℕ) (s : Step) (past : List Step) → h < harts p → hart_of s ≡ h
+    → Follows p h (state_after past h) s → Paths p (opened past) → Paths p (opened (s ∷ past))
+path-more p h s past l e f paths = record {
+  opening = paths.opening;
+  only = (subst (λ (g : ℕ). g < harts p) (sym e) l, paths.only);
+  each = λ g m. by g m (cases_eq g h);
 }
   where
     by : (g : ℕ) → g < harts p → (g ≡ h) ⊎ (g ≡ h → ⊥) → Path p g (first_state (opening g)) (own g (s ∷ past))
     by g m (inl q) =
         subst (Path p g (first_state (opening g))) (sym (own-here g s past (e ∙ sym q)))
-        (subst (λ (k : ℕ). Follows p k (state_after past k) s) (sym q) f, plain.paths.each g m)
+        (subst (λ (k : ℕ). Follows p k (state_after past k) s) (sym q) f, paths.each g m)
     by g m (inr n) =
         subst (Path p g (first_state (opening g))) (sym (own-there g s past (λ q. n (sym q ∙ e))))
-        (plain.paths.each g m)
+        (paths.each g m)
+
+pub plain-more : (p : Program) (h : ℕ) (s : Step) (past : List Step) → h < harts p → hart_of s ≡ h
+    → Follows p h (state_after past h) s → Reads (plain_owed p past) (access_of s)
+    → Plain p (opened past) → Plain p (opened (s ∷ past))
+plain-more p h s past l e f reads plain = record {
+  paths = path-more p h s past l e f plain.paths;
+  reads = (reads, plain.reads);
+}

@@ -7,7 +7,7 @@ use Rattle.tm_plan_cases.specs.Collected.{sum_of, work_of, budget_of}
 use Rattle.tm_base.specs.Lists.{count_from}
 use Rattle.tm_world.specs.Place.{harts, case_count, passes, exit_of, halt_of}
 use Rattle.tm_world.specs.Run.{Run, own, now, phase}
-use Rattle.tm_world.specs.Kinds.{first_of_hart, phase_of}
+use Rattle.tm_world.specs.Kinds.{Half, first_of_hart, phase_of}
 use Rattle.tm_world.specs.Course.{last_phase}
 use Rattle.tm_world.specs.Script.{change_of}
 use Rattle.tm_world.specs.Work.{work_steps}
@@ -20,7 +20,7 @@ use Rattle.tm_memory.proofs.Faults.{faulted-memory}
 use Rattle.tm_memory.proofs.Numbers.{accepted-results}
 use Rattle.tm_meet.specs.Waits.{IsHalted}
 use Rattle.tm_meet.proofs.Counts.{one, signalled, counted, signals-more, phase-most}
-use Rattle.tm_meet.proofs.Told.{told}
+use Rattle.tm_meet.proofs.Told.{AllKeep, told}
 use Rattle.tm_meet.proofs.Meeting.{flags}
 use Rattle.tm_meet.proofs.Halts.{halt-last}
 use Rattle.tm_pace.proofs.Budget.{times}
@@ -56,15 +56,15 @@ least-of f (suc (suc n)) some =
     ]
 
 -- a hart that isn't at halt, and that no other is behind
-abbrev Behind : Program → Run → Type 0
+abbrev pub Behind : Program → Run → Type 0
 Behind p r = (k : ℕ) × (k < harts p) × (¬ IsHalted p r k) × Least p r.steps k
 
-module _ (p : Program) (m : AllMeet p) (r : Run) (memory : OneMemory p r) where
+module _ (p : Program) (m : AllMeet p) (r : Run) (keeps : AllKeep p r.steps) (half : Half p r) where
   -- no flag is written more often than there are phases to leave
-  flags-last : (k : ℕ) → k < harts p → flags k r.steps ≤ last_phase p
+  pub flags-last : (k : ℕ) → k < harts p → flags k r.steps ≤ last_phase p
   flags-last k l =
       let steps = own k r.steps in
-      let keep = (told p m r memory).keep k l in
+      let keep = keeps k l in
       let d = counted p k steps keep in
       let most = phase-most p k steps keep in
       elim (cases_Bool (signalled p k steps)) [
@@ -79,12 +79,11 @@ module _ (p : Program) (m : AllMeet p) (r : Run) (memory : OneMemory p r) where
   -- all flags of a hart at halt are written
   flags-halted : (k : ℕ) → k < harts p → IsHalted p r k → last_phase p ≤ flags k r.steps
   flags-halted k l halted =
-      let half = memory-half p m.formed (λ g few. (m.each g few).writes) r memory in
       let e : phase_of p r.steps k ≡ last_phase p = halt-last p m r half k l halted in
-      let d = counted p k (own k r.steps) ((told p m r memory).keep k l) in
+      let d = counted p k (own k r.steps) (keeps k l) in
       omega arith
 
-  behind : SomeIsOff p r → Behind p r
+  pub behind : SomeIsOff p r → Behind p r
   behind (h, few, off) =
       let some = m.formed.program.cases.harts.0 in
       let (k, l, least) = least-of (λ g. flags g r.steps) (harts p) some in
@@ -119,9 +118,11 @@ pub rounds-short : (p : Program) → RoundsAreShort p
 unfolding budget_of
 rounds-short p m r memory bound from quiet h order off =
     let (j, known) = paced p m r.opening from quiet h r.steps order memory in
-    let (k, l, goes, least) = behind p m r memory off in
+    let half = memory-half p m.formed (λ g few. (m.each g few).writes) r memory in
+    let keeps = (told p m r memory).keep in
+    let (k, l, goes, least) = behind p m r keeps half off in
     let a = known.each k l goes least in
-    let b = flags-last p m r memory k l in
+    let b = flags-last p m r keeps half k l in
     let c : total p r.steps ≤ sum_of (work_of p.cases) (count_from 0 (harts p)) =
     sum-le (λ g. work_steps p g (own g r.steps)) (work_of p.cases) 0 (harts p) (λ g _ few. bound g (omega arith)) in
     let cases = m.formed.program.cases in
