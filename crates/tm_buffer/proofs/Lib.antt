@@ -1,0 +1,13 @@
+pub mod Trail
+pub mod Naming
+pub mod Buffers
+pub mod Numbers
+pub mod Acts
+pub mod Shown
+pub mod Stepping
+pub mod Storing
+pub mod Draining
+pub mod Rounding
+pub mod Opening
+pub mod Sweeping
+pub mod Leading

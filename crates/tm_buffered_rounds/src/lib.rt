@@ -1,0 +1,4 @@
+//! Buffered runs in rounds, in which writes drain now and then: they end.
+#![tactic(auto)]
+
+pub mod laws;
