@@ -239,7 +239,8 @@ def read_back(folder, figures):
         return
     folder = folder / "read_back"
     folder.mkdir(exist_ok=True)
-    (folder / "scripts").write_text("")
+    for other in ("scripts", "races"):
+        (folder / other).write_text("")
     head = f"trace 1 harts 1 events {TRACE_EVENTS}\\n"
     size = len(head) - 1 + TRACE_EVENTS * (len(TRACE_LINE) + 1) + 4
     seconds = []
