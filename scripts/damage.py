@@ -260,6 +260,7 @@ def case_text(data):
 def try_traces(room, some):
     """What came of each trace, read by the program of cases."""
     room.put("scripts", b"")
+    room.put("races", b"")
     room.put("traces", "".join(f"trace {case_text(data)}\n" for data in some).encode())
     answer = room.call(program=room.reader)
     told = answer.out.split("\n")[1::2]
